@@ -1,0 +1,97 @@
+-- States and cues (01, "States and cues"). A state, or a set of propositions, is the list of its words. Assumes nothing.
+use mathlib.Core.Bool.{Bool, true, false, _&&_}
+use mathlib.Core.List.{List, [], _∷_}
+use mathlib.Core.Option.{Option, none, some}
+use Prim.Native.Nat.{ℕ, zero, suc, _+_, _/_, _%_, _^_}
+use lib.Bits.{bitAnd, bitOr, bitXor}
+use lib.Dec.{eqb}
+use lib.ListN.{getD, set}
+
+-- "A state is the set of those that are true, held as four 64-bit words"
+unfoldable pub wordCount : ℕ
+wordCount = 4
+
+abbrev pub State : Type 0
+State = List ℕ
+
+abbrev pub word : State → ℕ → ℕ
+word s i = getD s i 0
+
+-- Bit i of a number.
+unfoldable pub bit : ℕ → ℕ → Bool
+bit w i = eqb (w / 2 ^ i % 2) 1
+
+-- "proposition p is bit (p mod 64) of word (p div 64)"
+unfoldable pub member : State → ℕ → Bool
+member s p = bit (word s (p / 64)) (p % 64)
+
+-- The list f 0, f 1, .. of n members, counted from i.
+abbrev pub tabulate : ℕ → ℕ → (ℕ → ℕ) → List ℕ
+tabulate zero i f = []
+tabulate (suc n) i f = f i ∷ tabulate n (suc i) f
+
+-- f holds of each of the n numbers from i on.
+abbrev pub every : ℕ → ℕ → (ℕ → Bool) → Bool
+every zero i f = true
+every (suc n) i f = f i && every n (suc i) f
+
+unfoldable pub empty : State
+empty = tabulate wordCount 0 (λ i. 0)
+
+-- The set s and proposition p.
+unfoldable pub insert : State → ℕ → State
+insert s p = set s (p / 64) (bitOr (word s (p / 64)) (2 ^ (p % 64)))
+
+-- The set s and the propositions of a list.
+abbrev pub insertAll : State → List ℕ → State
+insertAll s [] = s
+insertAll s (p ∷ ps) = insertAll (insert s p) ps
+
+-- "An action has four sets: needed, forbidden, added, deleted."
+pub record Action : Type 0 where
+  pub needed : State
+  pub forbidden : State
+  pub added : State
+  pub deleted : State
+
+-- The bits of a word that are not in another.
+unfoldable pub without : ℕ → ℕ → ℕ
+without a b = bitXor a (bitAnd a b)
+
+-- "It applies if every needed one is true and no forbidden one is." In one word of each set, then in all.
+unfoldable pub appliesWord : ℕ → ℕ → ℕ → Bool
+appliesWord w needed forbidden = eqb (without needed w) 0 && eqb (bitAnd forbidden w) 0
+
+unfoldable pub applies : State → Action → Bool
+applies s a = every wordCount 0 (λ i. appliesWord (word s i) (word (a .needed) i) (word (a .forbidden) i))
+
+-- "The next state is the old one without the deleted, then with the added; a proposition in both ends true."
+unfoldable pub nextWord : ℕ → ℕ → ℕ → ℕ
+nextWord old added deleted = bitOr (without old deleted) added
+
+unfoldable pub next : State → Action → State
+next s a = tabulate wordCount 0 (λ i. nextWord (word s i) (word (a .added) i) (word (a .deleted) i))
+
+-- "The *step* call takes any state and four sets as words and gives yes with the next state, or no with the state as it came."
+unfoldable pub step : State → Action → Bool × State
+step s a = elim (applies s a) [ true ↦ (true, next s a) | false ↦ (false, s) ]
+
+unfoldable pub noAction : Action
+noAction = record { needed = empty; forbidden = empty; added = empty; deleted = empty }
+
+unfoldable pub actionAt : List Action → ℕ → Action
+actionAt actions a = getD actions a noAction
+
+-- "State 0 is the initial one; state i follows cue i." States 0 to k.
+unfoldable pub states : List Action → List ℕ → State → List State
+states actions [] s = s ∷ []
+states actions (a ∷ plan) s = s ∷ states actions plan (next s (actionAt actions a))
+
+unfoldable pub stateAt : List State → ℕ → State
+stateAt ss i = getD ss i empty
+
+-- "The plan runs from the initial state if each cue i applies in state i - 1." The first cue from cue i on that doesn't.
+unfoldable pub firstStop : List Action → List ℕ → State → ℕ → Option ℕ
+firstStop actions [] s i = none
+firstStop actions (a ∷ plan) s i =
+    elim (applies s (actionAt actions a)) [ true ↦ firstStop actions plan (next s (actionAt actions a)) (i + 1) | false ↦ some i ]

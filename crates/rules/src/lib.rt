@@ -1,0 +1,40 @@
+// The types that document 01 lends to its callers; what they mean is in specs/.
+
+// The header line's numbers.
+pub struct Header {
+    pub propositions: u32,
+    pub actions: u32,
+    pub compounds: u32,
+    pub methods: u32,
+    pub goal: u32,
+    pub cues: u32,
+    pub nodes: u32,
+}
+
+// What a call answers: acceptance, or the first rule broken.
+pub enum Answer {
+    Accepted { cues: u32, nodes: u32 },
+    ShortList { list: u32 },
+    LongText,
+    Unreadable { line: u32, field: u32 },
+    OutOfRange { line: u32, field: u32 },
+    Inapplicable { line: u32, cue: u32 },
+    WrongNode { line: u32 },
+    TooDeep { line: u32 },
+    WrongClaim { line: u32, position: u32 },
+    Unclaimed { line: u32, position: u32 },
+    OrderBroken { line: u32, constraint: u32 },
+    BeforeBroken { line: u32, constraint: u32 },
+    AfterBroken { line: u32, constraint: u32 },
+    BetweenBroken { line: u32, constraint: u32 },
+}
+
+// The record of a node that the check call fills.
+#[repr(C)]
+pub struct Node {
+    pub letter: u32,
+    pub label: u32,
+    pub place: u32,
+    pub start: u32,
+    pub end: u32,
+}
