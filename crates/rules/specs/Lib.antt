@@ -2,3 +2,9 @@
 pub mod State
 pub mod Index
 pub mod Text
+pub mod Table
+pub mod Case
+pub mod Tree
+pub mod Constraint
+pub mod Verdict
+pub mod Panel

@@ -1,0 +1,151 @@
+-- The claimed tree: its walk, its spans and its claims (01, "The tree" and rows 6 to 9 of its table). Assumes nothing.
+use mathlib.Core.Bool.{Bool, true, false, _&&_, _||_, not}
+use mathlib.Core.List.{List, [], _∷_, _++_, map}
+use mathlib.Core.Option.{Option, none, some}
+use Prim.Native.Nat.{ℕ, zero, suc, _+_, _-_}
+use lib.Dec.{eqb, leb, ltb}
+use lib.ListN.{length, getD}
+use Rattle.rules.specs.declared.Answer.{Answer}
+use Rattle.rules.specs.declared.Answer.the-variants.{WrongNode, TooDeep, WrongClaim}
+use Rattle.rules.specs.Index.{Span, at, ofCue, ofGap, hull}
+use Rattle.rules.specs.Case.{Method, methodAt, NodeLine, D, E, L, Case}
+
+mutual
+  -- Action a at position i; empty method m in gap g; method m with the trees of its subtasks.
+  pub data Tree : Type 0 where
+    leaf : (a i : ℕ) → Tree
+    empty : (m g : ℕ) → Tree
+    task : (m : ℕ) → Trees → Tree
+
+  pub data Trees : Type 0 where
+    noTree : Trees
+    more : Tree → Trees → Trees
+
+-- "Nodes come in preorder: a node, then the subtrees of its subtasks in the method's order." All subtrees, each before those below it.
+unfoldable mutual
+  pub preorder : Tree → List Tree
+  preorder (leaf a i) = leaf a i ∷ []
+  preorder (empty m g) = empty m g ∷ []
+  preorder (task m ts) = task m ts ∷ preorders ts
+
+  pub preorders : Trees → List Tree
+  preorders noTree = []
+  preorders (more t ts) = preorder t ++ preorders ts
+
+-- The line of a tree's root.
+unfoldable pub rootLine : Tree → NodeLine
+rootLine (leaf a i) = L a i
+rootLine (empty m g) = E m g
+rootLine (task m ts) = D m
+
+-- The span of a tree's root, and those of its subtasks.
+unfoldable mutual
+  pub span : Tree → Span
+  span (leaf a i) = at (ofCue i)
+  span (empty m g) = at (ofGap g)
+  span (task m ts) = hull (spans ts)
+
+  pub spans : Trees → List Span
+  spans noTree = []
+  spans (more t ts) = span t ∷ spans ts
+
+unfoldable pub subtaskSpans : Tree → List Span
+subtaskSpans (leaf a i) = []
+subtaskSpans (empty m g) = []
+subtaskSpans (task m ts) = spans ts
+
+-- ---- The walk
+
+unfoldable pub noSubtasks : Method → Bool
+noSubtasks m = eqb (length (m .subtasks)) 0
+
+-- "for a compound task one of its own methods"
+unfoldable pub isMethodOf : Case → ℕ → ℕ → Bool
+isMethodOf k m t = ltb m (length (k .methods)) && (leb (k .head .actions) t && eqb (methodAt (k .methods) m .task) t)
+
+-- "each node fits the task expected there (an action leaf for an action; for a compound task one of its own methods)": D,m with a method
+-- that is not empty, E,m,g with one that is
+unfoldable pub fits : Case → NodeLine → ℕ → Bool
+fits k (D m) t = isMethodOf k m t && not (noSubtasks (methodAt (k .methods) m))
+fits k (E m g) t = isMethodOf k m t && noSubtasks (methodAt (k .methods) m)
+fits k (L a i) t = ltb t (k .head .actions) && eqb a t
+
+-- What a walk finds: the tree, the line and the nodes after it, and the positions claimed so far; or the answer that refuses the tree.
+pub data Walk : Type 0 where
+  walked : Tree → (line : ℕ) → List NodeLine → (claimed : List ℕ) → Walk
+  refused : Answer → Walk
+
+pub data Walks : Type 0 where
+  walked : Trees → (line : ℕ) → List NodeLine → (claimed : List ℕ) → Walks
+  refused : Answer → Walks
+
+-- A walk of one task: the task expected, the line, the nodes from there on, the positions claimed.
+abbrev pub Walker : Type 0
+Walker = ℕ → ℕ → List NodeLine → List ℕ → Walk
+
+abbrev pub asTask : ℕ → Walks → Walk
+asTask m (Walks.walked ts line left claimed) = Walk.walked (task m ts) line left claimed
+asTask m (Walks.refused r) = Walk.refused r
+
+abbrev pub withTree : Tree → Walks → Walks
+withTree t (Walks.walked ts line left claimed) = Walks.walked (more t ts) line left claimed
+withTree t (Walks.refused r) = Walks.refused r
+
+abbrev pub followTree : Walk → (ℕ → List NodeLine → List ℕ → Walks) → Walks
+followTree (Walk.walked t line left claimed) rest = withTree t (rest line left claimed)
+followTree (Walk.refused r) rest = Walks.refused r
+
+-- "the subtasks by walking each node among them in turn"
+abbrev pub walkSubtasks : Walker → List ℕ → ℕ → List NodeLine → List ℕ → Walks
+walkSubtasks walk [] line left claimed = Walks.walked noTree line left claimed
+walkSubtasks walk (t ∷ ts) line left claimed =
+    followTree (walk t line left claimed) (λ line′ left′ claimed′. walkSubtasks walk ts line′ left′ claimed′)
+
+unfoldable pub isIn : ℕ → List ℕ → Bool
+isIn i [] = false
+isIn i (x ∷ l) = eqb x i || isIn i l
+
+-- Whether a leaf of action a may claim position i, after the claims so far.
+abbrev pub ClaimTest : Type 0
+ClaimTest = ℕ → ℕ → List ℕ → Bool
+
+-- "leaf's position has another action or was claimed earlier"
+unfoldable pub mayClaim : List ℕ → ClaimTest
+mayClaim plan a i claimed = eqb (getD plan (i - 1) 0) a && not (isIn i claimed)
+
+-- A node that fits, above level 65: "A node is walked by walking its subtasks".
+abbrev pub walkFitting : Case → ClaimTest → Walker → NodeLine → ℕ → List NodeLine → List ℕ → Walk
+walkFitting k ok walk (D m) line left claimed =
+    asTask m (walkSubtasks walk (methodAt (k .methods) m .subtasks) (line + 1) left claimed)
+walkFitting k ok walk (E m g) line left claimed = Walk.walked (empty m g) (line + 1) left claimed
+walkFitting k ok walk (L a i) line left claimed =
+    elim (ok a i claimed) [ true ↦ Walk.walked (leaf a i) (line + 1) left (i ∷ claimed) | false ↦ Walk.refused (WrongClaim line i) ]
+
+-- A node where so many levels are left: 6 if none is there or it doesn't fit, then 7 if no level is left, then 8.
+unfoldable pub walkNode : ℕ → Case → ClaimTest → Walker
+walkNode zero k ok t line [] claimed = Walk.refused (WrongNode line)
+walkNode zero k ok t line (x ∷ left) claimed = elim (fits k x t) [ true ↦ Walk.refused (TooDeep line) | false ↦ Walk.refused (WrongNode line) ]
+walkNode (suc levels) k ok t line [] claimed = Walk.refused (WrongNode line)
+walkNode (suc levels) k ok t line (x ∷ left) claimed =
+    elim (fits k x t) [
+      | true ↦ walkFitting k ok (λ t′ line′ left′ claimed′. walkNode levels k ok t′ line′ left′ claimed′) x line left claimed
+      | false ↦ Walk.refused (WrongNode line)
+    ]
+
+-- No node is over after the root's tree.
+abbrev pub noneOver : Walk → Walk
+noneOver (Walk.walked t line [] claimed) = Walk.walked t line [] claimed
+noneOver (Walk.walked t line (x ∷ left) claimed) = Walk.refused (WrongNode line)
+noneOver (Walk.refused r) = Walk.refused r
+
+-- "The root is level 1, its subtasks level 2, and so on to 64."
+unfoldable pub levelCount : ℕ
+levelCount = 64
+
+unfoldable pub walkTree : Case → ClaimTest → Walk
+walkTree k ok = noneOver (walkNode levelCount k ok (k .head .goal) (k .planLine + 1) (k .nodes) [])
+
+-- "after the walk: least position unclaimed", of the n positions from i on.
+abbrev pub leastUnclaimed : List ℕ → ℕ → ℕ → Option ℕ
+leastUnclaimed claimed zero i = none
+leastUnclaimed claimed (suc n) i = elim (isIn i claimed) [ true ↦ leastUnclaimed claimed n (i + 1) | false ↦ some i ]
