@@ -7,4 +7,6 @@ pub mod Case
 pub mod Tree
 pub mod Constraint
 pub mod Verdict
+pub mod Rules
+pub mod Rewriting
 pub mod Panel
