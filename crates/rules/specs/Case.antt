@@ -122,22 +122,18 @@ readOf n (LineRead.outside field) = refused (OutOfRange n field)
 unfoldable pub oneLine : List ℕ → Header → Role → ℕ → ℕ → ℕ → Read Valued
 oneLine text h due s n place = readOf n (readLine text due h s place)
 
--- So many lines of one role.
-abbrev pub lines : List ℕ → Header → Role → ℕ → ℕ → ℕ → ℕ → Read (List Valued)
-lines text h due s zero n place = read [] n place
-lines text h due s (suc count) n place =
-    follow (oneLine text h due s n place) (λ x n′ place′. follow (lines text h due s count n′ place′) (λ xs n″ place″. read (x ∷ xs) n″ place″))
+-- So many in turn, each read where the one before it ended.
+abbrev pub many : {A : Type 0} → (ℕ → ℕ → Read A) → ℕ → ℕ → ℕ → Read (List A)
+many one zero n place = read [] n place
+many one (suc count) n place =
+    follow (one n place) (λ x n′ place′. follow (many one count n′ place′) (λ xs n″ place″. read (x ∷ xs) n″ place″))
 
 -- "One M line per method: [..] constraint count c (0 to 64); then c lines of its own"
 unfoldable pub oneMethod : List ℕ → Header → ℕ → ℕ → Read Method
 oneMethod text h n place =
     follow (oneLine text h method 0 n place)
-    (λ x n′ place′. follow (lines text h constraint (scalarAt (x .1) 1) (scalarAt (x .1) 2) n′ place′) (λ cs n″ place″. read (methodOf (x .1) cs) n″ place″))
-
-abbrev pub methodLines : List ℕ → Header → ℕ → ℕ → ℕ → Read (List Method)
-methodLines text h zero n place = read [] n place
-methodLines text h (suc count) n place =
-    follow (oneMethod text h n place) (λ x n′ place′. follow (methodLines text h count n′ place′) (λ xs n″ place″. read (x ∷ xs) n″ place″))
+    (λ x n′ place′. follow (many (oneLine text h constraint (scalarAt (x .1) 1)) (scalarAt (x .1) 2) n′ place′)
+    (λ cs n″ place″. read (methodOf (x .1) cs) n″ place″))
 
 -- "surplus line (item 1, ended or not)": nothing stands after the last due line's line feed.
 unfoldable pub noSurplus : List ℕ → Case → ℕ → ℕ → Read Case
@@ -147,10 +143,10 @@ noSurplus text k n place = elim (ltb place (length text)) [ true ↦ refused (Un
 unfoldable pub readBody : List ℕ → Header → ℕ → ℕ → Read Case
 readBody text h n place =
     follow (oneLine text h initial 0 n place)
-    (λ i n₁ p₁. follow (lines text h action 0 (h .actions) n₁ p₁)
-    (λ acts n₂ p₂. follow (methodLines text h (h .methods) n₂ p₂)
+    (λ i n₁ p₁. follow (many (oneLine text h action 0) (h .actions) n₁ p₁)
+    (λ acts n₂ p₂. follow (many (oneMethod text h) (h .methods) n₂ p₂)
     (λ ms n₃ p₃. follow (oneLine text h plan 0 n₃ p₃)
-    (λ cs n₄ p₄. follow (lines text h node 0 (h .nodes) n₄ p₄)
+    (λ cs n₄ p₄. follow (many (oneLine text h node 0) (h .nodes) n₄ p₄)
     (λ ns n₅ p₅. noSurplus text
     (record {
       head = h;
