@@ -1,0 +1,99 @@
+// Indexes and spans (01, "Indexes"): "Doubled indexes and state numbers are counted apart: one becomes the other only through the
+// rounding below." So each has a type of its own, and the two roundings are the only functions from one to the other.
+ghost use mathlib.Core.Path.{_≡_};
+ghost use mathlib.Core.List.{[], _∷_};
+ghost use Prim.Native.Nat.{_<_, min, max};
+ghost use Rattle.rules.specs.Index.{ofCue, ofGap, at, hull, roundedUp, roundedDown, c, f, isBefore};
+ghost use Rattle.index.specs.Spans.{spanOf};
+
+// "The program carries twice the index: cue i is 2i, gap g is 2g + 1."
+pub struct Doubled(pub u32);
+
+// The number of a state: state 0 is the initial one, state i follows cue i.
+pub struct StateNumber(pub u32);
+
+// Where a task starts and ends.
+pub struct Span {
+    pub start: Doubled,
+    pub end: Doubled,
+}
+
+impl Doubled {
+    pub fn of_cue(i: u32) -> Doubled
+        requires { ⌜ i < 2147483648 ⌝ }
+        ensures { λ r. ⌜ r .0 ≡ ofCue i ⌝ }
+    {
+        Doubled(2 * i)
+    }
+
+    pub fn of_gap(g: u32) -> Doubled
+        requires { ⌜ g < 2147483648 ⌝ }
+        ensures { λ r. ⌜ r .0 ≡ ofGap g ⌝ }
+    {
+        Doubled(2 * g + 1)
+    }
+
+    // (index + 1) / 2, in a form that fits for every index.
+    pub fn rounded_up(self) -> StateNumber
+        ensures { λ r. ⌜ r .0 ≡ roundedUp (self .0) ⌝ }
+    {
+        StateNumber(self.0 / 2 + self.0 % 2)
+    }
+
+    pub fn rounded_down(self) -> StateNumber
+        ensures { λ r. ⌜ r .0 ≡ roundedDown (self .0) ⌝ }
+    {
+        StateNumber(self.0 / 2)
+    }
+}
+
+fn lesser(a: Doubled, b: Doubled) -> Doubled
+    ensures { λ r. ⌜ r .0 ≡ min (a .0) (b .0) ⌝ }
+{
+    if a.0 < b.0 { a } else { b }
+}
+
+fn greater(a: Doubled, b: Doubled) -> Doubled
+    ensures { λ r. ⌜ r .0 ≡ max (a .0) (b .0) ⌝ }
+{
+    if a.0 < b.0 { b } else { a }
+}
+
+impl Span {
+    // A cue, or a task that sits in a gap: it starts and ends at one index.
+    pub fn at(d: Doubled) -> Span
+        ensures { λ r. ⌜ spanOf r ≡ at (d .0) ⌝ }
+    {
+        Span { start: d, end: d }
+    }
+
+    // "Any other compound task starts at the least start and ends at the greatest end of its subtasks": of two.
+    pub fn join(self, other: Span) -> Span
+        ensures { λ r. ⌜ spanOf r ≡ hull (spanOf self ∷ spanOf other ∷ []) ⌝ }
+    {
+        Span {
+            start: lesser(self.start, other.start),
+            end: greater(self.end, other.end),
+        }
+    }
+
+    // "With c = start rounded up and f = end rounded down"
+    pub fn c(self) -> StateNumber
+        ensures { λ r. ⌜ r .0 ≡ c (spanOf self) ⌝ }
+    {
+        self.start.rounded_up()
+    }
+
+    pub fn f(self) -> StateNumber
+        ensures { λ r. ⌜ r .0 ≡ f (spanOf self) ⌝ }
+    {
+        self.end.rounded_down()
+    }
+
+    // "T before V holds if f(T) < c(V)."
+    pub fn is_before(self, other: Span) -> bool
+        ensures { λ r. ⌜ r ≡ isBefore (spanOf self) (spanOf other) ⌝ }
+    {
+        self.f().0 < other.c().0
+    }
+}

@@ -1,0 +1,15 @@
+-- `between`: the two tests, one after the other. Assumes nothing.
+use borrow.Author.Tests.{le-leb, lt-leb, lt-ltb, le-ltb}
+use Rattle.lines.proofs.range.between.Statement.{statement}
+use Rattle.lines.proofs.range.between.Tie as tie
+use Rattle.lines.proofs.range.between.Reads as reads
+use Rattle.lines.proofs.range.between.Lts as lts
+
+returns : tie.Need-returns
+returns c = simp (le-leb _ _ (c .if1 .taken))
+
+returns-2 : tie.Need-returns-2
+returns-2 c = simp (lt-leb _ _ (c .if1 .left))
+
+pub between-spec : {M : Type 1} → statement M
+between-spec = tie.close (tie.spec returns returns-2)

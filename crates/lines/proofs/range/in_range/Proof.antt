@@ -1,0 +1,156 @@
+-- `in_range`: each arm of the match is the clause of the kind that its byte stands for. Assumes nothing.
+use Rattle.lines.proofs.Ranges.{kind-other}
+use mathlib.Core.Path.{_≡_, refl}
+use Rattle.rules.specs.Table.{inRange}
+use Rattle.lines.specs.Shapes.{kindOf}
+use borrow.Author.Needs.{needs}
+use Rattle.lines.proofs.range.in_range.Statement.{statement}
+use Rattle.lines.proofs.range.in_range.Tie as tie
+use Rattle.lines.proofs.range.in_range.Reads as reads
+use Rattle.lines.proofs.range.in_range.Lts as lts
+use Rattle.lines.proofs.range.between.Reads as between-reads
+use Rattle.lines.proofs.range.is_compound.Reads as is-compound-reads
+use Rattle.lines.proofs.range.is_other.Reads as is-other-reads
+use Rattle.lines.proofs.range.is_task.Reads as is-task-reads
+
+array-read-is-compound : tie.Need-array-read-is-compound
+array-read-is-compound c = search needs
+
+array-read-is-compound-2 : tie.Need-array-read-is-compound-2
+array-read-is-compound-2 c = search needs
+
+is-compound-requires : tie.Need-is-compound-requires
+is-compound-requires c κs = search needs
+
+between-requires : tie.Need-between-requires
+between-requires c κs = search needs
+
+is-compound-requires-2 : tie.Need-is-compound-requires-2
+is-compound-requires-2 c κs = search needs
+
+array-read-is-other : tie.Need-array-read-is-other
+array-read-is-other c = search needs
+
+is-other-requires : tie.Need-is-other-requires
+is-other-requires c κs = search needs
+
+fits-requires : tie.Need-fits-requires
+fits-requires c κs = search needs
+
+between-requires-2 : tie.Need-between-requires-2
+between-requires-2 c κs = search needs
+
+is-task-requires : tie.Need-is-task-requires
+is-task-requires c κs = search needs
+
+returns : tie.Need-returns
+unfolding inRange kindOf
+returns c = rw (c .match .keys1)
+
+returns-2 : tie.Need-returns-2
+unfolding inRange kindOf
+returns-2 c = rw (c .match .keys2)
+
+returns-3 : tie.Need-returns-3
+unfolding inRange kindOf
+returns-3 c = rw (c .match .keys3)
+
+returns-4 : tie.Need-returns-4
+unfolding inRange kindOf
+returns-4 c = rw (c .before .match .keys4) (c .is-compound .ensures)
+
+returns-5 : tie.Need-returns-5
+unfolding inRange kindOf
+returns-5 c = rw (c .match .keys5)
+
+returns-6 : tie.Need-returns-6
+unfolding inRange kindOf
+returns-6 c = rw (c .before .match .keys6) (c .between .ensures)
+
+returns-7 : tie.Need-returns-7
+unfolding inRange kindOf
+returns-7 c = rw (c .before .match .keys7) (c .is-compound2 .ensures)
+
+returns-8 : tie.Need-returns-8
+unfolding inRange kindOf
+returns-8 c = rw (c .match .keys8)
+
+returns-9 : tie.Need-returns-9
+unfolding inRange kindOf
+returns-9 c = rw (c .before .match .keys9)
+
+returns-10 : tie.Need-returns-10
+unfolding inRange kindOf
+returns-10 c = rw (c .before .match .keys10) (c .is-other .ensures)
+
+returns-11 : tie.Need-returns-11
+unfolding inRange kindOf
+returns-11 c = rw (c .before .match .keys11)
+
+returns-12 : tie.Need-returns-12
+unfolding inRange kindOf
+returns-12 c = rw (c .before .match .keys12) (c .fits2 .ensures)
+
+returns-13 : tie.Need-returns-13
+unfolding inRange kindOf
+returns-13 c = rw (c .before .match .keys13)
+
+returns-14 : tie.Need-returns-14
+unfolding inRange kindOf
+returns-14 c = rw (c .before .match .keys14)
+
+returns-15 : tie.Need-returns-15
+unfolding inRange kindOf
+returns-15 c = rw (c .before .match .keys15)
+
+returns-16 : tie.Need-returns-16
+unfolding inRange kindOf
+returns-16 c = rw (c .before .match .keys16) (c .between2 .ensures)
+
+returns-17 : tie.Need-returns-17
+unfolding inRange kindOf
+returns-17 c = rw (c .match .keys17)
+
+returns-18 : tie.Need-returns-18
+unfolding inRange kindOf
+returns-18 c = rw (c .before .match .keys18)
+
+returns-19 : tie.Need-returns-19
+unfolding inRange
+returns-19 c =
+    let r = c .before .match .rest in
+    rw (kind-other (c .before .before .before .args .kind) (r .0 .0 .0 .0 .0 .0 .0 .0 .0 .0 .0 .0 .0 .0 .0 .0 .0 .1, (r .0 .0 .0 .0 .0 .0 .0 .0 .0 .0 .0 .0 .0 .0 .0 .0 .1, (r .0 .0 .0 .0 .0 .0 .0 .0 .0 .0 .0 .0 .0 .0 .0 .1, (r .0 .0 .0 .0 .0 .0 .0 .0 .0 .0 .0 .0 .0 .0 .1, (r .0 .0 .0 .0 .0 .0 .0 .0 .0 .0 .0 .0 .0 .1, (r .0 .0 .0 .0 .0 .0 .0 .0 .0 .0 .0 .0 .1, (r .0 .0 .0 .0 .0 .0 .0 .0 .0 .0 .0 .1, (r .0 .0 .0 .0 .0 .0 .0 .0 .0 .0 .1, (r .0 .0 .0 .0 .0 .0 .0 .0 .0 .1, (r .0 .0 .0 .0 .0 .0 .0 .0 .1, (r .0 .0 .0 .0 .0 .0 .0 .1, (r .0 .0 .0 .0 .0 .0 .1, (r .0 .0 .0 .0 .0 .1, (r .0 .0 .0 .0 .1, (r .0 .0 .0 .1, (r .0 .0 .1, (r .0 .1, (r .1, tt))))))))))))))))))) (c .is-task .ensures)
+
+pub in-range-spec : {M : Type 1} → statement M
+in-range-spec =
+    tie.close
+    (tie.spec
+    array-read-is-compound
+    array-read-is-compound-2
+    is-compound-requires
+    between-requires
+    is-compound-requires-2
+    array-read-is-other
+    is-other-requires
+    fits-requires
+    between-requires-2
+    is-task-requires
+    returns
+    returns-2
+    returns-3
+    returns-4
+    returns-5
+    returns-6
+    returns-7
+    returns-8
+    returns-9
+    returns-10
+    returns-11
+    returns-12
+    returns-13
+    returns-14
+    returns-15
+    returns-16
+    returns-17
+    returns-18
+    returns-19)

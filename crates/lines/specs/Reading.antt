@@ -1,0 +1,45 @@
+-- The answers of the line reader, as what the definitions read. Assumes nothing.
+use mathlib.Core.Bool.{Bool}
+use mathlib.Core.List.{List, [], _∷_}
+use Prim.Native.Nat.{ℕ, _+_}
+use lib.ListN.{length}
+use Rattle.rules.specs.State.{empty, insertAll}
+use Rattle.rules.specs.Table as T
+use Rattle.rules.specs.Table.{scalar, members, item}
+use Rattle.state.specs.declared.State.{State}
+use Rattle.text.specs.Cursor.{cursor}
+use Rattle.lines.specs.Shapes.{kindOf}
+use Rattle.lines.specs.declared.range.Context.{Context}
+use Rattle.lines.specs.declared.item.Taken.{Taken}
+use Rattle.lines.specs.declared.item.Taken.the-variants.{Number, Bad as NoNumber, Out}
+use Rattle.lines.specs.declared.item.Outcome.{Outcome}
+use Rattle.lines.specs.declared.item.Outcome.the-variants.{Done, Bad, Range}
+use Rattle.lines.specs.declared.item.ItemRead.{ItemRead}
+
+-- v is in the range of the kind of number that a shape's byte stands for.
+abbrev pub inKind : Context → List ℕ → ℕ → ℕ → Bool
+inKind x before kind v = T.inRange (x .header) (x .subtasks) before (kindOf kind) v
+
+abbrev pub readItemIn : List ℕ → Context → List ℕ → T.Item → ℕ → ℕ → T.ItemRead
+readItemIn text x before i field place = T.readItem text (x .header) (x .subtasks) before i field place
+
+abbrev pub asTaken : T.Taken → Taken
+asTaken (T.taken v next) = Number v (cursor next)
+asTaken T.bad = NoNumber
+asTaken T.out = Out
+
+abbrev pub stateOf : List ℕ → State
+stateOf ws = record { words = ws }
+
+abbrev pub refusedItem : Outcome → ItemRead
+refusedItem o = record { outcome = o; members = stateOf empty }
+
+-- A list that is read after n members, which make the set s.
+abbrev pub collected : ℕ → List ℕ → T.ItemRead → ItemRead
+collected n s (item (scalar v) field next) = record { outcome = Done v field (cursor next); members = stateOf empty }
+collected n s (item (members vs) field next) = record { outcome = Done (n + length vs) field (cursor next); members = stateOf (insertAll s vs) }
+collected n s (T.ItemRead.unreadable field) = refusedItem (Bad field)
+collected n s (T.ItemRead.outside field) = refusedItem (Range field)
+
+unfoldable pub asItem : T.ItemRead → ItemRead
+asItem r = collected 0 empty r

@@ -1,0 +1,200 @@
+// The items of a line: a number, or a list with its members.
+ghost use mathlib.Core.Path.{_≡_};
+ghost use mathlib.Core.Bool.{_&&_};
+ghost use Prim.Native.Nat.{ℕ, _<_, _^_};
+ghost use lib.Dec.{leb, eqb};
+ghost use Rattle.rules.specs.State.{empty};
+ghost use Rattle.rules.specs.Text.{numberAt};
+ghost use Rattle.rules.specs.Table.{one, take, leastAfter, readMembers, readList};
+ghost use Rattle.lines.specs.Shapes.{kindOf, itemOf};
+ghost use Rattle.lines.specs.Reading.{inKind, readItemIn, asTaken, asItem, collected, refusedItem};
+use crate::range;
+use crate::range::Context;
+use state::State;
+use text::Cursor;
+use text::Field;
+
+// How reading an item ended. A field's number is counted from 1 in its line.
+pub enum Outcome {
+    // The number that was read, or how many members; the number of the field after it, and where that starts.
+    Done {
+        value: u32,
+        field: usize,
+        next: Cursor,
+    },
+    // The field is missing or no plain number.
+    Bad {
+        field: usize,
+    },
+    // The field is outside its range.
+    Range {
+        field: usize,
+    },
+}
+
+// An item, with its members as a set: empty for a single number and for a refusal.
+pub struct ItemRead {
+    pub outcome: Outcome,
+    pub members: State,
+}
+
+// A number that is due: read and in its range; missing or not plain; outside its range.
+enum Taken {
+    Number { value: u32, next: Cursor },
+    Bad,
+    Out,
+}
+
+// Whether v is at least `low`, and in the range of its kind.
+fn admits(low: u64, kind: u64, x: Context, before: [u32; 7], v: u32) -> bool
+    ensures { λ r. ⌜ r ≡ leb low v && inKind x before kind v ⌝ }
+{
+    if low <= v as u64 {
+        range::in_range(kind, x, before, v)
+    } else {
+        false
+    }
+}
+
+fn take_number(text: &[u8], c: Cursor, x: Context, before: [u32; 7], kind: u64, low: u64) -> Taken
+    ensures { λ r. ⌜ r ≡ asTaken (take (λ v. leb low v && inKind x before kind v) (numberAt (now (text .entry)) (c .at))) ⌝ }
+{
+    match c.number(text) {
+        Field::Number { value, next } => {
+            if admits(low, kind, x, before, value) {
+                Taken::Number { value, next }
+            } else {
+                Taken::Out
+            }
+        }
+        Field::NotPlain => Taken::Bad,
+        Field::Missing => Taken::Bad,
+    }
+}
+
+fn refused(outcome: Outcome) -> ItemRead
+    ensures { λ r. ⌜ r ≡ refusedItem outcome ⌝ }
+{
+    ItemRead {
+        outcome,
+        members: State::new(),
+    }
+}
+
+// "Sets are strictly ascending": the members of a set are its propositions, and no other list ascends.
+const PROPOSITION: u64 = 11;
+
+// The least that the member after v may be.
+fn least_after(kind: u64, v: u32) -> u64
+    ensures { λ r. ⌜ r ≡ leastAfter (eqb kind 11) v ⌝ }
+{
+    if kind == PROPOSITION { v as u64 + 1 } else { 0 }
+}
+
+// `count` members of one kind.
+fn members(
+    text: &[u8],
+    c: Cursor,
+    x: Context,
+    before: [u32; 7],
+    kind: u64,
+    count: u32,
+    field: usize,
+) -> ItemRead
+    requires { ⌜ field < 2 ^ 41 ⌝ }
+    ensures { λ r. ⌜ r ≡ collected 0 empty (readMembers (now (text .entry)) (inKind x before kind) (eqb kind 11) count 0 field (c .at)) ⌝ }
+{
+    let mut at = c;
+    let mut set = State::new();
+    let mut low: u64 = 0;
+    let mut i: u32 = 0;
+    while i < count {
+        match take_number(text, at, x, before, kind, low) {
+            Taken::Number { value, next } => {
+                set = set.with(value);
+                low = least_after(kind, value);
+                at = next;
+                i += 1;
+            }
+            Taken::Bad => {
+                return refused(Outcome::Bad {
+                    field: field + i as usize,
+                });
+            }
+            Taken::Out => {
+                return refused(Outcome::Range {
+                    field: field + i as usize,
+                });
+            }
+        }
+    }
+    ItemRead {
+        outcome: Outcome::Done {
+            value: i,
+            field: field + i as usize,
+            next: at,
+        },
+        members: set,
+    }
+}
+
+// "A list is its count followed by its members": the count and the members by their kinds.
+fn list(
+    text: &[u8],
+    c: Cursor,
+    x: Context,
+    before: [u32; 7],
+    counts: u64,
+    kind: u64,
+    field: usize,
+) -> ItemRead
+    requires { ⌜ field < 2 ^ 40 ⌝ }
+    ensures { λ r. ⌜ r ≡ asItem (readList (now (text .entry)) (inKind x before counts) (inKind x before kind) (eqb kind 11) field (c .at)) ⌝ }
+{
+    match take_number(text, c, x, before, counts, 0) {
+        Taken::Number { value, next } => members(text, next, x, before, kind, value, field + 1),
+        Taken::Bad => refused(Outcome::Bad { field }),
+        Taken::Out => refused(Outcome::Range { field }),
+    }
+}
+
+fn single(text: &[u8], c: Cursor, x: Context, before: [u32; 7], kind: u64, field: usize) -> ItemRead
+    requires { ⌜ field < 2 ^ 40 ⌝ }
+    ensures { λ r. ⌜ r ≡ asItem (readItemIn (now (text .entry)) x before (one (kindOf kind)) field (c .at)) ⌝ }
+{
+    match take_number(text, c, x, before, kind, 0) {
+        Taken::Number { value, next } => ItemRead {
+            outcome: Outcome::Done {
+                value,
+                field: field + 1,
+                next,
+            },
+            members: State::new(),
+        },
+        Taken::Bad => refused(Outcome::Bad { field }),
+        Taken::Out => refused(Outcome::Range { field }),
+    }
+}
+
+// The item that a shape's byte stands for, after the numbers before it in its line. Its first field is number `field`.
+pub fn read_item(
+    text: &[u8],
+    c: Cursor,
+    x: Context,
+    before: [u32; 7],
+    item: u64,
+    field: usize,
+) -> ItemRead
+    requires { ⌜ field < 2 ^ 40 ⌝ }
+    ensures { λ r. ⌜ r ≡ asItem (readItemIn (now (text .entry)) x before (itemOf item) field (c .at)) ⌝ }
+{
+    match item {
+        20 => list(text, c, x, before, 18, PROPOSITION, field),
+        21 => list(text, c, x, before, 17, 19, field),
+        22 => {
+            let h = x.header;
+            members(text, c, x, before, 15, h.cues, field)
+        }
+        _ => single(text, c, x, before, item, field),
+    }
+}

@@ -1,0 +1,9 @@
+// Reading one line of a case by the table of letters (01, "The case text" and rows 3 and 4 of its table): one reader for all twelve.
+mod item;
+mod range;
+mod table;
+
+pub use item::ItemRead;
+pub use item::Outcome;
+pub use item::read_item;
+pub use range::Context;

@@ -1,0 +1,76 @@
+// The ranges of the numbers of a line.
+ghost use mathlib.Core.Path.{_≡_};
+ghost use mathlib.Core.Bool.{_&&_, not};
+ghost use Prim.Native.Nat.{_+_};
+ghost use lib.Dec.{leb, ltb, eqb};
+ghost use Rattle.rules.specs.Table.{isCompound};
+ghost use Rattle.lines.specs.Reading.{inKind};
+use rules::Header;
+
+// What is known before a line: the header's numbers, and the subtask count of the method whose constraints are read.
+pub struct Context {
+    pub header: Header,
+    pub subtasks: u32,
+}
+
+fn between(low: u32, v: u32, high: u32) -> bool
+    ensures { λ r. ⌜ r ≡ leb low v && leb v high ⌝ }
+{
+    if low <= v { v <= high } else { false }
+}
+
+fn is_compound(actions: u32, compounds: u32, t: u32) -> bool
+    ensures { λ r. ⌜ r ≡ isCompound actions compounds t ⌝ }
+{
+    if actions <= t {
+        t - actions < compounds
+    } else {
+        false
+    }
+}
+
+// An action or a compound task.
+fn is_task(actions: u32, compounds: u32, t: u32) -> bool
+    ensures { λ r. ⌜ r ≡ ltb t (actions + compounds) ⌝ }
+{
+    if actions <= t {
+        t - actions < compounds
+    } else {
+        true
+    }
+}
+
+// A subtask number other than i.
+fn is_other(j: u32, count: u32, i: u32) -> bool
+    ensures { λ r. ⌜ r ≡ ltb j count && not (eqb j i) ⌝ }
+{
+    if j < count { j != i } else { false }
+}
+
+// Whether v is in the range of the kind of number that a shape's byte stands for, after the numbers before it in its line.
+pub fn in_range(kind: u64, x: Context, before: [u32; 7], v: u32) -> bool
+    ensures { λ r. ⌜ r ≡ inKind x before kind v ⌝ }
+{
+    let h = x.header;
+    match kind {
+        1 => v <= 256,
+        2 => v <= 1024,
+        3 => v <= 2048,
+        4 => is_compound(before[1], before[2], v),
+        5 => v <= 1000,
+        6 => between(1, v, 3000),
+        7 => is_compound(h.actions, h.compounds, v),
+        8 => v <= 64,
+        9 => v < x.subtasks,
+        10 => is_other(v, x.subtasks, before[0]),
+        11 => v < h.propositions,
+        12 => subsets::fits(v, x.subtasks),
+        13 => v < h.methods,
+        14 => v <= h.cues,
+        15 => v < h.actions,
+        16 => between(1, v, h.cues),
+        17 => v <= 32,
+        18 => v <= h.propositions,
+        _ => is_task(h.actions, h.compounds, v),
+    }
+}

@@ -1,0 +1,5 @@
+-- Laws about the definitions: what code and later laws may rely on without opening a definition.
+pub mod Bits
+pub mod Tables
+pub mod Members
+pub mod Spans

@@ -1,0 +1,47 @@
+// Sets of up to 32 subtasks, each as one number: bit j for subtask j. A set is gone through lowest member first: "take its lowest
+// subtask, then the rest".
+ghost use mathlib.Core.Path.{_≡_};
+ghost use mathlib.Core.List.{headD, tail};
+ghost use Prim.Native.Nat.{_^_};
+ghost use lib.Dec.{ltb};
+ghost use lib.ListN.{length};
+ghost use Rattle.rules.specs.State.{bit};
+ghost use Rattle.subsets.specs.Members.{membersOf};
+
+// The lowest member: 32 for the empty set.
+pub fn lowest(u: u32) -> u32
+    ensures { λ r. ⌜ r ≡ headD (membersOf u) 32 ⌝ }
+{
+    u32::trailing_zeros(u)
+}
+
+// How many members there are.
+pub fn size(u: u32) -> u32
+    ensures { λ r. ⌜ r ≡ length (membersOf u) ⌝ }
+{
+    u32::count_ones(u)
+}
+
+// The set without its lowest member: empty for the empty set.
+pub fn others(u: u32) -> u32
+    ensures { λ r. ⌜ membersOf r ≡ tail (membersOf u) ⌝ }
+{
+    if u == 0 {
+        return 0;
+    }
+    u ^ (1u32 << lowest(u))
+}
+
+// Whether subtask j is in the set: no for j at or above 32.
+pub fn has(u: u32, j: u32) -> bool
+    ensures { λ r. ⌜ r ≡ bit u j ⌝ }
+{
+    if j < 32 { (u >> j) % 2 == 1 } else { false }
+}
+
+// Whether the set has "no bit at or above the count" n.
+pub fn fits(u: u32, n: u32) -> bool
+    ensures { λ r. ⌜ r ≡ ltb u (2 ^ n) ⌝ }
+{
+    if n < 32 { u >> n == 0 } else { true }
+}
