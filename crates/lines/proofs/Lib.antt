@@ -1,3 +1,6 @@
 pub mod Shapes
 pub mod Ranges
 pub mod Items
+pub mod Lines
+pub mod Progress
+pub mod Rows

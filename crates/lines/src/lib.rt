@@ -1,9 +1,14 @@
 // Reading one line of a case by the table of letters (01, "The case text" and rows 3 and 4 of its table): one reader for all twelve.
 mod item;
+mod line;
 mod range;
 mod table;
 
 pub use item::ItemRead;
 pub use item::Outcome;
 pub use item::read_item;
+pub use line::Finish;
+pub use line::LineRead;
+pub use line::Role;
+pub use line::read_line;
 pub use range::Context;
