@@ -5,9 +5,9 @@ ghost use Prim.Native.Nat.{ℕ, _<_, _^_};
 ghost use lib.Dec.{leb, eqb};
 ghost use Rattle.rules.specs.State.{empty};
 ghost use Rattle.rules.specs.Text.{numberAt};
-ghost use Rattle.rules.specs.Table.{one, take, leastAfter, readMembers, readList};
+ghost use Rattle.rules.specs.Table.{one, set, take, leastAfter, readMembers, readList};
 ghost use Rattle.lines.specs.Shapes.{kindOf, itemOf};
-ghost use Rattle.lines.specs.Reading.{inKind, readItemIn, asTaken, asItem, collected, refusedItem};
+ghost use Rattle.lines.specs.Reading.{inKind, readItemIn, asTaken, asItem, collected, refusedItem, noValues};
 use crate::range;
 use crate::range::Context;
 use state::State;
@@ -197,4 +197,12 @@ pub fn read_item(
         }
         _ => single(text, c, x, before, item, field),
     }
+}
+
+// A set of propositions whose count is the field after the cursor, field number `field`: as a State.
+pub fn read_set(text: &[u8], c: Cursor, x: Context, field: usize) -> ItemRead
+    requires { ⌜ field < 2 ^ 40 ⌝ }
+    ensures { λ r. ⌜ r ≡ asItem (readItemIn (now (text .entry)) x noValues set field (c .at)) ⌝ }
+{
+    read_item(text, c, x, [0u32; 7], 20, field)
 }

@@ -3,3 +3,5 @@ pub mod Bits
 pub mod Tables
 pub mod Members
 pub mod Spans
+-- Demand 2: the verdict against the declarative rules.
+pub mod Judgement
