@@ -6,7 +6,10 @@ use lib.ListN.{getD}
 use Rattle.rules.specs.State.{actionAt}
 use Rattle.rules.specs.Table as T
 use Rattle.rules.specs.Table.{Value, line, readLine}
-use Rattle.rules.specs.Case.{Case, Valued, read, methodAt, setAt, membersAt, actionOf, nodeOf, oneLine, oneMethod, many}
+use Rattle.rules.specs.Case.{Case, Valued, Read, read, refused, methodAt, setAt, membersAt, actionOf, nodeOf, oneLine, oneMethod, many}
+use Rattle.text.specs.declared.Cursor.{Cursor}
+use Rattle.reading.specs.declared.CaseRead.{CaseRead}
+use Rattle.reading.specs.declared.CaseRead.the-variants.{Case as CaseIs, Refused as CaseRefused}
 
 -- Where the method lines' places start in the directory, after those of the actions (01: at most 1,024 actions, 2,048 methods).
 unfoldable pub methodsFrom : ℕ
@@ -36,3 +39,9 @@ pub record Finds (text : List ℕ) (k : Case) (directory : List ℕ) (initial pl
   pub nodeLines : List Valued
   pub nodesRead : (n next : ℕ) × (many (oneLine text (k .head) T.node 0) (k .head .nodes) (k .planLine + 1) nodes ≡ read nodeLines n next)
   pub nodesAre : map nodeOf nodeLines ≡ k .nodes
+
+-- What reading a case into a directory answers and leaves there.
+abbrev pub ReadsAs : List ℕ → Read Case → CaseRead → List ℕ → Type 0
+ReadsAs text (refused a) r directory = r ≡ CaseRefused a
+ReadsAs text (read k n place) r directory =
+    (initial plan nodes : Cursor) × (r ≡ CaseIs (k .head) (k .planLine) initial plan nodes) × Finds text k directory (initial .at) (plan .at) (nodes .at)
