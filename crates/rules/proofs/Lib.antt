@@ -5,3 +5,6 @@ pub mod Members
 pub mod Spans
 -- Demand 2: the verdict against the declarative rules.
 pub mod Judgement
+-- Demand 3: the rules against the rewritings of the goal task.
+pub mod Rewritings
+pub mod Demands

@@ -9,4 +9,5 @@ pub mod Constraint
 pub mod Verdict
 pub mod Rules
 pub mod Rewriting
+pub mod Demands
 pub mod Panel

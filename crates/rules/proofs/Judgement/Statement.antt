@@ -12,22 +12,12 @@ use Rattle.rules.specs.Case.{Constraint, O, B, F, W, NodeLine, L, Case, 
 use Rattle.rules.specs.Tree.{Tree, preorder, mayClaim}
 use Rattle.rules.specs.Constraint.{holdsIn}
 use Rattle.rules.specs.Verdict.{Lent, textMost, statesOf}
-use Rattle.rules.specs.Rules.{PlanRuns, claimants, Rules}
+use Rattle.rules.specs.Rules.{PlanRuns, claimants}
 use Rattle.rules.proofs.Judgement.Each.{Each, First}
 use Rattle.rules.proofs.Judgement.Preorder.{TreeOf}
 use Rattle.rules.proofs.Judgement.Waiting.{point, Stopped}
 use Rattle.rules.proofs.Judgement.Run.{appliesAt}
 use Rattle.rules.proofs.Judgement.Kept.{KeepsAll, BreaksOne}
-
--- ---- Acceptance
-
-abbrev pub IsAccepted : Answer → Type 0
-IsAccepted r = (cues : ℕ) × (nodes : ℕ) × (r ≡ Accepted cues nodes)
-
--- The rules of what is read.
-abbrev pub RulesOf : Read Case → Type 0
-RulesOf (read k n place) = Rules k
-RulesOf (refused r) = ⊥
 
 -- ---- What holds once the rows before have been passed
 

@@ -17,6 +17,7 @@ use Rattle.rules.specs.Tree.{Tree, preorder, Walk, isIn, mayClaim, level
 use Rattle.rules.specs.Constraint.{holdsIn}
 use Rattle.rules.specs.Verdict.{Found, right, wrong, Lent, firstShort, statesOf, noneBroken, judgeConstraints, allClaimed, treeWalked, judgeTree, planRuns, judgeRun, textRead, textMost, judgeText, listsLent, check, answerOf, readsWithout, readable, walksWithout, levelsFit, insideLimits}
 use Rattle.rules.specs.Rules.{PlanRuns, claimants, Rules}
+use Rattle.rules.specs.Demands.{IsAccepted, RulesOf}
 use Rattle.rules.proofs.Judgement.Each.{both-true}
 use Rattle.rules.proofs.Judgement.Sound.{sound}
 use Rattle.rules.proofs.Judgement.Preorder.{height, claimedBy, TreeOf}
@@ -24,7 +25,7 @@ use Rattle.rules.proofs.Judgement.WalkFinds.{walk-finds, anyClaim, leve
 use Rattle.rules.proofs.Judgement.Claims.{claims-ahead, all-claimed}
 use Rattle.rules.proofs.Judgement.Run.{no-stop}
 use Rattle.rules.proofs.Judgement.Kept.{none-broken}
-use Rattle.rules.proofs.Judgement.Statement.{IsAccepted, RulesOf, Claimed, Accepts, FirstBroken}
+use Rattle.rules.proofs.Judgement.Statement.{Claimed, Accepts, FirstBroken}
 use Rattle.rules.proofs.Judgement.Refusals.{CheckSays, check-says}
 
 accepted-rules : (lists : List Lent) (text : List ℕ) (k : Case) (t : Tree) → Accepts lists text k t → (rules : Rules k) × (rules .tree ≡ t)
@@ -51,7 +52,7 @@ accepts-rules lists text k t e =
     let r = a .covered .grown .run .reads in
     ((r .line, r .place, r .reading), accepted-rules lists text k t a)
 
-position-claimed : (k : Case) → Rules k → (j : ℕ) → 1 ≤ j → j ≤ k .head .cues → Claimed k j
+pub position-claimed : (k : Case) → Rules k → (j : ℕ) → 1 ≤ j → j ≤ k .head .cues → Claimed k j
 position-claimed k rules j lo hi =
     let e : j ≡ j - 1 + 1 = omega arith in
     ap (λ (n : ℕ). claimants n (k .nodes)) e ∙ rules .claimed (j - 1) (omega arith)

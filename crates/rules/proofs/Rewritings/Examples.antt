@@ -1,0 +1,217 @@
+-- Worked cases, by computation: panel case a, and a case whose goal has two compound subtasks, woven, each with an empty task in it.
+use mathlib.Core.Path.{_≡_, refl}
+use mathlib.Core.Bool.{Bool, true, _&&_, false≢true}
+use mathlib.Core.List.{List, [], _∷_, map}
+use mathlib.Core.List.{List·Memᴰ as Mem, List·Memᴰ·head as here, List·Memᴰ·tail as there}
+use Prim.Native.Nat.{ℕ, _+_, _<_}
+use lib.Dec.{leb, ltb, leb→le, ltb→lt}
+use lib.ListN.{length, getD}
+use Rattle.rules.specs.State as St
+use Rattle.rules.specs.Index as Ix
+use Rattle.rules.specs.Case as Ca
+use Rattle.rules.specs.Tree as Tr
+use Rattle.rules.specs.Constraint as Co
+use Rattle.rules.specs.Verdict as Ve
+use Rattle.rules.specs.Rules as Ru
+use Rattle.rules.specs.Rewriting as Re
+use Rattle.rules.specs.State.{State, Action, applies, actionAt, stateAt}
+use Rattle.rules.specs.Case.{Constraint, O, B, W, Method, NodeLine, D, E, L, Case}
+use Rattle.rules.specs.Tree.{Tree, leaf, empty, task, noTree, more, preorder, rootLine}
+use Rattle.rules.specs.Constraint.{holdsIn, keeps, constraintsOf, partsOf}
+use Rattle.rules.specs.Verdict.{statesOf}
+use Rattle.rules.specs.Rules.{PlanRuns, FitsTask, claimants, Rules}
+use Rattle.rules.specs.Rewriting.{Occurrence, Step, samePath, Complete, used, recordOf, SameSet, claimedRecord, result, Rewriting}
+use Rattle.rules.proofs.Rewritings.Statement.{Placed}
+use Rattle.rules.proofs.Rewritings.Lists.{and-both, true-T, reflects-sure, reflects-never}
+use Rattle.rules.proofs.Rewritings.Records.{record-used}
+use Rattle.rules.proofs.Rewritings.Paths.{path-reflects}
+use Rattle.rules.proofs.Rewritings.Steps.{gathered-iff}
+use Rattle.rules.proofs.Rewritings.Tests.{all, all-sure, allBelow, below-sure, same-reflects}
+use Rattle.rules.proofs.Rewritings.Theorem.{agreement, record-decides}
+
+-- A set of propositions below 64.
+abbrev word : ℕ → State
+word w = w ∷ 0 ∷ 0 ∷ 0 ∷ []
+
+abbrev act : ℕ → ℕ → ℕ → ℕ → Action
+act n f a d = record { needed = word n; forbidden = word f; added = word a; deleted = word d }
+
+abbrev way : ℕ → List ℕ → List Constraint → Method
+way t ts ds = record { task = t; subtasks = ts; constraints = ds }
+
+-- ---- From tests to statements
+
+module _ (k : Case) where
+  left-by : (os : List Occurrence) → all (λ o. ltb (o .1) (k .head .actions)) os ≡ true → (o : Occurrence) → Mem o os → o .1 < k .head .actions
+  left-by os e o h = ltb→lt (o .1) (k .head .actions) (true-T (all-sure (λ (p : Occurrence). ltb (p .1) (k .head .actions)) os e o h))
+
+  abbrev inPlan : NodeLine → Bool
+  inPlan (D m) = true
+  inPlan (E m g) = true
+  inPlan (L a i) = leb 1 i && leb i (k .head .cues)
+
+  placed-by : length (k .plan) ≡ k .head .cues → all inPlan (k .nodes) ≡ true → Placed k
+  placed-by e f = record {
+    planned = e;
+    positions = λ a i h. let (u, v) = and-both (leb 1 i) (leb i (k .head .cues)) (all-sure inPlan (k .nodes) f (L a i) h) in
+        (leb→le 1 i (true-T u), leb→le i (k .head .cues) (true-T v));
+  }
+
+  abbrev runsAt : ℕ → Bool
+  runsAt i = applies (stateAt (statesOf k) i) (actionAt (k .actions) (getD (k .plan) i 0))
+
+  abbrev claimedAt : ℕ → Bool
+  claimedAt i = samePath (claimants (i + 1) (k .nodes)) (getD (k .plan) i 0 ∷ [])
+
+  abbrev keepsAll : Tree → Bool
+  keepsAll x = all (keeps (holdsIn (statesOf k)) (partsOf x)) (constraintsOf k x)
+
+  rules-by : (t : Tree) → map rootLine (preorder t) ≡ k .nodes → FitsTask k t (k .head .goal)
+      → allBelow (length (k .plan)) runsAt ≡ true → allBelow (k .head .cues) claimedAt ≡ true → all keepsAll (preorder t) ≡ true → Rules k
+  unfolding PlanRuns
+  rules-by t pre fit runs claimed kept = record {
+    runs = below-sure (length (k .plan)) runsAt runs;
+    tree = t;
+    preordered = pre;
+    fitting = fit;
+    claimed = λ i b. reflects-sure (path-reflects (claimants (i + 1) (k .nodes)) (getD (k .plan) i 0 ∷ [])) (below-sure (k .head .cues) claimedAt claimed i b);
+    kept = λ x h d i. all-sure (keeps (holdsIn (statesOf k)) (partsOf x)) (constraintsOf k x) (all-sure keepsAll (preorder t) kept x h) d i;
+  }
+
+-- What the cases compute with.
+opened : Unit {0}
+unfolding St.wordCount St.bit St.member St.empty St.without St.appliesWord St.applies St.nextWord St.next St.noAction St.actionAt St.states St.stateAt Ix.ofCue Ix.ofGap Ix.at Ix.least Ix.greatest Ix.hull Ix.partOf Ix.only Ix.pick Ix.spanOfPart Ix.roundedUp Ix.roundedDown Ix.c Ix.f Ix.isBefore Ca.noMethod Ca.methodAt Tr.preorder Tr.rootLine Tr.span Tr.subtaskSpans Tr.noSubtasks Tr.isMethodOf Tr.fits Co.holdsIn Co.holdsFrom Co.keeps Co.constraintsOf Co.partsOf Ve.statesOf Ru.FitsTask Ru.claimOf Ru.claimants Re.samePath Re.subtasksOf Re.CanTake Re.replace Re.take Re.Steps Re.takeAll Re.goalAlone Re.result Re.recordOf Re.subtasksAfter Re.named Re.claimedLines Re.entryOf Re.claimedRecord Re.placeOf Re.placesOf Re.claimedPlaces Re.indexOf Re.isInPart Re.indexesIn Re.spanIn
+opened = tt
+
+-- ---- Panel case a
+
+-- "Propositions: 0 in km/h, 1 loaded, 2 on air. Actions: 0 convert, 1 load, 2 take. Task 3 panel, 4 in-km/h."
+-- With the empty task in gap g: a has 0, c has 2.
+abbrev panel : ℕ → Case
+panel g = record {
+  head = record { propositions = 3; actions = 3; compounds = 2; methods = 3; goal = 3; cues = 2; nodes = 4 };
+  initial = word 1;
+  actions = act 0 1 1 0 ∷ act 0 0 2 0 ∷ act 2 0 4 2 ∷ [];
+  methods = way 3 (4 ∷ 1 ∷ 2 ∷ []) (O 0 2 ∷ O 1 2 ∷ W 1 0 4 ∷ []) ∷ way 4 (0 ∷ []) [] ∷ way 4 [] (B 0 0 ∷ []) ∷ [];
+  plan = 1 ∷ 2 ∷ [];
+  nodes = D 0 ∷ E 2 g ∷ L 1 1 ∷ L 2 2 ∷ [];
+  planLine = 13;
+}
+
+abbrev caseA : Case
+caseA = panel 0
+
+placed-a : Placed caseA
+placed-a = placed-by caseA refl refl
+
+abbrev treeA : Tree
+treeA = task 0 (more (empty 2 0) (more (leaf 1 1) (more (leaf 2 2) noTree)))
+
+rules-a : Rules caseA
+unfolding opened
+rules-a = rules-by caseA treeA refl (refl, (refl, (refl, (refl, tt)))) refl refl refl
+
+-- The theorem gives a rewriting that agrees with the panel's tree.
+pub rewriting-a : Rewriting caseA
+rewriting-a = agreement caseA placed-a .0 rules-a
+
+-- Its steps can be taken in one order only: the goal, then its one compound subtask, by method 2 or by method 1.
+abbrev stepsA : List Step
+stepsA = ([], 0) ∷ (0 ∷ [], 2) ∷ []
+
+abbrev otherA : List Step
+otherA = ([], 0) ∷ (0 ∷ [], 1) ∷ []
+
+pub complete-a : Complete caseA stepsA × Complete caseA otherA
+unfolding opened
+complete-a = (
+  record { steps = ((3, here refl, refl), ((4, here refl, refl), tt)); left = left-by caseA (result caseA stepsA .occurrences) refl },
+  record { steps = ((3, here refl, refl), ((4, here refl, refl), tt)); left = left-by caseA (result caseA otherA .occurrences) refl },
+)
+
+-- The record of the one is the claimed tree's, that of the other is not.
+pub records-a : SameSet (recordOf caseA stepsA) (claimedRecord caseA) × (¬ SameSet (recordOf caseA otherA) (claimedRecord caseA))
+unfolding opened
+records-a = (
+  reflects-sure (same-reflects (recordOf caseA stepsA) (claimedRecord caseA)) refl,
+  reflects-never (same-reflects (recordOf caseA otherA) (claimedRecord caseA)) refl,
+)
+
+-- In gap 2 the empty task ends too late for the order that the goal's method asks: no rewriting agrees with that tree, so it breaks the rules.
+pub no-rewriting-c : ¬ Rewriting (panel 2)
+unfolding opened
+no-rewriting-c r = false≢true (r .kept [] (O 0 2) (gathered-iff (panel 2) (r .steps) [] (O 0 2) .1 (0, goal-used, here refl)))
+  where
+    goal-used : Mem ([], 0) (r .steps)
+    goal-used = record-used (panel 2) (r .steps) [] 0 .1 (r .records ([], used 0) .1 (here refl))
+
+pub no-rules-c : ¬ Rules (panel 2)
+no-rules-c r = no-rewriting-c (agreement (panel 2) (placed-by (panel 2) refl refl) .0 r)
+
+-- ---- A woven case
+
+-- Actions 0 and 1. The goal, task 2, has two subtasks of task 3: 0, then 3 again, then 1; or nothing, where proposition 0 holds. The two
+-- subtasks take turns in the plan, each with an empty task in a gap between its actions.
+abbrev woven : Case
+woven = record {
+  head = record { propositions = 1; actions = 2; compounds = 2; methods = 3; goal = 2; cues = 4; nodes = 9 };
+  initial = word 0;
+  actions = act 0 0 1 0 ∷ act 1 0 0 0 ∷ [];
+  methods = way 2 (3 ∷ 3 ∷ []) [] ∷ way 3 (0 ∷ 3 ∷ 1 ∷ []) (O 0 1 ∷ O 1 2 ∷ []) ∷ way 3 [] (B 0 0 ∷ []) ∷ [];
+  plan = 0 ∷ 0 ∷ 1 ∷ 1 ∷ [];
+  nodes = D 0 ∷ D 1 ∷ L 0 1 ∷ E 2 2 ∷ L 1 3 ∷ D 1 ∷ L 0 2 ∷ E 2 3 ∷ L 1 4 ∷ [];
+  planLine = 11;
+}
+
+placed-woven : Placed woven
+placed-woven = placed-by woven refl refl
+
+abbrev part : ℕ → ℕ → ℕ → Tree
+part i g j = task 1 (more (leaf 0 i) (more (empty 2 g) (more (leaf 1 j) noTree)))
+
+rules-woven : Rules woven
+unfolding opened
+rules-woven =
+    rules-by woven (task 0 (more (part 1 2 3) (more (part 2 3 4) noTree))) refl
+    (refl, ((refl, (refl, (refl, (refl, tt)))), ((refl, (refl, (refl, (refl, tt)))), tt))) refl refl refl
+
+pub rewriting-woven : Rewriting woven
+rewriting-woven = agreement woven placed-woven .0 rules-woven
+
+-- Two orders: one subtask after the other, and the two in turns, the second first. And a third rewriting, with both subtasks empty.
+abbrev first : List Step
+first = ([], 0) ∷ (0 ∷ [], 1) ∷ (0 ∷ 1 ∷ [], 2) ∷ (1 ∷ [], 1) ∷ (1 ∷ 1 ∷ [], 2) ∷ []
+
+abbrev second : List Step
+second = ([], 0) ∷ (1 ∷ [], 1) ∷ (0 ∷ [], 1) ∷ (1 ∷ 1 ∷ [], 2) ∷ (0 ∷ 1 ∷ [], 2) ∷ []
+
+abbrev both-empty : List Step
+both-empty = ([], 0) ∷ (0 ∷ [], 2) ∷ (1 ∷ [], 2) ∷ []
+
+pub complete-woven : Complete woven first × Complete woven second × Complete woven both-empty
+unfolding opened
+complete-woven = (
+  record {
+    steps = ((2, here refl, refl), ((3, here refl, refl), ((3, there (here refl), refl), ((3, there (there (here refl)), refl), ((3, there (there (there (here refl))), refl), tt)))));
+    left = left-by woven (result woven first .occurrences) refl;
+  },
+  record {
+    steps = ((2, here refl, refl), ((3, there (here refl), refl), ((3, here refl, refl), ((3, there (there (there (there (here refl)))), refl), ((3, there (here refl), refl), tt)))));
+    left = left-by woven (result woven second .occurrences) refl;
+  },
+  record { steps = ((2, here refl, refl), ((3, here refl, refl), ((3, here refl, refl), tt))); left = left-by woven (result woven both-empty .occurrences) refl },
+)
+
+-- The two orders have one record, the claimed tree's; the third has another.
+pub records-woven : SameSet (recordOf woven first) (recordOf woven second) × SameSet (recordOf woven second) (claimedRecord woven) × (¬ SameSet (recordOf woven both-empty) (claimedRecord woven))
+unfolding opened
+records-woven = (
+  reflects-sure (same-reflects (recordOf woven first) (recordOf woven second)) refl,
+  reflects-sure (same-reflects (recordOf woven second) (claimedRecord woven)) refl,
+  reflects-never (same-reflects (recordOf woven both-empty) (claimedRecord woven)) refl,
+)
+
+-- So the two gather one set, though in different orders.
+pub gathered-woven : SameSet (result woven first .gathered) (result woven second .gathered)
+unfolding Re.RecordDecides
+gathered-woven = record-decides woven first second (complete-woven .0) (complete-woven .1) (records-woven .0)
