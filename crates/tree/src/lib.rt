@@ -1,0 +1,1 @@
+// Walking the claimed tree.
