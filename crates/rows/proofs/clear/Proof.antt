@@ -1,0 +1,56 @@
+-- `clear`: the list is zero below i (Cleared). Assumes nothing.
+use Prim.Native.Nat.{_-_}
+use Rattle.rows.proofs.Cleared.{Cleared, clears, clears-next, clears-all}
+use Rattle.rows.proofs.clear.Statement.{statement}
+use Rattle.rows.proofs.clear.Tie as tie
+use borrow.Author.Needs.{needs, scaled-fits}
+use lib.ListN.{length, length-set}
+use native.Mathlib.Omega.{arith}
+
+abbrev Inv-loop : tie.InvT-loop
+Inv-loop list₀ i₀ list i = Cleared list₀ list i
+
+abbrev μ-loop : tie.MeasureT-loop
+μ-loop list₀ i₀ list i = length list - i
+
+loop-holds : tie.Need-loop-holds Inv-loop μ-loop
+loop-holds c = clears (c .args .list .now)
+
+mul-list : tie.Need-mul-list Inv-loop μ-loop
+mul-list c =
+    let s = c .before .before in
+    let p = c .before .loop .inv in
+    scaled-fits (c .before .loop .i) (length (s .args .list .now)) 8 (omega arith) (s .good .0 .1)
+
+slice-write-list : tie.Need-slice-write-list Inv-loop μ-loop
+slice-write-list c = search needs
+
+add-i : tie.Need-add-i Inv-loop μ-loop
+add-i c = search needs
+
+loop-less : tie.Need-loop-less Inv-loop μ-loop
+loop-less c = simp length-set (omega arith)
+
+loop-again : tie.Need-loop-again Inv-loop μ-loop
+loop-again c = clears-next (c .before .before .args .list .now) (c .before .loop .list) (c .before .loop .i) (c .before .loop .inv) (c .loop-test .taken)
+
+same-length : tie.Need-same-length Inv-loop μ-loop
+same-length c = c .before .loop .inv .size
+
+returns : tie.Need-returns Inv-loop μ-loop
+returns c = clears-all (c .before .before .args .list .now) (c .before .loop .list) (c .before .loop .i) (c .before .loop .inv) (c .loop-test .left)
+
+pub clear-spec : {M : Type 1} → statement M
+clear-spec =
+    tie.close
+    (tie.spec
+    Inv-loop
+    μ-loop
+    loop-holds
+    mul-list
+    slice-write-list
+    add-i
+    loop-less
+    loop-again
+    same-length
+    returns)
