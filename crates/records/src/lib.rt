@@ -1,17 +1,17 @@
 // The node records as plain numbers: the last step over the lent work space, before they are copied into the node list.
 ghost use mathlib.Core.Path.{_≡_};
-ghost use mathlib.Core.List.{_++_, map};
-ghost use Prim.Native.Nat.{ℕ, _+_, _-_, _*_, _≤_, _<_};
+ghost use mathlib.Core.List.{_++_};
+ghost use Prim.Native.Nat.{ℕ, _-_, _*_, _≤_, _<_};
 ghost use lib.Dec.{ltb};
 ghost use lib.ListN.{length, take, replicate};
 ghost use Rattle.rules.specs.Text.{feedFollows};
-ghost use Rattle.records.specs.Records.{letterCode, putRecord, putRecords, headOf};
-ghost use Rattle.records.specs.Reading.{headFrom};
-
-
-
-
-
+ghost use Rattle.records.specs.Records.{letterCode, putRecord, putRecords};
+ghost use Rattle.records.specs.Reading.{NodesRead, cursorAfter, headFrom, headsFrom};
+use lines::Context;
+use lines::Finish;
+use lines::Role;
+use rules::Header;
+use text::Cursor;
 
 // Where the rows of doubled start, doubled end and next node stand in the work space.
 const ROWS: usize = 7168;
@@ -23,6 +23,17 @@ fn letter_code(letter: u8) -> u32
         68 => 1,
         69 => 2,
         _ => 3,
+    }
+}
+
+// Where the next line starts: for a line that was not read, where it is.
+fn after(finish: Finish, c: Cursor) -> Cursor
+    ensures { λ r. ⌜ r ≡ cursorAfter finish c ⌝ }
+{
+    match finish {
+        Finish::Done { next } => next,
+        Finish::Bad { field: _ } => c,
+        Finish::Range { field: _ } => c,
     }
 }
 
@@ -42,14 +53,36 @@ fn put_record(work: &mut [u32], i: usize, code: u32, label: u32, place: u32)
     work[at + 4] = end;
 }
 
-// Clears the work space from a place on.
-fn clear_from(work: &mut [u32], from: usize)
-    requires { ⌜ from ≤ length (now work) ⌝ }
-    ensures { λ _. ⌜ now (work .exit) ≡ take from (now (work .entry)) ++ replicate (length (now (work .entry)) - from) 0 ⌝ }
+// Writes a record for each node line, in order: node i's row is read before the records reach it.
+fn put_records(text: &[u8], past: usize, header: Header, nodes: Cursor, work: &mut [u32])
+    requires { ⌜ ((p : ℕ) → feedFollows (now text) p ≡ ltb p past) ⌝ }
+    requires { ⌜ (header .nodes ≤ 3000) × (16384 ≤ length (now work)) ⌝ }
+    requires { ⌜ NodesRead (now text) header (nodes .at) ⌝ }
+    ensures { λ _. ⌜ now (work .exit) ≡ putRecords (now (work .entry)) 0 (headsFrom (now (text .entry)) header (nodes .at)) ⌝ }
 {
-    let mut i = from;
-    while i < work.len() {
-        work[i] = 0;
+    let n = header.nodes as usize;
+    let mut c = nodes;
+    let mut i: usize = 0;
+    while i < n {
+        let x = Context {
+            header,
+            subtasks: 0,
+        };
+        let r = lines::read_line(text, past, c, Role::Node, x);
+        put_record(work, i, letter_code(r.letter), r.values[0], r.values[1]);
+        c = after(r.finish, c);
         i += 1;
     }
+}
+
+// The records of all nodes, and zero after them to the end of the work space.
+pub fn write_records(text: &[u8], past: usize, header: Header, nodes: Cursor, work: &mut [u32])
+    requires { ⌜ ((p : ℕ) → feedFollows (now text) p ≡ ltb p past) ⌝ }
+    requires { ⌜ (header .nodes ≤ 3000) × (16384 ≤ length (now work)) ⌝ }
+    requires { ⌜ NodesRead (now text) header (nodes .at) ⌝ }
+    ensures { λ _. ⌜ now (work .exit) ≡ take (5 * header .nodes) (putRecords (now (work .entry)) 0 (headsFrom (now (text .entry)) header (nodes .at))) ++ replicate (length (now (work .entry)) - 5 * header .nodes) 0 ⌝ }
+{
+    put_records(text, past, header, nodes, work);
+    let from = 5 * header.nodes as usize;
+    rows::clear_work(&mut work[from..]);
 }

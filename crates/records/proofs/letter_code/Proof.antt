@@ -1,19 +1,20 @@
+-- `letter_code`: each arm of the match is a clause. Assumes nothing.
+use Rattle.records.proofs.Codes.{code-leaf}
 use Rattle.records.proofs.letter_code.Statement.{statement}
 use Rattle.records.proofs.letter_code.Tie as tie
-use Rattle.records.proofs.letter_code.Reads as reads
-use Rattle.records.proofs.letter_code.Lts as lts
+use Rattle.records.specs.Records.{letterCode}
+use borrow.Author.Tests.{ne-eqb}
 
--- src/lib.rt:19:1
 returns : tie.Need-returns
-returns c = ?
+unfolding letterCode
+returns c = rw (c .match .keys1)
 
--- src/lib.rt:19:1
 returns-2 : tie.Need-returns-2
-returns-2 c = ?
+unfolding letterCode
+returns-2 c = rw (c .match .keys2)
 
--- src/lib.rt:19:1
 returns-3 : tie.Need-returns-3
-returns-3 c = ?
+returns-3 c = code-leaf (c .before .args .letter) (c .match .rest .0 .1) (c .match .rest .1)
 
 pub letter-code-spec : {M : Type 1} → statement M
 letter-code-spec = tie.close (tie.spec returns returns-2 returns-3)
