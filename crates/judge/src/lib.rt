@@ -1,0 +1,1 @@
+// The core of the check call.
