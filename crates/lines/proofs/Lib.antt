@@ -4,3 +4,4 @@ pub mod Items
 pub mod Lines
 pub mod Progress
 pub mod Rows
+pub mod Fields

@@ -34,7 +34,7 @@ pub record Progress (text : List ℕ) (x : Context) (l shape start : ℕ) (c : C
   pub blank : Blank i values
   pub same : allItems text x l shape start ≡ itemsFrom text x l rest i values field (c .at)
 
-no-values : Blank 0 noValues
+pub no-values : Blank 0 noValues
 no-values zero h = refl
 no-values (suc zero) h = refl
 no-values (suc (suc zero)) h = refl

@@ -42,12 +42,12 @@ pub fn clear(list: &mut [u64])
 }
 
 // The work space, zero throughout.
-pub fn clear_work(list: &mut [u32])
-    ensures { λ _. ⌜ now (list .exit) ≡ replicate (length (now (list .entry))) 0 ⌝ }
+pub fn clear_work(work: &mut [u32])
+    ensures { λ _. ⌜ now (work .exit) ≡ replicate (length (now (work .entry))) 0 ⌝ }
 {
     let mut i: usize = 0;
-    while i < list.len() {
-        list[i] = 0;
+    while i < work.len() {
+        work[i] = 0;
         i += 1;
     }
 }

@@ -8,22 +8,22 @@ use lib.ListN.{length, length-set}
 use native.Mathlib.Omega.{arith}
 
 abbrev Inv-loop : tie.InvT-loop
-Inv-loop list₀ i₀ list i = Cleared list₀ list i
+Inv-loop work₀ i₀ work i = Cleared work₀ work i
 
 abbrev μ-loop : tie.MeasureT-loop
-μ-loop list₀ i₀ list i = length list - i
+μ-loop work₀ i₀ work i = length work - i
 
 loop-holds : tie.Need-loop-holds Inv-loop μ-loop
-loop-holds c = clears (c .args .list .now)
+loop-holds c = clears (c .args .work .now)
 
-mul-list : tie.Need-mul-list Inv-loop μ-loop
-mul-list c =
+mul-work : tie.Need-mul-work Inv-loop μ-loop
+mul-work c =
     let s = c .before .before in
     let p = c .before .loop .inv in
-    scaled-fits (c .before .loop .i) (length (s .args .list .now)) 4 (omega arith) (s .good .0 .1)
+    scaled-fits (c .before .loop .i) (length (s .args .work .now)) 4 (omega arith) (s .good .0 .1)
 
-slice-write-list : tie.Need-slice-write-list Inv-loop μ-loop
-slice-write-list c = search needs
+slice-write-work : tie.Need-slice-write-work Inv-loop μ-loop
+slice-write-work c = search needs
 
 add-i : tie.Need-add-i Inv-loop μ-loop
 add-i c = search needs
@@ -32,13 +32,13 @@ loop-less : tie.Need-loop-less Inv-loop μ-loop
 loop-less c = simp length-set (omega arith)
 
 loop-again : tie.Need-loop-again Inv-loop μ-loop
-loop-again c = clears-next (c .before .before .args .list .now) (c .before .loop .list) (c .before .loop .i) (c .before .loop .inv) (c .loop-test .taken)
+loop-again c = clears-next (c .before .before .args .work .now) (c .before .loop .work) (c .before .loop .i) (c .before .loop .inv) (c .loop-test .taken)
 
 same-length : tie.Need-same-length Inv-loop μ-loop
 same-length c = c .before .loop .inv .size
 
 returns : tie.Need-returns Inv-loop μ-loop
-returns c = clears-all (c .before .before .args .list .now) (c .before .loop .list) (c .before .loop .i) (c .before .loop .inv) (c .loop-test .left)
+returns c = clears-all (c .before .before .args .work .now) (c .before .loop .work) (c .before .loop .i) (c .before .loop .inv) (c .loop-test .left)
 
 pub clear-work-spec : {M : Type 1} → statement M
 clear-work-spec =
@@ -47,8 +47,8 @@ clear-work-spec =
     Inv-loop
     μ-loop
     loop-holds
-    mul-list
-    slice-write-list
+    mul-work
+    slice-write-work
     add-i
     loop-less
     loop-again

@@ -75,7 +75,7 @@ each-below n vs = each-weaken (λ v. ltb v n ≡ true) (λ v. v < n) vs (λ v. l
 
 -- ---- Each line, by its rows of the table
 
-header-good : ForLine noHeader 0 header (λ l vs. GoodHeader (headerOf vs))
+pub header-good : ForLine noHeader 0 header (λ l vs. GoodHeader (headerOf vs))
 unfolding ForLine table roleNumber inRange isCompound headerOf scalarAt
 header-good = (
   λ p hp a ha c hc m hm g hg q hq n hn. omega (arith, leb-true, first-le, second-le (leb a g) (suc g) (a + c) hg, second-le (leb 1 n) n 3000 hn),

@@ -1,0 +1,4 @@
+pub mod Lines
+pub mod Plan
+pub mod Reached
+pub mod Calls

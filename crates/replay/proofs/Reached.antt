@@ -1,0 +1,208 @@
+-- Running the plan: the run from the start is the run from here, after the cues taken so far. Assumes nothing.
+use mathlib.Core.Path.{_≡_, refl, sym, ap, ap₂, subst, _∙_}
+use mathlib.Core.Bool.{Bool, true, false, false≢true}
+use mathlib.Core.List.{List, [], _∷_}
+use mathlib.Core.Option.{Option, none, some}
+use Prim.Native.Nat.{ℕ, suc, _+_, _*_, _≤_, _<_}
+use native.Mathlib.Numerals.{add-one}
+use native.Mathlib.Omega.{arith}
+use lib.ListN.{length, getD, drop, drop-of-length-le}
+use lib.Seq.{drop-cons}
+use Rattle.rules.specs.declared.Header.{Header}
+use Rattle.rules.specs.State as S
+use Rattle.rules.specs.State.{Action, applies, next, step, actionAt, states, firstStop}
+use Rattle.rules.specs.Text.{number, numberAt}
+use Rattle.rules.specs.Table as T
+use Rattle.rules.specs.Table.{line, readLine}
+use Rattle.rules.specs.Case.{Case}
+use Rattle.rules.specs.Case as C
+use Rattle.rules.specs.Verdict.{statesOf}
+use Rattle.rules.proofs.Judgement.Sound.{Sound, sound}
+use Rattle.state.specs.declared.State.{State}
+use Rattle.state.specs.declared.Stepped.{Stepped}
+use Rattle.state.specs.Action.{actionOf}
+use Rattle.text.specs.declared.Cursor.{Cursor}
+use Rattle.lines.specs.declared.range.Context.{Context}
+use Rattle.reading.specs.Directory.{LineIs, Finds, directorySize}
+use Rattle.rows.specs.Rows.{putRow, putRows}
+use Rattle.replay.specs.declared.again.Sets.{Sets}
+use Rattle.replay.specs.declared.again.Cue.{Cue}
+use Rattle.replay.specs.declared.running.Ran.{Ran}
+use Rattle.replay.specs.declared.running.Ran.the-variants.{All, Stopped}
+use Rattle.replay.specs.Again.{pastLetter, cueRead, ActionSets, InitialSet}
+use Rattle.replay.specs.Running.{caseOf, Left, ranOf, RanAs}
+use Rattle.replay.proofs.Plan.{Cues, plan-cues}
+
+-- ---- What reading left
+
+module _ (text directory : List ℕ) (h : Header) (initial plan : ℕ) (left : Left text directory h initial plan) where
+  pub left-sound : Sound (caseOf text)
+  left-sound = sound text (caseOf text) (left .line) (left .place) (left .reads)
+
+  pub plan-long : length (caseOf text .plan) ≡ h .cues
+  plan-long = left-sound .plan-length ∙ ap (λ (x : Header). x .cues) (sym (left .head))
+
+  pub few-cues : h .cues ≤ 1000
+  few-cues = subst (λ (x : Header). x .cues ≤ 1000) (sym (left .head)) (left-sound .head-good .few-cues)
+
+  action-known : (a : ℕ) → a < h .actions → a < caseOf text .head .actions
+  action-known a b = subst (λ (x : Header). a < x .actions) (left .head) b
+
+  pub cue-known : (a : ℕ) → a < caseOf text .head .actions → a < h .actions
+  cue-known a b = subst (λ (x : Header). a < x .actions) (sym (left .head)) b
+
+  pub action-inside : (a : ℕ) → a < h .actions → a < length directory
+  unfolding directorySize
+  action-inside a b =
+      let few = left-sound .head-good .few-actions in
+      let known = action-known a b in
+      let long = left .long in
+      omega arith
+
+  -- The action line that the directory finds, read again.
+  found : (a place : ℕ) → a < h .actions → place ≡ getD directory a 0 → (r : Sets) → ActionSets text (record { header = h; subtasks = 0 }) place r
+      → actionOf (r .needed) (r .forbidden) (r .added) (r .deleted) ≡ actionAt (caseOf text .actions) a
+  found a place b e r sets =
+      let f = left .finds in
+      let known = action-known a b in
+      let w = f .actionLine a known in
+      let reads : readLine text T.action h 0 place ≡ line (w .letter) (w .values) (w .next) =
+      (λ j. readLine text T.action (left .head j) 0 (e j)) ∙ w .reads in
+      sets (w .letter) (w .values) (w .next) reads ∙ f .actionSets a known
+
+  pub cue-steps : (a place : ℕ) → a < h .actions → place ≡ getD directory a 0 → (r : Sets) → ActionSets text (record { header = h; subtasks = 0 }) place r
+      → (s : List ℕ) (x : Stepped) → (x .ok, x .state .words) ≡ step s (actionOf (r .needed) (r .forbidden) (r .added) (r .deleted))
+      → (x .ok, x .state .words) ≡ step s (actionAt (caseOf text .actions) a)
+  cue-steps a place b e r sets s x q = q ∙ ap (step s) (found a place b e r sets)
+
+  -- The I line that was found, read again.
+  pub initial-is : (s : State) → InitialSet text (record { header = h; subtasks = 0 }) initial s → s .words ≡ caseOf text .initial
+  initial-is s set =
+      let f = left .finds in
+      let w = f .initialLine in
+      let reads : readLine text T.initial h 0 initial ≡ line (w .letter) (w .values) (w .next) =
+      ap (λ (x : Header). readLine text T.initial x 0 initial) (left .head) ∙ w .reads in
+      set (w .letter) (w .values) (w .next) reads ∙ f .initialSet
+
+-- ---- One step
+
+step-yes : (s : List ℕ) (a : Action) (x : Stepped) → (x .ok, x .state .words) ≡ step s a → x .ok ≡ true → (applies s a ≡ true) × (x .state .words ≡ next s a)
+unfolding step
+step-yes s a x e ok = go (applies s a) refl e
+  where
+    go : (b : Bool) → applies s a ≡ b → _≡_ {A = Bool × List ℕ} (x .ok, x .state .words) (elim b as (λ t. Bool × List ℕ) [ true ↦ (true, next s a) | false ↦ (false, s) ])
+        → (applies s a ≡ true) × (x .state .words ≡ next s a)
+    go true q e = (q, ap (λ (p : Bool × List ℕ). p .1) e)
+    go false q e = absurd (false≢true (sym (ap (λ (p : Bool × List ℕ). p .0) e) ∙ ok))
+
+step-no : (s : List ℕ) (a : Action) (x : Stepped) → (x .ok, x .state .words) ≡ step s a → x .ok ≡ false → applies s a ≡ false
+unfolding step
+step-no s a x e ok = go (applies s a) refl e
+  where
+    go : (b : Bool) → applies s a ≡ b → _≡_ {A = Bool × List ℕ} (x .ok, x .state .words) (elim b as (λ t. Bool × List ℕ) [ true ↦ (true, next s a) | false ↦ (false, s) ])
+        → applies s a ≡ false
+    go true q e = absurd (false≢true (sym ok ∙ ap (λ (p : Bool × List ℕ). p .0) e))
+    go false q e = q
+
+stop-next : (actions : List Action) (a : ℕ) (rest : List ℕ) (s t : List ℕ) (i : ℕ) → applies s (actionAt actions a) ≡ true → t ≡ next s (actionAt actions a)
+    → firstStop actions (a ∷ rest) s i ≡ firstStop actions rest t (i + 1)
+unfolding firstStop
+stop-next actions a rest s t i e q =
+    ap (λ (b : Bool). elim b as (λ x. Option ℕ) [ true ↦ firstStop actions rest (next s (actionAt actions a)) (i + 1) | false ↦ some i ]) e
+    ∙ ap (λ (x : List ℕ). firstStop actions rest x (i + 1)) (sym q)
+
+stop-here : (actions : List Action) (a : ℕ) (rest : List ℕ) (s : List ℕ) (i : ℕ) → applies s (actionAt actions a) ≡ false
+    → firstStop actions (a ∷ rest) s i ≡ some i
+unfolding firstStop
+stop-here actions a rest s i e =
+    ap (λ (b : Bool). elim b as (λ x. Option ℕ) [ true ↦ firstStop actions rest (next s (actionAt actions a)) (i + 1) | false ↦ some i ]) e
+
+rows-next : (actions : List Action) (a : ℕ) (rest : List ℕ) (s t : List ℕ) (l m : List ℕ) (i : ℕ) → t ≡ next s (actionAt actions a) → m ≡ putRow l i s
+    → putRows l i (states actions (a ∷ rest) s) ≡ putRows m (i + 1) (states actions rest t)
+unfolding states
+rows-next actions a rest s t l m i q e = λ j. putRows (sym e j) (i + 1) (states actions rest (sym q j))
+
+-- ---- The run so far
+
+-- i cues are taken: the cues that are left stand from c on, s is state i, and the states before it are written.
+pub record Reached (text : List ℕ) (k : Case) (before : List ℕ) (c : Cursor) (s : State) (l : List ℕ) (i : ℕ) : Type 0 where
+  pub most : i ≤ length (k .plan)
+  pub size : length l ≡ length before
+  pub cues : Cues text (k .head .actions) (drop i (k .plan)) (c .at)
+  pub stop : firstStop (k .actions) (k .plan) (k .initial) 1 ≡ firstStop (k .actions) (drop i (k .plan)) (s .words) (i + 1)
+  pub rows : putRows before 0 (statesOf k) ≡ putRows l i (states (k .actions) (drop i (k .plan)) (s .words))
+
+pub reached-none : (text directory : List ℕ) (h : Header) (initial plan : ℕ) → Left text directory h initial plan → (l : List ℕ) (c : Cursor) (s : State)
+    → c .at ≡ pastLetter text plan → s .words ≡ caseOf text .initial → Reached text (caseOf text) l c s l 0
+unfolding statesOf
+reached-none text directory h initial plan left l c s e q =
+    let k = caseOf text in
+    let f = left .finds in
+    record {
+      most = omega arith;
+      size = refl;
+      cues = subst (λ (p : ℕ). Cues text (k .head .actions) (k .plan) p) (sym e) (plan-cues text k plan (f .planLine) (f .planCues));
+      stop = ap (λ (x : List ℕ). firstStop (k .actions) (k .plan) x 1) (sym q);
+      rows = ap (λ (x : List ℕ). putRows l 0 (states (k .actions) (k .plan) x)) (sym q);
+    }
+
+-- The cue that is due, and what stands after it.
+record Due (text : List ℕ) (k : Case) (cue : Cue) (i : ℕ) : Type 0 where
+  split : drop i (k .plan) ≡ cue .action ∷ drop (i + 1) (k .plan)
+  known : cue .action < k .head .actions
+  later : Cues text (k .head .actions) (drop (i + 1) (k .plan)) (cue .next .at)
+
+module _ (text : List ℕ) (k : Case) (before : List ℕ) (c : Cursor) (s : State) (l : List ℕ) (i : ℕ) (w : Reached text k before c s l i) where
+  module _ (more : i < length (k .plan)) (cue : Cue) (read : cue ≡ cueRead c (numberAt text (c .at))) where
+    due : Due text k cue i
+    due =
+        let split : drop i (k .plan) ≡ getD (k .plan) i 0 ∷ drop (i + 1) (k .plan) =
+        drop-cons (k .plan) i 0 more ∙ ap (λ (n : ℕ). getD (k .plan) i 0 ∷ drop n (k .plan)) (sym (add-one i)) in
+        let all = subst (λ (plan : List ℕ). Cues text (k .head .actions) plan (c .at)) split (w .cues) in
+        let same : cue ≡ cueRead c (number (getD (k .plan) i 0) (all .0)) = read ∙ ap (cueRead c) (all .1) in
+        let named : cue .action ≡ getD (k .plan) i 0 = ap (λ (x : Cue). x .action) same in
+        let there : cue .next .at ≡ all .0 = ap (λ (x : Cue). x .next .at) same in
+        record {
+          split = split ∙ ap (λ (a : ℕ). a ∷ drop (i + 1) (k .plan)) (sym named);
+          known = subst (λ (a : ℕ). a < k .head .actions) (sym named) (all .2);
+          later = subst (λ (p : ℕ). Cues text (k .head .actions) (drop (i + 1) (k .plan)) p) (sym there) (all .3);
+        }
+
+    pub due-known : cue .action < k .head .actions
+    due-known = due .known
+
+    module _ (x : Stepped) (steps : (x .ok, x .state .words) ≡ step (s .words) (actionAt (k .actions) (cue .action))) where
+      pub reached-next : (m : List ℕ) → x .ok ≡ true → length m ≡ length before → m ≡ putRow l i (s .words)
+          → Reached text k before (cue .next) (x .state) m (i + 1)
+      reached-next m ok size e =
+          let d = due in
+          let y = step-yes (s .words) (actionAt (k .actions) (cue .action)) x steps ok in
+          record {
+            most = omega arith;
+            size = size;
+            cues = d .later;
+            stop = w .stop ∙ ap (λ (plan : List ℕ). firstStop (k .actions) plan (s .words) (i + 1)) (d .split)
+                ∙ stop-next (k .actions) (cue .action) (drop (i + 1) (k .plan)) (s .words) (x .state .words) (i + 1) (y .0) (y .1);
+            rows = w .rows ∙ ap (λ (plan : List ℕ). putRows l i (states (k .actions) plan (s .words))) (d .split)
+                ∙ rows-next (k .actions) (cue .action) (drop (i + 1) (k .plan)) (s .words) (x .state .words) l m i (y .1) e;
+          }
+
+      pub reached-stop : (after : List ℕ) → x .ok ≡ false → RanAs k (Stopped (i + 1)) before after
+      reached-stop after fails =
+          let d = due in
+          record {
+            answer = sym (ap ranOf
+                (w .stop ∙ ap (λ (plan : List ℕ). firstStop (k .actions) plan (s .words) (i + 1)) (d .split)
+                ∙ stop-here (k .actions) (cue .action) (drop (i + 1) (k .plan)) (s .words) (i + 1)
+                (step-no (s .words) (actionAt (k .actions) (cue .action)) x steps fails)));
+            written = λ e. let z : _≡_ {A = ℕ} 0 1 = cc in absurd (omega arith);
+          }
+
+  pub reached-all : (m : List ℕ) → length (k .plan) ≤ i → m ≡ putRow l i (s .words) → RanAs k All before m
+  unfolding states firstStop
+  reached-all m over e =
+      let none-left : drop i (k .plan) ≡ [] = drop-of-length-le (k .plan) {i = i} over in
+      record {
+        answer = sym (ap ranOf (w .stop ∙ ap (λ (plan : List ℕ). firstStop (k .actions) plan (s .words) (i + 1)) none-left));
+        written = λ all. sym (w .rows ∙ ap (λ (plan : List ℕ). putRows l i (states (k .actions) plan (s .words))) none-left ∙ sym e);
+      }

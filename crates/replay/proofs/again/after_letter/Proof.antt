@@ -1,0 +1,30 @@
+-- `after_letter`: by what the cursor read. Assumes nothing.
+use Rattle.replay.proofs.Lines.{letter-read}
+use Rattle.replay.proofs.again.after_letter.Statement.{statement}
+use Rattle.replay.proofs.again.after_letter.Tie as tie
+use Rattle.text.specs.declared.Letter.the-variants.{Byte, Wrong}
+use borrow.Author.Needs.{needs}
+use mathlib.Core.Path.{sym, _∙_}
+
+letter-requires : tie.Need-letter-requires
+letter-requires c κs = search needs
+
+enum-known-next : tie.Need-enum-known-next
+enum-known-next c = search needs
+
+enum-told : tie.Need-enum-told
+enum-told c = search needs
+
+returns : tie.Need-returns
+returns c =
+    let a = c .before .before .before .before .before .args in
+    letter-read (a .text .now) (a .c) (Byte (c .before .next .given .0 .0) (c .before .next .given .0 .1 .0)) (sym (c .before .next .given .1) ∙ c .before .before .before .letter .ensures)
+
+returns-2 : tie.Need-returns-2
+returns-2 c =
+    let a = c .before .before .before .before .args in
+    letter-read (a .text .now) (a .c) Wrong (sym (c .enum-told .given .1) ∙ c .before .before .letter .ensures)
+
+pub after-letter-spec : {M : Type 1} → statement M
+after-letter-spec =
+    tie.close (tie.spec letter-requires enum-known-next enum-told returns returns-2)
