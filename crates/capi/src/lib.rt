@@ -1,0 +1,97 @@
+// The calls for C and Rust. An exported call returns a struct of numbers, since it cannot return an enum.
+use rules::Answer;
+use state::State;
+ghost use mathlib.Core.Path.{_≡_};
+ghost use lib.ListN.{length};
+ghost use Rattle.rules.specs.State.{step};
+ghost use Rattle.rules.specs.Verdict.{replay, replayLists, answerOf, statesAfter, workAfter, refusal, reported};
+ghost use Rattle.capi.specs.Replies.{replyOf, stepReply};
+
+// The answer's row of the table: number, line and item, 0 for acceptance; k and n of an acceptance, 0 for a refusal.
+#[repr(C)]
+pub struct Reply {
+    pub number: u32,
+    pub line: u32,
+    pub item: u32,
+    pub cues: u32,
+    pub nodes: u32,
+}
+
+fn refusal(number: u32, line: u32, item: u32) -> Reply
+    ensures { λ r. ⌜ r ≡ replyOf (refusal number line item) ⌝ }
+{
+    Reply {
+        number: number,
+        line: line,
+        item: item,
+        cues: 0,
+        nodes: 0,
+    }
+}
+
+// The paper's numbers for an answer.
+pub fn as_reply(answer: Answer) -> Reply
+    ensures { λ r. ⌜ r ≡ replyOf (reported answer) ⌝ }
+{
+    match answer {
+        Answer::Accepted { cues, nodes } => Reply {
+            number: 0,
+            line: 0,
+            item: 0,
+            cues: cues,
+            nodes: nodes,
+        },
+        Answer::ShortList { list } => refusal(1, 0, list),
+        Answer::LongText => refusal(2, 0, 0),
+        Answer::Unreadable { line, field } => refusal(3, line, field),
+        Answer::OutOfRange { line, field } => refusal(4, line, field),
+        Answer::Inapplicable { line, cue } => refusal(5, line, cue),
+        Answer::WrongNode { line } => refusal(6, line, 0),
+        Answer::TooDeep { line } => refusal(7, line, 0),
+        Answer::WrongClaim { line, position } => refusal(8, line, position),
+        Answer::Unclaimed { line, position } => refusal(9, line, position),
+        Answer::OrderBroken { line, constraint } => refusal(10, line, constraint),
+        Answer::BeforeBroken { line, constraint } => refusal(11, line, constraint),
+        Answer::AfterBroken { line, constraint } => refusal(12, line, constraint),
+        Answer::BetweenBroken { line, constraint } => refusal(13, line, constraint),
+    }
+}
+
+// The replay call.
+#[no_mangle]
+pub extern "C" fn cuecheck_replay(text: &[u8], states: &mut [u64], work: &mut [u32]) -> Reply
+    ensures reply { λ r. ⌜ r ≡ replyOf (reported (answerOf (replay (replayLists (length (now (states .entry))) (length (now (work .entry)))) (now (text .entry))))) ⌝ }
+    ensures states { λ r. ⌜ now (states .exit) ≡ statesAfter (length (now (states .entry))) (replay (replayLists (length (now (states .entry))) (length (now (work .entry)))) (now (text .entry))) ⌝ }
+    ensures work { λ r. ⌜ now (work .exit) ≡ workAfter (length (now (work .entry))) ⌝ }
+{
+    as_reply(replay::replay(text, states, work))
+}
+
+// The step call: 1 and the next state in the place of the state; or 0, and the state as it came.
+#[no_mangle]
+pub extern "C" fn cuecheck_step(
+    state: &mut [u64; 4],
+    needed: &[u64; 4],
+    forbidden: &[u64; 4],
+    added: &[u64; 4],
+    deleted: &[u64; 4],
+) -> u32
+    ensures { λ r. ⌜ (r, now (state .exit)) ≡ stepReply (step (now (state .entry)) (record { needed = now (needed .entry); forbidden = now (forbidden .entry); added = now (added .entry); deleted = now (deleted .entry) })) ⌝ }
+{
+    let words = *state;
+    let needs = *needed;
+    let forbids = *forbidden;
+    let adds = *added;
+    let deletes = *deleted;
+    let r = state::step(
+        State { words },
+        State { words: needs },
+        State { words: forbids },
+        State { words: adds },
+        State { words: deletes },
+    );
+    let next = r.state;
+    let words = next.words;
+    *state = words;
+    if r.ok { 1 } else { 0 }
+}
