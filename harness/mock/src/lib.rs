@@ -1,0 +1,56 @@
+//! The C calls of libcapi.a answered by the plain rendering, with a bug if a feature asks.
+
+#[allow(dead_code)]
+#[path = "../../src/plain.rs"]
+mod plain;
+
+use plain::{Answer, Node};
+use std::slice::{from_raw_parts, from_raw_parts_mut};
+
+/// # Safety
+/// Each pointer is valid for its length, and no two lists overlap.
+#[no_mangle]
+pub unsafe extern "C" fn cuecheck_replay(
+    text: *const u8,
+    text_len: usize,
+    states: *mut u64,
+    states_len: usize,
+    work: *mut u32,
+    work_len: usize,
+) -> Answer {
+    let (text, states, work) =
+        (from_raw_parts(text, text_len), from_raw_parts_mut(states, states_len), from_raw_parts_mut(work, work_len));
+    spoiled(plain::replay(text, states, work), states, work)
+}
+
+/// # Safety
+/// Each pointer is valid for its length, and no two lists overlap.
+#[no_mangle]
+pub unsafe extern "C" fn cuecheck_check(
+    text: *const u8,
+    text_len: usize,
+    states: *mut u64,
+    states_len: usize,
+    nodes: *mut Node,
+    nodes_len: usize,
+    work: *mut u32,
+    work_len: usize,
+) -> Answer {
+    let (text, states, work) =
+        (from_raw_parts(text, text_len), from_raw_parts_mut(states, states_len), from_raw_parts_mut(work, work_len));
+    spoiled(plain::check(text, states, from_raw_parts_mut(nodes, nodes_len), work), states, work)
+}
+
+/// The answer and the lists as they came, or with the bug that the features ask for.
+unsafe fn spoiled(mut answer: Answer, states: &mut [u64], work: &mut [u32]) -> Answer {
+    if cfg!(feature = "bug-answer") && answer.number == 3 && answer.item == 8 {
+        answer.item = 7;
+    }
+    if cfg!(feature = "bug-dirty-work") && work.len() > 16_384 {
+        work[16_384] = 1;
+    }
+    if cfg!(feature = "bug-overrun") && states.len() == 4_003 {
+        *states.as_mut_ptr().add(4_003) = 7;
+    }
+    answer
+}

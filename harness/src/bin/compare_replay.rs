@@ -1,0 +1,18 @@
+//! RUSTFLAGS="-L native=target/staticlib" cargo run --release --offline --features link-replay --bin compare_replay -- COUNT SEED
+//!
+//! Compares the linked replay call with the plain one.
+
+use harness::{compare, linked, plain};
+
+fn main() {
+    compare::run(
+        |text, lists, lengths| {
+            let (states, _, work) = lists.lend(lengths);
+            plain::replay(text, states, work)
+        },
+        |text, lists, lengths| {
+            let (states, _, work) = lists.lend(lengths);
+            linked::replay(text, states, work)
+        },
+    );
+}

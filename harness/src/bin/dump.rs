@@ -1,0 +1,66 @@
+//! Writes generated inputs with the plain rendering's answers and lists, for tools/naive.py.
+//!
+//! dump COUNT SEED FILE
+//!
+//! A record, all numbers little-endian: the text, three list lengths, the check call's answer,
+//! states, nodes and work, the replay call's answer, states and work. A list is its count and
+//! its members; the zeros at the end of a lent list are left out.
+
+use harness::gen::Inputs;
+use harness::lists::{Dirt, Lengths, Lists};
+use harness::plain::{check, replay, Answer, Node};
+use std::io::{BufWriter, Result, Write};
+
+fn main() -> Result<()> {
+    let arguments: Vec<String> = std::env::args().skip(1).collect();
+    let [count, seed, file] = &arguments[..] else {
+        eprintln!("arguments: count seed file");
+        std::process::exit(2);
+    };
+    let inputs = Inputs::new(seed.parse().expect("a seed"));
+    let mut out = BufWriter::new(std::fs::File::create(file)?);
+    let mut lists = Lists::default();
+    for number in 0..count.parse().expect("a count") {
+        let mut rng = inputs.rng(number);
+        let text = inputs.text(&mut rng);
+        let lengths = if rng.percent(85) { Lengths::EXACT } else { Lengths::draw(&mut rng) };
+        write_list(&mut out, &text, |byte| vec![byte])?;
+        for length in [lengths.states, lengths.nodes, lengths.work] {
+            out.write_all(&(length as u32).to_le_bytes())?;
+        }
+        lists.soil(Dirt::draw(&mut rng));
+        let (states, nodes, work) = lists.lend(lengths);
+        write_answer(&mut out, check(&text, states, nodes, work))?;
+        write_list(&mut out, states, |word| word.to_le_bytes().to_vec())?;
+        let flat: Vec<u32> = nodes.iter().flat_map(|&node| numbers(node)).collect();
+        write_list(&mut out, &flat, |number| number.to_le_bytes().to_vec())?;
+        write_list(&mut out, work, |number| number.to_le_bytes().to_vec())?;
+        lists.soil(Dirt::draw(&mut rng));
+        let (states, _, work) = lists.lend(lengths);
+        write_answer(&mut out, replay(&text, states, work))?;
+        write_list(&mut out, states, |word| word.to_le_bytes().to_vec())?;
+        write_list(&mut out, work, |number| number.to_le_bytes().to_vec())?;
+    }
+    out.flush()
+}
+
+fn numbers(node: Node) -> [u32; 5] {
+    [node.letter, node.label, node.place, node.start, node.end]
+}
+
+fn write_answer(out: &mut impl Write, answer: Answer) -> Result<()> {
+    for number in [answer.number, answer.line, answer.item, answer.cues, answer.nodes] {
+        out.write_all(&number.to_le_bytes())?;
+    }
+    Ok(())
+}
+
+/// Writes a list without the zeros at its end. (No text ends in a zero byte by 01's rules, but
+/// a damaged one may: texts are written whole.)
+fn write_list<T: Copy>(out: &mut impl Write, list: &[T], bytes: impl Fn(T) -> Vec<u8>) -> Result<()> {
+    let is_zero = |item: &T| bytes(*item).iter().all(|&byte| byte == 0);
+    let whole = size_of::<T>() == 1;
+    let count = if whole { list.len() } else { list.iter().rposition(|item| !is_zero(item)).map_or(0, |last| last + 1) };
+    out.write_all(&(count as u32).to_le_bytes())?;
+    list[..count].iter().try_for_each(|&item| out.write_all(&bytes(item)))
+}

@@ -1,0 +1,335 @@
+//! Cases of chosen size: deep chains, typical plans, the dearest cases for a checker, and
+//! every limit of 01 met exactly or passed by one.
+
+use super::{animate, constrain, finish, grow, place};
+use super::{ActionSets, Constraint, Draft, Line, Method, Rng, Strictness, Weave};
+
+fn method(task: u32, subtasks: Vec<u32>) -> Method {
+    Method { task, subtasks, constraints: Vec::new() }
+}
+
+fn skeleton(propositions: u32, actions: usize, compound: u32, methods: Vec<Method>) -> Draft {
+    Draft {
+        propositions,
+        palette: (0..propositions).collect(),
+        compound,
+        goal: actions as u32,
+        actions: vec![ActionSets::default(); actions],
+        methods,
+        ..Draft::default()
+    }
+}
+
+// ---------------------------------------------------------------- deep chains
+
+/// A chain whose deepest node is on the given level; a leaf now and then hangs beside it. Gives
+/// back the number of that node too.
+pub fn chain(rng: &mut Rng, levels: usize) -> (Draft, usize) {
+    let actions = rng.between(1, 2);
+    let t = actions as u32;
+    let mut a = || rng.below(actions) as u32;
+    let methods =
+        vec![method(t, vec![t]), method(t, vec![t, a()]), method(t, vec![a(), t]), method(t, vec![a()]), method(t, vec![])];
+    let propositions = rng.below(4) as u32;
+    let mut draft = skeleton(propositions, actions, 1, methods);
+    let ends_in_leaf = rng.percent(50);
+    let mut deepest = 0;
+    let mut tree = grow(&draft, &mut |_, level, at| {
+        if level >= levels {
+            deepest = at;
+            4
+        } else if level + 1 == levels && ends_in_leaf {
+            deepest = at + 1;
+            3
+        } else if rng.percent(70) {
+            0
+        } else {
+            rng.between(1, 2) as u32
+        }
+    });
+    let weave = *rng.pick(&[Weave::Ordered, Weave::Woven]);
+    finish(rng, &mut draft, &mut tree, weave, Strictness { most: 2, tries: 4, broken: 0 });
+    (draft, deepest)
+}
+
+// ---------------------------------------------------------------- typical plans
+
+/// What a show of so many cues might look like: a running order of sections, panels of five
+/// cues in each, and small tasks that are often done already. `cues` is a multiple of 20.
+pub fn typical(seed: u64, cues: usize, weave: Weave) -> Draft {
+    let rng = &mut Rng::new(seed);
+    let big = cues > 200;
+    let (actions, sections, panels, smalls) = if big { (340, 10, 130, 30) } else { (30, 3, 8, 4) };
+    let per_section = if big { 8 } else { 4 };
+    let mut draft = skeleton(if big { 64 } else { 24 }, actions, (1 + sections + panels + 2 * smalls) as u32, vec![]);
+    let first = |group: usize| (actions + [0, 1, 1 + sections, 1 + sections + panels][group]) as u32;
+    // Smalls in pairs: an empty one, and one that is always a single cue.
+    let pick = |rng: &mut Rng, group: usize, count: usize| first(group) + rng.below(count) as u32;
+    let running_order = (0..cues / 5 / per_section).map(|_| pick(rng, 1, sections)).collect();
+    draft.methods.push(method(first(0), running_order));
+    for section in 0..sections {
+        let subtasks = (0..per_section).map(|_| pick(rng, 2, panels)).collect();
+        draft.methods.push(method(first(1) + section as u32, subtasks));
+    }
+    for panel in 0..2 * panels {
+        let mut subtasks: Vec<u32> = (0..4).map(|_| rng.below(actions) as u32).collect();
+        subtasks.insert(rng.below(4), first(3) + 2 * rng.below(smalls) as u32);
+        subtasks.insert(rng.below(5), first(3) + 2 * rng.below(smalls) as u32 + 1);
+        draft.methods.push(method(first(2) + (panel % panels) as u32, subtasks));
+    }
+    for small in 0..4 * smalls {
+        let task = first(3) + (small % (2 * smalls)) as u32;
+        let cue = (small % 2 == 1).then(|| rng.below(actions) as u32);
+        draft.methods.push(method(task, cue.into_iter().collect()));
+    }
+    let mut tree = grow(&draft, &mut |task, _, _| {
+        let own: Vec<usize> = (0..draft.methods.len()).filter(|&m| draft.methods[m].task == task).collect();
+        *rng.pick(&own) as u32
+    });
+    place(rng, &mut draft, &mut tree, weave);
+    animate(rng, &mut draft, if big { 4 } else { 12 });
+    constrain(rng, &mut draft, &tree, Strictness { most: 5, tries: 12, broken: 0 });
+    draft
+}
+
+// ---------------------------------------------------------------- the dearest cases
+
+/// 64 betweens over 1,000 states on each of 648 nodes, in a tree of 2,999.
+pub fn betweens() -> Draft {
+    let (a, g, h, y, s, x, z) = (0, 1, 2, 3, 4, 5, 6);
+    let methods = vec![
+        method(g, [vec![h], vec![s; 21]].concat()),
+        method(h, vec![y; 32]),
+        method(y, vec![a; 32]),
+        method(y, vec![a; 8]),
+        method(s, vec![x; 31]),
+        method(s, vec![x; 28]),
+        method(x, vec![z, z]),
+        method(z, vec![]),
+    ];
+    let mut draft = skeleton(256, 1, 6, methods);
+    draft.methods[6].constraints = (0..64).map(|n| Constraint::Between(1, 4 * n, 2)).collect();
+    draft.initial = (0..256).collect();
+    let (mut ys, mut ss) = (0, 0);
+    let mut tree = grow(&draft, &mut |task, _, _| match task {
+        1 => 0,
+        2 => 1,
+        3 => {
+            ys += 1;
+            2 + u32::from(ys == 32)
+        }
+        4 => {
+            ss += 1;
+            4 + u32::from(ss == 21)
+        }
+        5 => 6,
+        _ => 7,
+    });
+    place(&mut Rng::new(0), &mut draft, &mut tree, Weave::Ordered);
+    let mut late = false;
+    for line in &mut draft.lines {
+        if let Line::E(_, gap) = line {
+            *gap = if late { draft.plan.len() as u32 } else { 0 };
+            late = !late;
+        }
+    }
+    draft
+}
+
+/// 64 betweens of two full sets of 32 subtasks on each of 93 nodes; 64 befores on the others.
+pub fn sets_of_32() -> Draft {
+    let mut draft = skeleton(256, 0, 1, vec![method(0, vec![0; 32]), method(0, vec![])]);
+    draft.methods[0].constraints = vec![Constraint::Between(u32::MAX, 255, u32::MAX); 64];
+    draft.methods[1].constraints = vec![Constraint::Before(255, 0); 64];
+    draft.initial = vec![255];
+    // The goal, its 32 subtasks, and the first 60 of level 3 are decomposed further.
+    let mut split = 0;
+    let tree = grow(&draft, &mut |_, level, _| {
+        let splits = level <= 2 || (level == 3 && split < 93 - 33);
+        split += usize::from(splits && level == 3);
+        u32::from(!splits)
+    });
+    draft.lines = tree.lines;
+    draft
+}
+
+/// Chains down to level 64, about 3,000 nodes in all, 64 constraints on each.
+pub fn levels_64() -> Draft {
+    let (g, c, t) = (0, 1, 2);
+    let methods = vec![
+        method(g, vec![c; 32]),
+        method(c, vec![t]),
+        method(c, vec![t, t]),
+        method(t, vec![t]),
+        method(t, vec![]),
+    ];
+    let mut draft = skeleton(8, 0, 3, methods);
+    draft.initial = (0..8).collect();
+    draft.methods[3].constraints = vec![Constraint::Between(1, 7, 1); 64];
+    draft.methods[4].constraints = vec![Constraint::After(7, 0); 64];
+    let mut cs = 0;
+    let tree = grow(&draft, &mut |task, level, _| match task {
+        0 => 0,
+        1 => {
+            cs += 1;
+            1 + u32::from(cs <= 15)
+        }
+        _ => 3 + u32::from(level == 64),
+    });
+    draft.lines = tree.lines;
+    draft
+}
+
+/// More than 32,000 fields: methods of 32 subtasks as far as the text reaches.
+pub fn fields_32000() -> Draft {
+    let mut draft = skeleton(0, 1, 1, vec![method(1, vec![])]);
+    draft.methods.resize(1 + 896, method(1, vec![0; 32]));
+    draft.lines = vec![Line::E(0, 0)];
+    draft
+}
+
+/// 900 actions with four sets each, all of them in a plan of 1,000 cues.
+pub fn actions_900() -> Draft {
+    let rng = &mut Rng::new(900);
+    let (g, y) = (900, 901);
+    let mut draft = skeleton(100, 900, 2, vec![method(g, vec![y; 32])]);
+    let mut action = 0..;
+    for group in 0..32 {
+        let subtasks = (0..if group < 31 { 32 } else { 8 }).map(|_| action.next().expect("endless") % 900);
+        draft.methods.push(method(y, subtasks.collect()));
+    }
+    let mut groups = 0;
+    let mut tree = grow(&draft, &mut |task, _, _| {
+        groups += u32::from(task == y);
+        groups
+    });
+    place(rng, &mut draft, &mut tree, Weave::Woven);
+    animate(rng, &mut draft, 4);
+    draft
+}
+
+// ---------------------------------------------------------------- the limits
+
+/// A tree of just 3,000 nodes with 1,000 cues, in a model with so many of everything.
+fn three_thousand(actions: usize, compound: u32, methods: usize) -> Draft {
+    let rng = &mut Rng::new(3_000);
+    let g = actions as u32;
+    let (s, x, z) = (g + 1, g + 2, g + 3);
+    let mut a = || rng.below(actions.min(10)) as u32;
+    let mut draft = skeleton(
+        256,
+        actions,
+        compound,
+        vec![
+            method(g, vec![s; 32]),
+            method(s, vec![x; 31]),
+            method(s, vec![x; 30]),
+            method(x, vec![a(), z]),
+            method(x, vec![a(), a()]),
+            method(z, vec![]),
+        ],
+    );
+    draft.methods.resize(methods, method(z, vec![]));
+    // 1 + 32 + 3 * 989 nodes; 11 of the 989 have a second leaf in place of the empty task.
+    let (mut ss, mut xs) = (0, 0);
+    let mut tree = grow(&draft, &mut |task, _, _| {
+        if task == g {
+            0
+        } else if task == s {
+            ss += 1;
+            1 + u32::from(ss > 29)
+        } else if task == x {
+            xs += 1;
+            3 + u32::from(xs <= 11)
+        } else {
+            5
+        }
+    });
+    let rng = &mut Rng::new(3_001);
+    place(rng, &mut draft, &mut tree, Weave::Woven);
+    draft.initial = vec![0, 63, 64, 255];
+    draft.methods[0].constraints = vec![Constraint::Between(1, 255, u32::MAX); 64];
+    draft.methods[5].constraints = vec![Constraint::Before(64, 0), Constraint::Between(0, 63, 0)];
+    draft
+}
+
+/// Sets as full as they get: 256 propositions in the initial state and in an action.
+fn full_sets() -> Draft {
+    let all: Vec<u32> = (0..256).collect();
+    let mut draft = skeleton(256, 2, 1, vec![method(2, vec![0, 1, 0])]);
+    draft.initial = all.clone();
+    draft.actions[0] = [all.clone(), vec![], all.clone(), all.clone()];
+    draft.actions[1] = [vec![255], vec![], vec![0, 64, 128, 255], all];
+    draft.methods[0].constraints = vec![Constraint::Order(0, 1), Constraint::After(255, 2), Constraint::After(1, 1)];
+    draft.plan = vec![0, 0, 1];
+    draft.lines = vec![Line::D(0), Line::L(0, 1), Line::L(1, 3), Line::L(0, 2)];
+    draft
+}
+
+/// The draft's text brought to just this length by filling the sets of actions not in the
+/// plan: a member of one digit is 2 bytes, one of two digits 3.
+fn padded(mut draft: Draft, length: usize) -> Vec<u8> {
+    let mut lacking = length - draft.text().len();
+    let spare: Vec<usize> = (0..draft.actions.len()).filter(|&a| !draft.plan.contains(&(a as u32))).collect();
+    for set in spare.into_iter().flat_map(|a| (0..4).map(move |s| (a, s))) {
+        let set = &mut draft.actions[set.0][set.1];
+        let small = matches!(lacking, 2 | 4);
+        while lacking > 1 && set.len() < 9 && small == matches!(lacking, 2 | 4) {
+            set.push(set.len() as u32 + if small { 0 } else { 10 });
+            lacking -= if small { 2 } else { 3 };
+        }
+    }
+    draft.text()
+}
+
+/// A method with one subtask, constraint or node more than there may be, and such.
+fn over_limits() -> Vec<(&'static str, Vec<u8>)> {
+    let mut subtasks = sets_of_32();
+    subtasks.methods[0].subtasks.push(0);
+    let mut constraints = sets_of_32();
+    constraints.methods[1].constraints.push(Constraint::Before(255, 0));
+    let mut nodes = three_thousand(10, 4, 6);
+    nodes.lines.push(Line::E(5, 0));
+    let mut cues = three_thousand(10, 4, 6);
+    cues.plan.push(0);
+    let mut deep = levels_64();
+    deep.goal = 2;
+    deep.lines = [vec![Line::D(3); 64], vec![Line::E(4, 0)]].concat();
+    vec![
+        ("33 subtasks", subtasks.text()),
+        ("65 constraints", constraints.text()),
+        ("3001 nodes", nodes.text()),
+        ("1001 cues", cues.text()),
+        ("65 levels", deep.text()),
+        ("257 propositions", skeleton(257, 0, 1, vec![]).text()),
+        ("1025 compound tasks", skeleton(0, 0, 1_025, vec![method(0, vec![])]).text()),
+        ("1025 actions", skeleton(0, 1_025, 1, vec![]).text()),
+        ("2049 methods", skeleton(0, 0, 1, vec![method(0, vec![]); 2_049]).text()),
+    ]
+}
+
+/// Every case of this file, by name.
+pub fn all() -> Vec<(&'static str, Vec<u8>)> {
+    let at_limits = three_thousand(1_024, 1_024, 2_048);
+    let mut cases = vec![
+        ("60 cues, ordered", typical(60, 60, Weave::Ordered).text()),
+        ("60 cues, woven", typical(61, 60, Weave::Woven).text()),
+        ("1000 cues, ordered", typical(1_000, 1_000, Weave::Ordered).text()),
+        ("1000 cues, woven", typical(1_001, 1_000, Weave::Woven).text()),
+        ("betweens", betweens().text()),
+        ("sets of 32", sets_of_32().text()),
+        ("64 levels", levels_64().text()),
+        ("32000 fields", fields_32000().text()),
+        ("900 actions", actions_900().text()),
+        ("3000 nodes", three_thousand(10, 4, 6).text()),
+        ("full sets", full_sets().text()),
+        ("all limits", at_limits.text()),
+        ("65534 bytes", padded(at_limits.clone(), 65_534)),
+        ("65535 bytes", padded(at_limits.clone(), 65_535)),
+        ("65536 bytes", padded(at_limits, 65_536)),
+        ("empty", Vec::new()),
+        ("line feed", b"\n".to_vec()),
+    ];
+    cases.extend(over_limits());
+    cases
+}

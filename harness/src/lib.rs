@@ -1,0 +1,9 @@
+//! A plain rendering of document 01 and the tools that compare a linked library with it.
+
+pub mod compare;
+pub mod gen;
+pub mod lists;
+pub mod plain;
+
+#[cfg(any(feature = "link-replay", feature = "link-check"))]
+pub mod linked;

@@ -1,0 +1,117 @@
+//! Lent lists for the calls: any length, any dirt, and margins that show a write outside.
+
+use crate::gen::Rng;
+use crate::plain::{Node, NODES_ASKED, STATES_ASKED, WORK_ASKED};
+
+/// How long the lent lists are.
+#[derive(Clone, Copy, Debug)]
+pub struct Lengths {
+    pub states: usize,
+    pub nodes: usize,
+    pub work: usize,
+}
+
+impl Lengths {
+    pub const EXACT: Lengths = Lengths { states: STATES_ASKED, nodes: NODES_ASKED, work: WORK_ASKED };
+
+    /// Each list exact, long by some, short by one, or of no length; mostly long enough.
+    pub fn draw(rng: &mut Rng) -> Lengths {
+        let mut length = |asked: usize| match rng.below(12) {
+            0 => asked - 1,
+            1 => 0,
+            2 => rng.below(asked),
+            3..=6 => asked + rng.between(1, MARGIN / 2),
+            _ => asked,
+        };
+        Lengths { states: length(STATES_ASKED), nodes: length(NODES_ASKED), work: length(WORK_ASKED) }
+    }
+}
+
+/// What lies behind a lent list at the least.
+const MARGIN: usize = 64;
+
+/// The lists that one side of a comparison lends; only a front part of each is lent.
+pub struct Lists {
+    states: Vec<u64>,
+    nodes: Vec<Node>,
+    work: Vec<u32>,
+}
+
+impl Default for Lists {
+    fn default() -> Lists {
+        Lists {
+            states: vec![0; STATES_ASKED + MARGIN],
+            nodes: vec![Node::default(); NODES_ASKED + MARGIN],
+            work: vec![0; WORK_ASKED + MARGIN],
+        }
+    }
+}
+
+/// What the lists hold before a call.
+#[derive(Clone, Copy, Debug)]
+pub enum Dirt {
+    Same(u32),
+    Counting,
+}
+
+impl Dirt {
+    pub fn draw(rng: &mut Rng) -> Dirt {
+        match rng.below(5) {
+            0 => Dirt::Same(0),
+            1 => Dirt::Same(1),
+            2 => Dirt::Same(u32::MAX),
+            3 => Dirt::Same(rng.next() as u32),
+            _ => Dirt::Counting,
+        }
+    }
+
+    fn at(self, index: usize) -> u32 {
+        match self {
+            Dirt::Same(value) => value,
+            Dirt::Counting => index as u32,
+        }
+    }
+}
+
+impl Lists {
+    /// Fills every list with dirt, margins too.
+    pub fn soil(&mut self, dirt: Dirt) {
+        for (i, state) in self.states.iter_mut().enumerate() {
+            *state = u64::from(dirt.at(i)) * 0x1_0000_0001;
+        }
+        for (i, node) in self.nodes.iter_mut().enumerate() {
+            let value = dirt.at(i);
+            *node = Node { letter: value, label: value, place: value, start: value, end: value };
+        }
+        for (i, number) in self.work.iter_mut().enumerate() {
+            *number = dirt.at(i);
+        }
+    }
+
+    pub fn lend(&mut self, lengths: Lengths) -> (&mut [u64], &mut [Node], &mut [u32]) {
+        (&mut self.states[..lengths.states], &mut self.nodes[..lengths.nodes], &mut self.work[..lengths.work])
+    }
+
+    pub fn states(&self) -> &[u64] {
+        &self.states
+    }
+
+    pub fn nodes(&self) -> &[Node] {
+        &self.nodes
+    }
+
+    /// The first element, margins included, in which two sides differ.
+    pub fn first_difference(&self, other: &Lists) -> Option<String> {
+        differing("states", &self.states, &other.states)
+            .or_else(|| differing("nodes", &self.nodes, &other.nodes))
+            .or_else(|| differing("work", &self.work, &other.work))
+    }
+}
+
+fn differing<T: PartialEq + std::fmt::Debug>(name: &str, plain: &[T], linked: &[T]) -> Option<String> {
+    if plain == linked {
+        return None;
+    }
+    let at = plain.iter().zip(linked).position(|(a, b)| a != b)?;
+    Some(format!("{name}[{at}]: plain {:?}, linked {:?}", plain[at], linked[at]))
+}

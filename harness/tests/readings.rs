@@ -1,0 +1,147 @@
+//! The panel cases of document 01 and the settled readings, each as a text and its answer.
+
+use harness::lists::{Dirt, Lengths, Lists};
+use harness::plain::{check, replay, step, Answer};
+
+const CASE_A: &str = "N,3,3,2,3,3,2,4\nI,1,0\nA,0,1,0,1,0,0\nA,0,0,1,1,0\nA,1,1,0,1,2,1,1\nM,3,3,4,1,2,3\nO,0,2\n\
+    O,1,2\nW,1,0,4\nM,4,1,0,0\nM,4,0,1\nB,0,0\nP,1,2\nD,0\nE,2,0\nL,1,1\nL,2,2\n";
+
+fn printed(answer: Answer) -> String {
+    match answer {
+        Answer { number: 0, line: 0, item: 0, cues, nodes } => format!("Y,{cues},{nodes}"),
+        Answer { number, line, item, cues: 0, nodes: 0 } => format!("R,{number},{line},{item}"),
+        odd => format!("{odd:?}"),
+    }
+}
+
+fn checked(text: &[u8]) -> String {
+    let mut lists = Lists::default();
+    lists.soil(Dirt::Counting);
+    let (states, nodes, work) = lists.lend(Lengths::EXACT);
+    printed(check(text, states, nodes, work))
+}
+
+/// Case a with some lines replaced, counted from 1; an empty replacement drops the line.
+fn case_a(changes: &[(usize, &str)]) -> String {
+    let lines = CASE_A.lines().enumerate().map(|(i, line)| {
+        changes.iter().find(|(number, _)| *number == i + 1).map_or(line, |(_, changed)| changed)
+    });
+    lines.filter(|line| !line.is_empty()).map(|line| format!("{line}\n")).collect()
+}
+
+#[track_caller]
+fn expect(changes: &[(usize, &str)], answer: &str) {
+    assert_eq!(checked(case_a(changes).as_bytes()), answer);
+}
+
+#[test]
+fn panel_cases() {
+    let i = [(1, "N,3,3,2,3,4,0,1"), (13, "P"), (14, "E,2,0"), (15, ""), (16, ""), (17, "")];
+    expect(&[], "Y,2,4");
+    expect(&[(15, "E,2,1")], "Y,2,4");
+    expect(&[(15, "E,2,2")], "R,10,14,0");
+    expect(&[(2, "I,0")], "R,13,14,2");
+    expect(&[(13, "P,2,1")], "R,5,13,1");
+    expect(&[(17, "L,2,1")], "R,8,17,1");
+    expect(&[(1, "N,3,3,2,3,3,2,3"), (17, "")], "R,6,17,0");
+    expect(&[(15, "E,2,3")], "R,4,15,3");
+    expect(&i, "Y,0,1");
+    expect(&[&i[..], &[(2, "I,0")]].concat(), "R,11,14,0");
+}
+
+#[test]
+fn spans_of_case_a() {
+    let mut lists = Lists::default();
+    lists.soil(Dirt::Same(u32::MAX));
+    let (states, nodes, work) = lists.lend(Lengths::EXACT);
+    check(CASE_A.as_bytes(), states, nodes, work);
+    let records: Vec<[u32; 5]> = nodes[..5].iter().map(|n| [n.letter, n.label, n.place, n.start, n.end]).collect();
+    assert_eq!(records, [[1, 0, 0, 1, 4], [2, 2, 0, 1, 1], [3, 1, 1, 2, 2], [3, 2, 2, 4, 4], [0; 5]]);
+    assert_eq!(states[..16], [1, 0, 0, 0, 3, 0, 0, 0, 5, 0, 0, 0, 0, 0, 0, 0]);
+    assert!(states[12..].iter().all(|&word| word == 0) && work.iter().all(|&number| number == 0));
+}
+
+#[test]
+fn lines() {
+    assert_eq!(checked(b""), "R,3,1,0");
+    assert_eq!(checked(b"\n"), "R,3,1,1");
+    assert_eq!(checked(b"N,257,x"), "R,3,1,0");
+    assert_eq!(checked(b"N,257,x\n"), "R,4,1,2");
+    assert_eq!(checked(b"N,257x\n"), "R,3,1,2");
+    assert_eq!(checked(b"N\n"), "R,3,1,2");
+    assert_eq!(checked(b"n,1\n"), "R,3,1,1");
+    assert_eq!(checked(b"NN,1\n"), "R,3,1,1");
+    let without_feed = CASE_A.trim_end();
+    assert_eq!(checked(without_feed.as_bytes()), "R,3,17,0");
+    for surplus in ["\n", "x", "L,0,1\n", "\0"] {
+        assert_eq!(checked(format!("{CASE_A}{surplus}").as_bytes()), "R,3,18,1");
+    }
+    // A surplus line comes before running, and after every fault of the last due line.
+    assert_eq!(checked(format!("{}\n", case_a(&[(13, "P,2,1")])).as_bytes()), "R,3,18,1");
+    assert_eq!(checked(format!("{}x", case_a(&[(17, "L,2,3")])).as_bytes()), "R,4,17,3");
+    expect(&[(7, "I,0")], "R,3,7,1");
+    expect(&[(15, "O,0,1")], "R,3,15,1");
+}
+
+#[test]
+fn fields() {
+    expect(&[(13, "P,1,2,")], "R,3,13,4");
+    expect(&[(13, "P,1")], "R,3,13,3");
+    expect(&[(13, "P,1,02")], "R,3,13,3");
+    expect(&[(13, "P,1,4294967295")], "R,4,13,3");
+    expect(&[(13, "P,1,4294967296")], "R,3,13,3");
+    expect(&[(13, "P,1,2\r")], "R,3,13,3");
+    expect(&[(2, "I,4,x")], "R,4,2,2");
+    expect(&[(2, "I,3,0,1,2")], "Y,2,4");
+    expect(&[(2, "I,2,1,1")], "R,4,2,4");
+    expect(&[(2, "I,2,1")], "R,3,2,4");
+    expect(&[(7, "O,3,3")], "R,4,7,2");
+    expect(&[(7, "O,2,2")], "R,4,7,3");
+    expect(&[(9, "W,8,0,4")], "R,4,9,2");
+    expect(&[(9, "W,1,3,4")], "R,4,9,3");
+    expect(&[(12, "B,0,1")], "R,4,12,3");
+    // No compound task: the goal is out of range, after the method count.
+    expect(&[(1, "N,3,3,0,3,3,2,4")], "R,4,1,6");
+    expect(&[(1, "N,3,3,0,2049,3,2,4")], "R,4,1,5");
+    let without_cues = [(1, "N,3,3,2,3,4,0,1"), (14, "E,2,0"), (15, ""), (16, ""), (17, "")];
+    let plan = |line| [&without_cues[..], &[(13, line)]].concat();
+    expect(&plan("P,"), "R,3,13,2");
+    expect(&plan("P,0"), "R,3,13,2");
+    let leaf = [(1, "N,3,3,2,3,4,0,1"), (13, "P"), (14, "L,0,0"), (15, ""), (16, ""), (17, "")];
+    expect(&leaf, "R,4,14,3");
+}
+
+#[test]
+fn lists_are_tested_before_the_text() {
+    let long = vec![b'x'; 65_536];
+    let mut lists = Lists::default();
+    let mut answer = |text: &[u8], states, nodes, work| {
+        let (states, nodes, work) = lists.lend(Lengths { states, nodes, work });
+        (printed(check(text, states, nodes, work)), printed(replay(text, states, work)))
+    };
+    let both = |check: &str, replay: &str| (check.to_string(), replay.to_string());
+    assert_eq!(answer(&long, 4_003, 2_999, 16_383), both("R,1,0,1", "R,1,0,1"));
+    assert_eq!(answer(&long, 4_004, 2_999, 16_383), both("R,1,0,2", "R,1,0,3"));
+    assert_eq!(answer(&long, 4_004, 2_999, 16_384), both("R,1,0,2", "R,2,0,0"));
+    assert_eq!(answer(&long, 4_004, 3_000, 0), both("R,1,0,3", "R,1,0,3"));
+    assert_eq!(answer(&long, 4_004, 3_000, 16_384), both("R,2,0,0", "R,2,0,0"));
+    assert_eq!(answer(&long[..65_535], 4_004, 3_000, 16_384), both("R,3,1,0", "R,3,1,0"));
+}
+
+#[test]
+fn replay_reads_the_tree_but_does_not_walk_it() {
+    let mut lists = Lists::default();
+    let (states, _, work) = lists.lend(Lengths::EXACT);
+    assert_eq!(printed(replay(case_a(&[(17, "L,2,1")]).as_bytes(), states, work)), "Y,2,4");
+    assert_eq!(printed(replay(case_a(&[(17, "L,2,3")]).as_bytes(), states, work)), "R,4,17,3");
+    assert_eq!(printed(replay(case_a(&[(13, "P,2,1")]).as_bytes(), states, work)), "R,5,13,1");
+}
+
+#[test]
+fn step_deletes_then_adds() {
+    let none = [0; 4];
+    assert_eq!(step([5, 0, 0, 1 << 63], [1, 0, 0, 1 << 63], [2, 0, 0, 0], [8, 0, 0, 0], [12, 0, 0, 1 << 63]), (true, [9, 0, 0, 0]));
+    assert_eq!(step([5, 0, 0, 0], [2, 0, 0, 0], none, [8, 0, 0, 0], none), (false, [5, 0, 0, 0]));
+    assert_eq!(step([5, 0, 7, 0], none, [0, 0, 4, 0], [8, 0, 0, 0], none), (false, [5, 0, 7, 0]));
+    assert_eq!(step(none, none, none, [u64::MAX; 4], [u64::MAX; 4]), (true, [u64::MAX; 4]));
+}

@@ -1,0 +1,165 @@
+#!/usr/bin/env python3
+"""Shows how much the comparison sees: each mutant is plain.rs with one mistake, built as the
+mock of libcapi.a and compared with the sound rendering. Run in harness/:
+
+    tools/mutants.py [COUNT SEED [FIRST]]
+
+Prints for each mutant the input at which it was found out, or SURVIVED.
+"""
+
+import os
+import shutil
+import subprocess
+import sys
+from pathlib import Path
+
+# Name, text in plain.rs, its replacement (of the first place), and the call if not check.
+MUTANTS = [
+    ("delete after add", "(state[w] & !deleted[w]) | added[w]", "(state[w] | added[w]) & !deleted[w]"),
+    ("forbidden not tested", "(needed[w] & !state[w]) | (forbidden[w] & state[w])", "(needed[w] & !state[w])"),
+    ("needed not tested", "(needed[w] & !state[w]) | (forbidden[w] & state[w])", "(forbidden[w] & state[w])"),
+    ("fourth word not tested", "(0..4).fold(0", "(0..3).fold(0"),
+    ("empty tasks left out of a set", "span = span.joined(self.subtasks[set.trailing_zeros() as usize]);",
+     "let one = self.subtasks[set.trailing_zeros() as usize]; if one.start % 2 == 0 || one.start != one.end || set.count_ones() == 1 && span.end == 0 { span = span.joined(one); }"),
+    ("start rounded down", "self.start.div_ceil(2)", "(self.start / 2).max(1)"),
+    ("end rounded up", "(self.end / 2) as usize", "self.end.div_ceil(2).min(1000) as usize"),
+    ("0 is the first subtask", "return self.whole;", "return *self.subtasks.first().unwrap_or(&self.whole);"),
+    ("between at its ends only", "self.rows[states].iter().fold(u64::MAX, |bits, row| bits & row[word])",
+     "self.rows[states.start][word] & self.rows[states.end - 1][word]"),
+    ("between without its last state", "if states.is_empty() {", "let states = states.start..states.end.saturating_sub(1); if states.is_empty() {"),
+    ("between without its first state", "if states.is_empty() {", "let states = states.start + 1..states.end; if states.is_empty() {"),
+    ("between one state too far", "self.span_of(from).last()..self.span_of(to).first())", "self.span_of(from).last()..(self.span_of(to).first() + 1).min(1000))"),
+    ("only the root's constraints", "for (at, &claim) in case.claims.iter().enumerate() {", "for (at, &claim) in case.claims.iter().enumerate().take(1) {"),
+    ("constraints of empty nodes not tried", "let (Claim::Decomposed { method } | Claim::Empty { method, .. }) = claim else {", "let Claim::Decomposed { method } = claim else {"),
+    ("last broken constraint", "constraints.iter().position(|&constraint|", "constraints.iter().rposition(|&constraint|"),
+    ("order allows equality", "self.subtasks[first as usize].last() < self", "self.subtasks[first as usize].last() <= self"),
+    ("before reads state c", "self.span_of(set).first() - 1)", "self.span_of(set).first().min(1000))"),
+    ("after reads the start", "Constraint::After { proposition, set } => self.is_true(proposition, self.span_of(set).last()),", "Constraint::After { proposition, set } => self.is_true(proposition, self.span_of(set).first() - 1),"),
+    ("numbers of B and F swapped", "Constraint::Before { .. } => 11,", "Constraint::Before { .. } => 12,"),
+    ("63 levels", "const LEVELS: u32 = 64;", "const LEVELS: u32 = 63;"),
+    ("65 levels", "const LEVELS: u32 = 64;", "const LEVELS: u32 = 65;"),
+    ("level before fit", "Some(&claim) if self.case.fits(claim, task) => claim,", "Some(_) if level > LEVELS => return refuse(7, line, 0), Some(&claim) if self.case.fits(claim, task) => claim,"),
+    ("level at the end of nodes", "let claim = match self.case.claims.get(at) {", "if level > LEVELS && at == self.case.claims.len() { return refuse(7, line, 0); } let claim = match self.case.claims.get(at) {"),
+    ("position before level", "if level > LEVELS {", "if let Claim::Leaf { action, position } = claim { if self.case.plan[position as usize - 1] != action { return refuse(8, line, position); } } if level > LEVELS {"),
+    ("position claimed twice", "|| self.claimed[before]", ""),
+    ("another action at the position", "self.case.plan[before] != action || ", ""),
+    ("surplus node not seen", "if walk.next < count {", "if false {"),
+    ("surplus node after unclaimed", "if walk.next < count {\n        return refuse(6, case.node_line(walk.next), 0);\n    }\n", ""),
+    ("unclaimed position not seen", "position(|claimed| !claimed)", "position(|claimed| !claimed && false)"),
+    ("last unclaimed position", ".iter().position(|claimed| !claimed)", ".iter().rposition(|claimed| !claimed)"),
+    ("D for an empty method", "own(method) && !self.subtasks_of(method).is_empty()", "own(method)"),
+    ("E for a method with subtasks", "own(method) && self.subtasks_of(method).is_empty()", "own(method)"),
+    ("method of any task", "self.methods[method as usize].task == task", "self.methods[method as usize].task > 0 || task == 0"),
+    ("leaf of any action", "Claim::Leaf { action, .. } => action == task,", "Claim::Leaf { .. } => (task as usize) < self.actions.len(),"),
+    ("leading zero", "if value != 0 {", "if true {"),
+    ("4294967295 not plain", "if value > u64::from(u32::MAX) {", "if value >= u64::from(u32::MAX) {"),
+    ("4294967296 plain", "if value > u64::from(u32::MAX) {", "if value > u64::from(u32::MAX) + 1 {"),
+    ("carriage return ends a field", "Some(b',' | b'\\n') = rest.first()", "Some(b',' | b'\\n' | b'\\r') = rest.first()"),
+    ("repeated member", "least = member + 1;", "least = member;"),
+    ("full set too many", "self.number_in(..=propositions)?", "self.number_in(..propositions.max(1))?"),
+    ("mask with a bit at the count", "u64::from(mask) >> subtasks != 0", "u64::from(mask) >> (subtasks + 1) != 0"),
+    ("mask of 32 subtasks", "u64::from(mask) >> subtasks != 0", "u64::from(mask) >> subtasks.min(31) != 0"),
+    ("i before i", "if second == first {", "if false {"),
+    ("gap k out of range", "reader.number_in(..=header.cues)?", "reader.number_in(..header.cues.max(1))?"),
+    ("gap k + 1 in range", "reader.number_in(..=header.cues)?", "reader.number_in(..=header.cues + 1)?.min(header.cues)"),
+    ("position 0", "reader.number_in(1..=header.cues)?", "reader.number_in(..=header.cues)?.max(1)"),
+    ("65534 bytes", "pub const TEXT_LIMIT: usize = 65_535;", "pub const TEXT_LIMIT: usize = 65_534;"),
+    ("65536 bytes", "pub const TEXT_LIMIT: usize = 65_535;", "pub const TEXT_LIMIT: usize = 65_536;"),
+    ("surplus line without line feed", " || whole < text.len()", ""),
+    ("surplus line with line feed", "!reader.rest.is_empty() || ", ""),
+    ("surplus line after running", "    if !reader.rest.is_empty() || whole < text.len() {", "    run(&case, &mut vec![0; 4_004])?;\n    if !reader.rest.is_empty() || whole < text.len() {"),
+    ("surplus field", "self.item += 1;\n            return self.unreadable();\n        };\n        self.rest = rest;", "while self.rest[0] != b'\\n' { self.rest = &self.rest[1..]; }\n            self.rest = &self.rest[1..];\n            return Ok(());\n        };\n        self.rest = rest;"),
+    ("goal may be an action", "reader.number_in(actions..tasks)?", "reader.number_in(..tasks)?"),
+    ("method of an action", "let task = reader.number_in(header.actions..header.tasks)?;", "let task = reader.number_in(..header.tasks)?;"),
+    ("no node", "nodes: reader.number_in(1..=3_000)?", "nodes: reader.number_in(..=3_000)?"),
+    ("257 propositions", "reader.number_in(..=256)?", "reader.number_in(..=257)?"),
+    ("255 propositions", "reader.number_in(..=256)?", "reader.number_in(..=255)?"),
+    ("1025 actions", "let actions = reader.number_in(..=1_024)?", "let actions = reader.number_in(..=1_025)?"),
+    ("1023 actions", "let actions = reader.number_in(..=1_024)?", "let actions = reader.number_in(..=1_023)?"),
+    ("1025 compound", "let compound = reader.number_in(..=1_024)?", "let compound = reader.number_in(..=1_025)?"),
+    ("1023 compound", "let compound = reader.number_in(..=1_024)?", "let compound = reader.number_in(..=1_023)?"),
+    ("2049 methods", "reader.number_in(..=2_048)?", "reader.number_in(..=2_049)?"),
+    ("2047 methods", "reader.number_in(..=2_048)?", "reader.number_in(..=2_047)?"),
+    ("1001 cues", "reader.number_in(..=1_000)?", "reader.number_in(..=1_001)?"),
+    ("999 cues", "reader.number_in(..=1_000)?", "reader.number_in(..=999)?"),
+    ("3001 nodes", "reader.number_in(1..=3_000)?", "reader.number_in(1..=3_001)?"),
+    ("2999 nodes", "reader.number_in(1..=3_000)?", "reader.number_in(1..=2_999)?"),
+    ("33 subtasks", "reader.number_in(..=32)?", "reader.number_in(..=33)?"),
+    ("31 subtasks", "reader.number_in(..=32)?", "reader.number_in(..=31)?"),
+    ("65 constraints", "reader.number_in(..=64)?", "reader.number_in(..=65)?"),
+    ("63 constraints", "reader.number_in(..=64)?", "reader.number_in(..=63)?"),
+    ("short state list", "(states.len() < STATES_ASKED, 1),\n        (nodes", "(states.len() + 1 < STATES_ASKED, 1),\n        (nodes"),
+    ("short node list", "(nodes.len() < NODES_ASKED, 2)", "(nodes.len() + 1 < NODES_ASKED, 2)"),
+    ("short work list", "(work.len() < WORK_ASKED, 3),\n    ];\n    work.fill(0);\n    match check_with", "(work.len() + 1 < WORK_ASKED, 3),\n    ];\n    work.fill(0);\n    match check_with"),
+    ("work list before node list", "(nodes.len() < NODES_ASKED, 2),\n        (work.len() < WORK_ASKED, 3),", "(work.len() < WORK_ASKED, 3),\n        (nodes.len() < NODES_ASKED, 2),"),
+    ("long text before short lists", "if let Some(&(_, item))", "if text.len() > TEXT_LIMIT { return refuse(2, 0, 0); }\n    if let Some(&(_, item))"),
+    ("nodes left after refusal", "nodes.fill(Node::default());", ""),
+    ("dirt behind the nodes", "nodes[case.claims.len()..].fill(Node::default());", "nodes[case.claims.len()..NODES_ASKED].fill(Node::default());"),
+    ("dirt behind the states", "states[4 * (case.plan.len() + 1)..].fill(0);\n            nodes", "states[4 * (case.plan.len() + 1)..STATES_ASKED].fill(0);\n            nodes"),
+    ("number 5 at the cue before", "before as u32 + 1);\n        }\n        state = next;", "before as u32);\n        }\n        state = next;"),
+    ("number 9 on the first node's line", "return refuse(9, case.plan_line,", "return refuse(9, case.plan_line + 1,"),
+    ("place of D", "Claim::Decomposed { method } => (1, method, 0,", "Claim::Decomposed { method } => (1, method, 1,"),
+    ("end of the last subtask", "end: self.end.max(other.end)", "end: other.end"),
+    ("start of the first subtask", "start: self.start.min(other.start)", "start: if self.start == u32::MAX { other.start } else { self.start }"),
+    ("set filled up between its members", "let mut span = Span::NONE;\n        while", "set |= ((1u64 << (32 - set.leading_zeros())) - (1u64 << set.trailing_zeros())) as u32;\n        let mut span = Span::NONE;\n        while"),
+    ("set without its highest subtask", "set &= set - 1; // without its lowest subtask", "set &= set - 1; if set.count_ones() == 1 { break; }"),
+    ("empty subtasks not in the task's span", "whole = whole.joined(span);", "if span.start != span.end || span.start % 2 == 0 || j + 1 == subtasks.len() && whole.end == 0 { whole = whole.joined(span); }"),
+    ("between the other way round", "self.span_of(from).last()..self.span_of(to).first())", "self.span_of(to).last()..self.span_of(from).first())"),
+    ("between of neighbours not tested", "self.true_throughout(proposition, self.span_of(from).last()..self.span_of(to).first())", "self.span_of(from).last() + 1 == self.span_of(to).first() || self.true_throughout(proposition, self.span_of(from).last()..self.span_of(to).first())"),
+    ("between an empty task and itself", "self.true_throughout(proposition, self.span_of(from).last()..self.span_of(to).first())", "from == to || self.true_throughout(proposition, self.span_of(from).last()..self.span_of(to).first())"),
+    ("constraints before unclaimed positions", "    let subtask_spans = walk(&case, nodes)?;\n    first_broken(&case, states, nodes, &subtask_spans)?;", "    let subtask_spans = match walk(&case, nodes) { Err(r) if r.number == 9 => { let mut filled = vec![]; filled.extend_from_slice(nodes); return Err(Refusal { number: if filled[0].end % 4 == 0 { 9 } else { 10 }, ..r }); } other => other? };\n    first_broken(&case, states, nodes, &subtask_spans)?;"),
+    ("empty node on level 65", "if level > LEVELS {", "if level > LEVELS && !matches!(claim, Claim::Empty { .. }) {"),
+    ("constraint counted by letter", "item as u32);\n        }\n    }\n    Ok(())", "constraints[..item].iter().filter(|c| c.number() == constraints[item].number()).count() as u32);\n        }\n    }\n    Ok(())"),
+    ("replay: item 2 for work", "let asked = [(states.len() < STATES_ASKED, 1), (work.len() < WORK_ASKED, 3)];", "let asked = [(states.len() < STATES_ASKED, 1), (work.len() < WORK_ASKED, 2)];", "replay"),
+    ("replay: nodes not read", "    for _ in 0..header.nodes {\n        case.claims.push(read_claim(&mut reader, &header)?);\n    }\n    if", "    case.claims.resize(header.nodes as usize, Claim::Decomposed { method: 0 }); reader.rest = &[];\n    if", "replay"),
+    ("replay: dirt behind the states", "states[4 * (case.plan.len() + 1)..].fill(0);\n            case.accepted()\n        }\n        Err(refusal) => {\n            states.fill(0);\n            refusal", "states[4 * (case.plan.len() + 1)..STATES_ASKED].fill(0);\n            case.accepted()\n        }\n        Err(refusal) => {\n            states.fill(0);\n            refusal", "replay"),
+    ("replay: states left after refusal", "Err(refusal) => {\n            states.fill(0);\n            refusal.answer()", "Err(refusal) => {\n            refusal.answer()", "replay"),
+    ("replay: walks too", "    match replay_with(text, &asked, states) {", "    match check_with(text, &asked, states, &mut vec![Node::default(); NODES_ASKED]) {", "replay"),
+    ("walk before run", "    let case = replay_with(text, asked, states)?;\n", "    let case = match replay_with(text, asked, states) { Err(r) if r.number == 5 => { let case = read(text)?; walk(&case, nodes)?; return Err(r); } other => other? };\n"),
+]
+
+
+def build(source, folder):
+    """Compiles a mutant as the mock; the folder has the layout of harness/."""
+    (folder / "src").mkdir(parents=True, exist_ok=True)
+    (folder / "mock/src").mkdir(parents=True, exist_ok=True)
+    (folder / "src/plain.rs").write_text(source)
+    shutil.copy("mock/src/lib.rs", folder / "mock/src/lib.rs")
+    command = ["rustc", "-O", "--edition", "2021", "--crate-type", "staticlib", "--crate-name", "capi", "--cap-lints", "allow"]
+    subprocess.run(command + [folder / "mock/src/lib.rs", "-o", folder / "libcapi.a"], check=True)
+
+
+def link(folder, call):
+    Path(f"src/bin/compare_{call}.rs").touch()
+    command = ["cargo", "build", "--quiet", "--release", "--offline", "-p", "harness", "--bin", f"compare_{call}"]
+    command += ["--features", "link-check,link-replay", "--target-dir", "target/mutants"]
+    subprocess.run(command, check=True, env=dict(os.environ, RUSTFLAGS=f"-L native={folder.absolute()}"))
+
+
+def main():
+    count, seed = (sys.argv[1:3] + ["30000", "1"])[:2] if len(sys.argv) > 2 else ("30000", "1")
+    first = int(sys.argv[3]) if len(sys.argv) > 3 else 0
+    sound = Path("src/plain.rs").read_text()
+    folder = Path("target/mutants/archive")
+    survivors = 0
+    for name, old, new, *call in MUTANTS[first:]:
+        call = (call or ["check"])[0]
+        if sound.count(old) < 1:
+            sys.exit(f"{name}: the text is not in plain.rs")
+        build(sound.replace(old, new, 1), folder)
+        link(folder, call)
+        run = subprocess.run([f"target/mutants/release/compare_{call}", count, seed], capture_output=True, text=True)
+        last = run.stdout.strip().splitlines()[-1] if run.stdout.strip() else "no output"
+        if run.returncode == 0:
+            survivors += 1
+            verdict = f"SURVIVED ({last})"
+        elif run.returncode == 1:
+            verdict = f"found: {last}"
+        else:
+            verdict = f"found: ended with {run.returncode}"
+        print(f"{name}: {verdict}", flush=True)
+    print(f"{len(MUTANTS[first:])} mutants, {survivors} survived")
+
+
+if __name__ == "__main__":
+    main()

@@ -1,0 +1,395 @@
+#!/usr/bin/env python3
+"""Document 01 rendered a second time, as naively as it can be said, to cross-check plain.rs.
+
+Sets of ints, fractions for half indexes, the text cut at line feeds and commas, a tree of
+objects. It shares no code and no data layout with the Rust rendering.
+
+    naive.py cases FOLDER     every .case of the folder against its .expect
+    naive.py dump FILE        every record that the program `dump` wrote (texts with the plain
+                              rendering's answers and lists)
+"""
+
+import math
+import re
+import struct
+import sys
+from fractions import Fraction
+from pathlib import Path
+
+PLAIN = re.compile(rb"0|[1-9][0-9]*")
+
+
+class Refused(Exception):
+    def __init__(self, number, line, item):
+        super().__init__(number, line, item)
+        self.answer = (number, line, item, 0, 0)
+
+
+# ------------------------------------------------------------------ reading
+
+
+class Fields:
+    """The fields of one line, taken from the left."""
+
+    def __init__(self, line_number, line):
+        self.line = line_number
+        self.fields = line.split(b",")
+        self.item = 0
+
+    def refuse(self, number):
+        raise Refused(number, self.line, self.item)
+
+    def next(self):
+        self.item += 1
+        if self.item > len(self.fields):
+            self.refuse(3)
+        return self.fields[self.item - 1]
+
+    def letter(self, due):
+        field = self.next()
+        if field not in [bytes([b]) for b in due]:
+            self.refuse(3)
+        return field.decode()
+
+    def number(self, allowed):
+        """A plain number for which allowed(number) is true."""
+        field = self.next()
+        if not PLAIN.fullmatch(field) or len(field) > 10 or int(field) > 4294967295:
+            self.refuse(3)
+        if not allowed(int(field)):
+            self.refuse(4)
+        return int(field)
+
+    def set(self, propositions):
+        count = self.number(lambda n: n <= propositions)
+        members = []
+        for _ in range(count):
+            members.append(self.number(lambda n: n < propositions and all(n > m for m in members)))
+        return set(members)
+
+    def mask(self, subtasks):
+        """A set of subtask numbers; None stands for the whole task."""
+        mask = self.number(lambda n: all(j < subtasks for j in range(32) if n >> j & 1))
+        return {j for j in range(32) if mask >> j & 1} or None
+
+    def end(self):
+        if len(self.fields) > self.item:
+            self.item += 1
+            self.refuse(3)
+
+
+class Lines:
+    def __init__(self, text):
+        self.text = text
+        self.at = 0
+        self.line = 0
+
+    def due(self):
+        self.line += 1
+        feed = self.text.find(b"\n", self.at)
+        if feed < 0:
+            raise Refused(3, self.line, 0)
+        line = self.text[self.at : feed]
+        self.at = feed + 1
+        return Fields(self.line, line)
+
+    def end(self):
+        if self.at < len(self.text):
+            raise Refused(3, self.line + 1, 1)
+
+
+class Case:
+    pass
+
+
+def read(text):
+    lines = Lines(text)
+    case = Case()
+    f = lines.due()
+    f.letter(b"N")
+    case.propositions = f.number(lambda n: n <= 256)
+    case.action_count = f.number(lambda n: n <= 1024)
+    compound = f.number(lambda n: n <= 1024)
+    case.tasks = case.action_count + compound
+    case.is_compound = lambda t: case.action_count <= t < case.tasks
+    method_count = f.number(lambda n: n <= 2048)
+    case.goal = f.number(case.is_compound)
+    case.k = f.number(lambda n: n <= 1000)
+    case.n = f.number(lambda n: 1 <= n <= 3000)
+    f.end()
+    f = lines.due()
+    f.letter(b"I")
+    case.initial = f.set(case.propositions)
+    f.end()
+    case.actions = []
+    for _ in range(case.action_count):
+        f = lines.due()
+        f.letter(b"A")
+        case.actions.append([f.set(case.propositions) for _ in range(4)])
+        f.end()
+    case.methods = [read_method(lines, case) for _ in range(method_count)]
+    f = lines.due()
+    f.letter(b"P")
+    case.plan = [f.number(lambda a: a < case.action_count) for _ in range(case.k)]
+    f.end()
+    case.plan_line = lines.line
+    case.nodes = [read_node(lines, case, method_count) for _ in range(case.n)]
+    lines.end()
+    return case
+
+
+def read_method(lines, case):
+    f = lines.due()
+    f.letter(b"M")
+    task = f.number(case.is_compound)
+    count = f.number(lambda n: n <= 32)
+    subtasks = [f.number(lambda t: t < case.tasks) for _ in range(count)]
+    constraint_count = f.number(lambda n: n <= 64)
+    f.end()
+    return task, subtasks, [read_constraint(lines, case, count) for _ in range(constraint_count)]
+
+
+def read_constraint(lines, case, count):
+    f = lines.due()
+    letter = f.letter(b"OBFW")
+    proposition = lambda: f.number(lambda p: p < case.propositions)
+    if letter == "O":
+        i = f.number(lambda i: i < count)
+        j = f.number(lambda j: j < count and j != i)
+        constraint = ("O", {i}, None, {j})
+    elif letter == "W":
+        u = f.mask(count)
+        p = proposition()
+        constraint = ("W", u, p, f.mask(count))
+    else:
+        p = proposition()
+        constraint = (letter, f.mask(count), p, None)
+    f.end()
+    return constraint
+
+
+def read_node(lines, case, method_count):
+    f = lines.due()
+    letter = f.letter(b"DEL")
+    if letter == "L":
+        label = f.number(lambda a: a < case.action_count)
+        place = f.number(lambda i: 1 <= i <= case.k)
+    else:
+        label = f.number(lambda m: m < method_count)
+        place = f.number(lambda g: g <= case.k) if letter == "E" else 0
+    f.end()
+    return letter, label, place, lines.line
+
+
+# ------------------------------------------------------------------ running
+
+
+def run(case):
+    states = [case.initial]
+    for i in range(1, case.k + 1):
+        needed, forbidden, added, deleted = case.actions[case.plan[i - 1]]
+        if not needed <= states[i - 1] or forbidden & states[i - 1]:
+            raise Refused(5, case.plan_line, i)
+        states.append((states[i - 1] - deleted) | added)
+    return states
+
+
+# ------------------------------------------------------------------ walking
+
+
+class Tree:
+    """A node with its subtrees; start and end are fractions."""
+
+    def __init__(self, node, line, subtrees):
+        self.letter, self.label, self.place, _ = node
+        self.line = line
+        self.subtrees = subtrees
+        if self.letter == "L":
+            self.start = self.end = Fraction(self.place)
+        elif self.letter == "E":
+            self.start = self.end = self.place + Fraction(1, 2)
+        else:
+            self.start = min(t.start for t in subtrees)
+            self.end = max(t.end for t in subtrees)
+
+    def preorder(self):
+        yield self
+        for subtree in self.subtrees:
+            yield from subtree.preorder()
+
+
+def fits(case, node, task):
+    letter, label = node[0], node[1]
+    if not case.is_compound(task):
+        return letter == "L" and label == task
+    if letter == "L":
+        return False
+    owner, subtasks, _ = case.methods[label]
+    return owner == task and (letter == "D") == (len(subtasks) > 0)
+
+
+def walk(case):
+    left = list(case.nodes)
+    claimed = set()
+
+    def walk_node(task, level):
+        if not left:
+            raise Refused(6, case.nodes[-1][3] + 1, 0)
+        node = left[0]
+        letter, label, place, line = node
+        if not fits(case, node, task):
+            raise Refused(6, line, 0)
+        if level == 65:
+            raise Refused(7, line, 0)
+        if letter == "L":
+            if case.plan[place - 1] != label or place in claimed:
+                raise Refused(8, line, place)
+            claimed.add(place)
+        left.pop(0)
+        subtasks = case.methods[label][1] if letter == "D" else []
+        return Tree(node, line, [walk_node(subtask, level + 1) for subtask in subtasks])
+
+    root = walk_node(case.goal, 1)
+    if left:
+        raise Refused(6, left[0][3], 0)
+    unclaimed = set(range(1, case.k + 1)) - claimed
+    if unclaimed:
+        raise Refused(9, case.plan_line, min(unclaimed))
+    return root
+
+
+# ------------------------------------------------------------------ constraints
+
+
+def holds(tree, constraint, states):
+    letter, u, p, v = constraint
+    members = lambda s: [tree] if s is None else [tree.subtrees[j] for j in s]
+    c = lambda s: math.ceil(min(t.start for t in members(s)))
+    f = lambda s: math.floor(max(t.end for t in members(s)))
+    if letter == "O":
+        return f(u) < c(v)
+    if letter == "B":
+        return p in states[c(u) - 1]
+    if letter == "F":
+        return p in states[f(u)]
+    return all(p in state for state in states[f(u) : max(f(u), c(v))])
+
+
+NUMBER = {"O": 10, "B": 11, "F": 12, "W": 13}
+
+
+def try_constraints(case, root, states):
+    for tree in root.preorder():
+        if tree.letter == "L":
+            continue
+        for item, constraint in enumerate(case.methods[tree.label][2]):
+            if not holds(tree, constraint, states):
+                raise Refused(NUMBER[constraint[0]], tree.line, item)
+
+
+# ------------------------------------------------------------------ the calls
+
+
+def words(state):
+    return [sum(1 << (p % 64) for p in state if p // 64 == w) for w in range(4)]
+
+
+def record(tree):
+    return [" DEL".index(tree.letter), tree.label, tree.place, int(2 * tree.start), int(2 * tree.end)]
+
+
+def call(text, states_len, nodes_len, work_len, whole):
+    """The check call, or without `whole` the replay call: answer, states and nodes, flat."""
+    try:
+        if states_len < 4004:
+            raise Refused(1, 0, 1)
+        if whole and nodes_len < 3000:
+            raise Refused(1, 0, 2)
+        if work_len < 16384:
+            raise Refused(1, 0, 3)
+        if len(text) > 65535:
+            raise Refused(2, 0, 0)
+        case = read(text)
+        states = run(case)
+        records = []
+        if whole:
+            root = walk(case)
+            try_constraints(case, root, states)
+            records = [number for tree in root.preorder() for number in record(tree)]
+        return (0, 0, 0, case.k, case.n), [w for state in states for w in words(state)], records
+    except Refused as refused:
+        return refused.answer, [], []
+
+
+def trimmed(numbers):
+    """Without the zeros at the end."""
+    while numbers and numbers[-1] == 0:
+        numbers.pop()
+    return numbers
+
+
+def printed(answer):
+    return f"Y,{answer[3]},{answer[4]}\n" if answer[0] == 0 else "R,%d,%d,%d\n" % answer[:3]
+
+
+# ------------------------------------------------------------------ comparing
+
+
+def compare_cases(folder):
+    cases = sorted(Path(folder).glob("*.case"))
+    differing = 0
+    for case in cases:
+        answer = printed(call(case.read_bytes(), 4004, 3000, 16384, True)[0])
+        expected = case.with_suffix(".expect").read_text()
+        if answer != expected:
+            differing += 1
+            print(f"{case.name}: {answer!r}, expected {expected!r}")
+    print(f"{len(cases)} cases, {differing} differences")
+    return differing
+
+
+class Dump:
+    def __init__(self, path):
+        self.data = Path(path).read_bytes()
+        self.at = 0
+
+    def numbers(self, kind, count):
+        found = struct.unpack_from(f"<{count}{kind}", self.data, self.at)
+        self.at += struct.calcsize(f"<{count}{kind}")
+        return list(found)
+
+    def list(self, kind):
+        return self.numbers(kind, self.numbers("I", 1)[0])
+
+    def records(self):
+        while self.at < len(self.data):
+            text = bytes(self.list("B"))
+            lengths = self.numbers("I", 3)
+            check = tuple(self.numbers("I", 5)), self.list("Q"), self.list("I"), self.list("I")
+            replay = tuple(self.numbers("I", 5)), self.list("Q"), [], self.list("I")
+            yield text, lengths, check, replay
+
+
+def compare_dump(path):
+    count = differing = 0
+    numbers = {}
+    for text, lengths, check, replay in Dump(path).records():
+        for name, plain, whole in (("check", check, True), ("replay", replay, False)):
+            answer, states, records = call(text, *lengths, whole)
+            naive = answer, trimmed(states), trimmed(records), []
+            if naive != plain:
+                differing += 1
+                if differing <= 10:
+                    print(f"input {count}, {name}, lengths {lengths}: naive {naive[0]}, plain {plain[0]}")
+                    print(text[:2000])
+            if whole:
+                numbers[answer[0]] = numbers.get(answer[0], 0) + 1
+        count += 1
+    print("check answers by number:", dict(sorted(numbers.items())))
+    print(f"{count} inputs, {differing} differences")
+    return differing
+
+
+if __name__ == "__main__":
+    kind, path = sys.argv[1:]
+    sys.exit(1 if {"cases": compare_cases, "dump": compare_dump}[kind](path) else 0)
