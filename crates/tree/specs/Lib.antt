@@ -1,1 +1,6 @@
 pub mod Layout
+pub mod Marks
+pub mod Numbers
+pub mod Fits
+pub mod Standing
+pub mod Whole

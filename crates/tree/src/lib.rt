@@ -1,1 +1,12 @@
-// Walking the claimed tree.
+// Walking the claimed tree (01, "The tree" and rows 6 to 9 of its table) over the text and the lent work space.
+mod fit;
+mod marks;
+mod number;
+mod rows;
+mod walk;
+
+pub use marks::Unclaimed;
+pub use marks::least_unclaimed;
+pub use number::store_plan;
+pub use walk::TreeWalk;
+pub use walk::walk_tree;

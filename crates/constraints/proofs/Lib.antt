@@ -1,0 +1,11 @@
+pub mod Rereading
+pub mod Testing
+pub mod Held
+pub mod Within
+pub mod Judging
+pub mod Stores
+pub mod Finding
+pub mod Nodes
+pub mod Steps
+pub mod Numbers
+pub mod Whole

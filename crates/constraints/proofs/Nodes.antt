@@ -1,0 +1,256 @@
+-- What the phases before left of one node: its row and those of its subtasks, its method and its constraints, and the states; and what the
+-- nodes before it leave of them. Assumes nothing.
+use mathlib.Core.Path.{_≡_, refl, sym, ap, ap₂, subst, _∙_}
+use mathlib.Core.Logic.{_≢_}
+use mathlib.Core.Bool.{Bool, true, false, true≢false}
+use mathlib.Core.List.{List, [], _∷_, _++_, map, map-append, flatten, List·Memᴰ·not-nil}
+use mathlib.Core.List.{List·Memᴰ as Mem, List·Memᴰ·head as here, List·Memᴰ·tail as there}
+use mathlib.Core.Option.{Option, none, some}
+use Prim.Native.Nat.{ℕ, zero, suc, _+_, _-_, _*_, _≤_, _<_}
+use native.Mathlib.Omega.{arith}
+use lib.ListN.{length, getD, take, drop, length-map, List·getD-map, List·getD-append}
+use lib.Seq.{sets, getD-take, getD-drop, length-take-le}
+use Rattle.rules.specs.declared.Header.{Header}
+use Rattle.rules.specs.State.{wordCount}
+use Rattle.rules.specs.Index.{Span}
+use Rattle.rules.specs.Table as T
+use Rattle.rules.specs.Case.{Constraint, Method, methodAt, noMethod, NodeLine, D, E, L, Case, Read, oneMethod}
+use Rattle.rules.specs.Tree.{Tree, leaf, empty, task, preorder, rootLine, span, subtaskSpans, mayClaim}
+use Rattle.rules.specs.Constraint.{holdsIn, constraintsOf, partsOf, firstBrokenOf}
+use Rattle.rules.specs.Verdict.{stateNeed, workNeed, statesOf}
+use Rattle.rules.proofs.Judgement.Each.{Each, each-at, each-map}
+use Rattle.rules.proofs.Judgement.Sound.{GoodHeader, GoodConstraint, GoodMethod, GoodNode, Sound, sound}
+use Rattle.rules.proofs.Judgement.Preorder.{TreeOf, linesOf}
+use Rattle.rules.proofs.Judgement.Walk.{walk-shows}
+use Rattle.reading.specs.Directory.{methodsFrom, LineIs, Finds}
+use Rattle.tree.specs.Layout.{marksFrom, planFrom, rowsFrom, rowsPast, subtasksFrom, size, rows, directoryOf, rowsIn}
+use Rattle.parts.specs.States.{inRow}
+use Rattle.parts.specs.Spans.{rowSpan, RowInside, siblings, nodesIn, spansIn}
+use Rattle.constraints.specs.Ready.{Ready, Leaves, namesMethod, Labels, nodeOfTree}
+use Rattle.parts.proofs.Stretches.{Whole, whole-set, states-hold, filled-size}
+use Rattle.constraints.proofs.Held.{Held, HeldAll, Holds, held, held-node, held-subtrees, root-row, rows-length, preorder-length, subtreesOf, subtrees-spans, countOf, spans-length, siblings-spans, siblings-inside}
+use Rattle.constraints.proofs.Within.{Within, Proper, proper, proper-span}
+use Rattle.constraints.proofs.Judging.{Placed}
+use Rattle.constraints.proofs.Stores.{siblings-length, stored, leaves-stored, rows-stored, nodes-stored}
+
+-- ---- what is left as it was
+
+module _ (before after : List ℕ) (l : Leaves before after) where
+  same-place : (i : ℕ) → i < marksFrom → getD after i 0 ≡ getD before i 0
+  same-place i h =
+      sym (getD-take marksFrom after i 0 h) ∙ ap (λ (x : List ℕ). getD x i 0) (l .directory) ∙ getD-take marksFrom before i 0 h
+
+  line-leaves : (text : List ℕ) (k : Case) (due : T.Role) (i : ℕ) → i < marksFrom → LineIs text k due (getD before i 0) → LineIs text k due (getD after i 0)
+  line-leaves text k due i h w = record {
+    letter = w .letter;
+    values = w .values;
+    next = w .next;
+    reads = ap (λ (p : ℕ). T.readLine text due (k .head) 0 p) (same-place i h) ∙ w .reads;
+  }
+
+  finds-leaves : (text : List ℕ) (k : Case) (initial plan nodes : ℕ) → GoodHeader (k .head) → Finds text k before initial plan nodes
+      → Finds text k after initial plan nodes
+  unfolding marksFrom methodsFrom line-leaves
+  finds-leaves text k initial plan nodes g f =
+      let few = g .few-actions in
+      let some = g .few-methods in
+      record {
+        initialLine = f .initialLine;
+        initialSet = f .initialSet;
+        actionLine = λ a h. line-leaves text k T.action a (omega arith) (f .actionLine a h);
+        actionSets = λ a h. f .actionSets a h;
+        methodLine = λ m h.
+            let w = f .methodLine m h in
+            (w .0, w .1, w .2, ap (λ (p : ℕ). oneMethodAt (w .0) p) (same-place (methodsFrom + m) (omega arith)) ∙ w .3);
+        planLine = f .planLine;
+        planCues = f .planCues;
+        nodeLines = f .nodeLines;
+        nodesRead = f .nodesRead;
+        nodesAre = f .nodesAre;
+      }
+    where
+      oneMethodAt : ℕ → ℕ → Read Method
+      oneMethodAt n p = oneMethod text (k .head) n p
+
+pub leaves-all : (work : List ℕ) → Leaves work work
+leaves-all work = record { same-size = refl; directory = refl; rows = refl }
+
+pub leaves-then : {a b c : List ℕ} → Leaves a b → Leaves b c → Leaves a c
+leaves-then p q = record {
+  same-size = q .same-size ∙ p .same-size;
+  directory = q .directory ∙ p .directory;
+  rows = q .rows ∙ p .rows;
+}
+
+-- ---- the whole tree
+
+module _ (k : Case) (t : Tree) (text : List ℕ) (past : ℕ) (header : Header) (planLine nodes : ℕ) (states work : List ℕ)
+    (r : Ready k t text past header planLine nodes states work) where
+  pub is-sound : Sound k
+  is-sound = sound text k (r .reads .0) (r .reads .1) (r .reads .2)
+
+  pub tree-is : TreeOf k (mayClaim (k .plan)) t
+  tree-is = walk-shows k (mayClaim (k .plan)) t (r .walks .0) (r .walks .1) (r .walks .2) (r .walks .3) .1
+
+  pub size-is : size t ≡ k .head .nodes
+  size-is =
+      sym (preorder-length t) ∙ sym (length-map (preorder t) rootLine) ∙ ap length (tree-is .preordered) ∙ is-sound .nodes-length
+
+  pub ready-leaves : (after : List ℕ) → Leaves work after → Ready k t text past header planLine nodes states after
+  ready-leaves after l = record {
+    reads = r .reads;
+    heads = r .heads;
+    plans = r .plans;
+    initial = r .initial;
+    plan = r .plan;
+    finds = finds-leaves work after l text k (r .initial) (r .plan) nodes (is-sound .head-good) (r .finds);
+    feeds = r .feeds;
+    room = subst (λ (n : ℕ). workNeed ≤ n) (sym (l .same-size)) (r .room);
+    walks = r .walks;
+    rowsHeld = ap (take (3 * size t)) (l .rows) ∙ r .rowsHeld;
+    stateSize = r .stateSize;
+    stateRoom = r .stateRoom;
+    statesHeld = r .statesHeld;
+  }
+
+  holds-rows : Holds work 0 (rows t 0)
+  unfolding rowsFrom rowsPast workNeed
+  holds-rows =
+      let few = is-sound .head-good .few-nodes in
+      let sized = size-is in
+      let long = rows-length t 0 in
+      let room = r .room in (
+        λ i h.
+            let same : rowsFrom + (3 * 0 + i) ≡ rowsFrom + i = omega arith in
+            ap (λ (j : ℕ). getD work j 0) same ∙ sym (getD-take rowsPast work (rowsFrom + i) 0 (omega arith)) ∙ sym (getD-drop rowsFrom (take rowsPast work) i 0)
+            ∙ sym (getD-take (3 * size t) (rowsIn work) i 0 (omega arith)) ∙ ap (λ (l : List ℕ). getD l i 0) (r .rowsHeld),
+        omega arith,
+      )
+
+  pub node-held : (n : ℕ) → n < size t → Held work (nodeOfTree t n) n
+  unfolding nodeOfTree
+  node-held n h = held-node work t n (leaf 0 0) (held work t 0 holds-rows) (let e = preorder-length t in omega arith)
+
+  good-roots : Each (λ x. GoodNode (k .head) (rootLine x)) (preorder t)
+  good-roots x m = is-sound .nodes-good (rootLine x) (subst (λ (l : List NodeLine). Mem (rootLine x) l) (tree-is .preordered) (mapped (preorder t) m))
+    where
+      mapped : (l : List Tree) → Mem x l → Mem (rootLine x) (map rootLine l)
+      mapped l (here e) = here (ap rootLine e)
+      mapped (y ∷ l) (there m) = there (mapped l m)
+
+  pub node-proper : (n : ℕ) → n < size t → Proper k (nodeOfTree t n)
+  unfolding nodeOfTree
+  node-proper n h =
+      each-at (Proper k) (preorder t) n (leaf 0 0) (proper k t (k .head .goal) good-roots (tree-is .fitting)) (let e = preorder-length t in omega arith)
+
+  -- ---- the states
+
+  pub states-agree : (p l : ℕ) → l ≤ k .head .cues → inRow states p l ≡ holdsIn (statesOf k) p l
+  states-agree p l h =
+      ap (λ (w : List ℕ). inRow w p l) (r .statesHeld)
+      ∙ states-hold k (r .stateSize) p l (ap length (sym (r .finds .initialSet)) ∙ whole-set (r .finds .initialLine .values) 0)
+      (let e = is-sound .plan-length in omega arith)
+
+  pub states-long : (k .head .cues + 1) * wordCount ≤ length states
+  unfolding wordCount stateNeed
+  states-long =
+      let few = is-sound .head-good .few-cues in
+      let room = r .stateRoom in
+      let all = filled-size (r .stateSize) (flatten (statesOf k)) in
+      let same = ap length (r .statesHeld) in
+      omega arith
+
+-- ---- a node with a method
+
+pub record MethodNode (k : Case) (m : ℕ) (x : Tree) : Type 0 where
+  pub below : m < k .head .methods
+  pub count : countOf (subtreesOf x) ≡ length (methodAt (k .methods) m .subtasks)
+  pub brings : constraintsOf k x ≡ methodAt (k .methods) m .constraints
+  pub ownWithin : Within (k .head .cues) (span x)
+  pub subsWithin : Each (Within (k .head .cues)) (subtaskSpans x)
+
+pub method-node : (k : Case) (letter label : ℕ) (x : Tree) → Proper k x → Labels letter label (rootLine x) → namesMethod letter ≡ true → MethodNode k label x
+unfolding rootLine constraintsOf subtaskSpans
+method-node k letter label (leaf a i) p l e = absurd (true≢false (sym e ∙ l))
+method-node k letter label (empty m g) p l e =
+    subst (λ (n : ℕ). MethodNode k n (empty m g)) (sym (l .1))
+    (record { below = p .1; count = sym (p .2); brings = refl; ownWithin = p .0; subsWithin = λ s q. absurd (List·Memᴰ·not-nil q) })
+method-node k letter label (task m ts) p l e =
+    subst (λ (n : ℕ). MethodNode k n (task m ts)) (sym (l .1))
+    (record { below = p .1; count = p .2; brings = refl; ownWithin = p .0; subsWithin = p .3 })
+
+pub no-constraints : (k : Case) (letter label : ℕ) (x : Tree) → Labels letter label (rootLine x) → namesMethod letter ≡ false → constraintsOf k x ≡ []
+unfolding rootLine constraintsOf
+no-constraints k letter label (leaf a i) l e = refl
+no-constraints k letter label (empty m g) l e = absurd (true≢false (sym (l .0) ∙ e))
+no-constraints k letter label (task m ts) l e = absurd (true≢false (sym (l .0) ∙ e))
+
+pub method-good : (k : Case) (m : ℕ) → Sound k → m < k .head .methods → GoodMethod (k .head) (methodAt (k .methods) m)
+unfolding methodAt
+method-good k m s h = each-at (GoodMethod (k .head)) (k .methods) m noMethod (s .methods-good) (let e = s .methods-length in omega arith)
+
+-- ---- once its subtasks' nodes are stored
+
+module _ (k : Case) (t : Tree) (text : List ℕ) (past : ℕ) (header : Header) (planLine nodes : ℕ) (states work : List ℕ)
+    (r : Ready k t text past header planLine nodes states work) (n : ℕ) (h : n < size t) (m : ℕ) (w : MethodNode k m (nodeOfTree t n)) where
+  abbrev x : Tree
+  x = nodeOfTree t n
+
+  subtrees-held : HeldAll work (subtreesOf x) (n + 1)
+  subtrees-held = held-subtrees work x n (node-held k t text past header planLine nodes states work r n h)
+
+  pub few-subtrees : countOf (subtreesOf x) ≤ 32
+  few-subtrees =
+      let g = method-good k m (is-sound k t text past header planLine nodes states work r) (w .below) .few-subtasks in
+      let e = w .count in omega arith
+
+  pub subtrees-inside : Each (RowInside work) (siblings work (n + 1) (countOf (subtreesOf x)))
+  subtrees-inside = siblings-inside work (subtreesOf x) (n + 1) subtrees-held
+
+  abbrev after : List ℕ
+  after = sets work subtasksFrom (siblings work (n + 1) (countOf (subtreesOf x)))
+
+  few-nodes : length (siblings work (n + 1) (countOf (subtreesOf x))) ≤ 32
+  few-nodes = let e = siblings-length work (n + 1) (countOf (subtreesOf x)) in let f = few-subtrees in omega arith
+
+  pub after-leaves : Leaves work after
+  after-leaves = leaves-stored work (siblings work (n + 1) (countOf (subtreesOf x))) few-nodes
+
+  inside-after : (j : ℕ) → RowInside work j → RowInside after j
+  unfolding RowInside
+  inside-after j b = let e = after-leaves .same-size in omega arith
+
+  pub own-inside : RowInside after n
+  own-inside = inside-after n (root-row work x n (node-held k t text past header planLine nodes states work r n h) .inside)
+
+  pub own-span : rowSpan after n ≡ span x
+  own-span =
+      ap (λ (g : ℕ → Span). g n) (rows-stored work (siblings work (n + 1) (countOf (subtreesOf x))) few-nodes)
+      ∙ root-row work x n (node-held k t text past header planLine nodes states work r n h) .spanned
+
+  pub plan-room : planFrom ≤ length after
+  unfolding planFrom workNeed
+  plan-room = let e = after-leaves .same-size in let f = r .room in omega arith
+
+  pub placed : Placed (k .head .cues) (span x) (subtaskSpans x) after states (holdsIn (statesOf k))
+  unfolding spansIn planFrom workNeed
+  placed =
+      let ns : List ℕ = siblings work (n + 1) (countOf (subtreesOf x)) in
+      let rest : List ℕ = take (32 - length ns) (drop (subtasksFrom + length ns) work) in
+      let are : nodesIn after ≡ ns ++ rest = nodes-stored work ns few-nodes (let f = r .room in omega arith) in
+      let spanned : map (rowSpan work) ns ≡ subtaskSpans x = siblings-spans work (subtreesOf x) (n + 1) subtrees-held ∙ subtrees-spans x in
+      let long : length (subtaskSpans x) ≡ length ns = ap length (sym spanned) ∙ length-map ns (rowSpan work) in
+      record {
+        others = map (rowSpan after) rest;
+        spansAre = ap (map (rowSpan after)) are ∙ map-append (rowSpan after) ns rest
+            ∙ ap (λ (l : List Span). l ++ map (rowSpan after) rest) (ap (λ (g : ℕ → Span). map g ns) (rows-stored work ns few-nodes) ∙ spanned);
+        few = let f = few-nodes in omega arith;
+        inside = λ j b.
+            let here : j < length ns = omega arith in
+            subst (RowInside after) (sym (ap (λ (l : List ℕ). getD l j 0) are ∙ List·getD-append ns rest 0 j here))
+            (inside-after (getD ns j 0) (each-at (RowInside work) ns j 0 subtrees-inside here));
+        ownWithin = w .ownWithin;
+        subsWithin = w .subsWithin;
+        long = states-long k t text past header planLine nodes states work r;
+        agree = states-agree k t text past header planLine nodes states work r;
+      }

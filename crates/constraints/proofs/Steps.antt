@@ -1,0 +1,252 @@
+-- One node's constraints, by what the code read and stored for it; and the nodes in order: the first broken constraint of the whole tree is
+-- that from here on, after the nodes that kept theirs. Assumes nothing.
+use mathlib.Core.Path.{_≡_, refl, sym, ap, ap₂, subst, _∙_}
+use mathlib.Core.Bool.{Bool, true, false}
+use mathlib.Core.List.{List, [], _∷_}
+use mathlib.Core.Option.{Option, none, some}
+use Prim.Native.Nat.{ℕ, zero, suc, _+_, _-_, _*_, _≤_, _<_}
+use native.Mathlib.Numerals.{add-one}
+use native.Mathlib.Omega.{arith}
+use lib.ListN.{length, getD, drop, length-map, List·getD-map, drop-of-length-le}
+use lib.Seq.{sets, drop-cons}
+use Rattle.rules.specs.declared.Header.{Header}
+use Rattle.rules.specs.declared.Answer.{Answer}
+use Rattle.rules.specs.Index.{Span, Part, spanOfPart}
+use Rattle.rules.specs.Table as T
+use Rattle.rules.specs.Table.{readLine}
+use Rattle.rules.specs.Case.{Constraint, Method, methodAt, NodeLine, L, Case, oneLine, many}
+use Rattle.rules.specs.Tree.{Tree, leaf, preorder, rootLine, span, subtaskSpans}
+use Rattle.rules.specs.Constraint.{Holds, holdsIn, constraintsOf, partsOf, firstBrokenOf, orElse, firstBroken}
+use Rattle.rules.specs.Verdict.{workNeed, statesOf}
+use Rattle.rules.proofs.Judgement.Each.{Each}
+use Rattle.rules.proofs.Judgement.Sound.{GoodConstraint, GoodMethod}
+use Rattle.reading.specs.Directory.{methodsFrom}
+use Rattle.tree.specs.Layout.{planFrom, subtasksFrom, size, NodesFrom}
+use Rattle.text.specs.declared.Cursor.{Cursor}
+use Rattle.constraints.specs.declared.again.Again.{Again}
+use Rattle.constraints.specs.declared.again.Again.the-variants.{Line, Nothing}
+use Rattle.constraints.specs.declared.method.Kept.{Kept}
+use Rattle.constraints.specs.declared.method.Kept.the-variants.{All, Broken}
+use Rattle.parts.specs.States.{inRow}
+use Rattle.parts.specs.Spans.{rowSpan, RowInside, siblings, spansIn}
+use Rattle.parts.specs.Tests.{Tested}
+use Rattle.constraints.specs.Again.{asAgain}
+use Rattle.constraints.specs.Methods.{keptAs, testsAt}
+use Rattle.constraints.specs.Ready.{Ready, Leaves, namesMethod, Labels, nodeOfTree, brokenOfNode, brokenOfTree}
+use Rattle.constraints.proofs.Held.{countOf, subtreesOf, subtrees-spans, spans-length, preorder-length}
+use Rattle.constraints.proofs.Judging.{good-tested, broken-same}
+use Rattle.constraints.proofs.Finding.{MethodIs, method-found, NodeIs, node-found}
+use Rattle.constraints.proofs.Nodes.{leaves-all, leaves-then, is-sound, tree-is, size-is, ready-leaves, node-proper, MethodNode, method-node, no-constraints, method-good, few-subtrees, subtrees-inside, after-leaves, own-inside, own-span, plan-room, placed}
+
+-- ---- one node
+
+-- No constraints: nothing is broken.
+none-of : (k : Case) (t : Tree) (line n : ℕ) → constraintsOf k (nodeOfTree t n) ≡ [] → All ≡ keptAs (brokenOfNode k t line n)
+unfolding brokenOfNode
+none-of k t line n e = sym (ap (λ (ds : List Constraint). keptAs (firstBrokenOf (holdsIn (statesOf k)) (partsOf (nodeOfTree t n)) line 0 ds)) e)
+
+-- A leaf brings none.
+pub leaf-kept : (k : Case) (t : Tree) (line n letter label : ℕ) → Labels letter label (rootLine (nodeOfTree t n)) → namesMethod letter ≡ false
+    → All ≡ keptAs (brokenOfNode k t line n)
+leaf-kept k t line n letter label l e = none-of k t line n (no-constraints k letter label (nodeOfTree t n) l e)
+
+module _ (k : Case) (t : Tree) (text : List ℕ) (past : ℕ) (header : Header) (planLine nodes : ℕ) (states work : List ℕ)
+    (r : Ready k t text past header planLine nodes states work) (n : ℕ) (h : n < size t) (letter label : ℕ)
+    (labels : Labels letter label (rootLine (nodeOfTree t n))) (names : namesMethod letter ≡ true) where
+  pub node-is : MethodNode k label (nodeOfTree t n)
+  node-is = method-node k letter label (nodeOfTree t n) (node-proper k t text past header planLine nodes states work r n h) labels names
+
+  abbrev method : Method
+  method = methodAt (k .methods) label
+
+  pub method-inside : 1024 + label < length work
+  unfolding workNeed
+  method-inside =
+      let b = node-is .below in
+      let f = is-sound k t text past header planLine nodes states work r .head-good .few-methods in
+      let g = r .room in omega arith
+
+  pub few-enough : n + 1 ≤ 4294967295
+  few-enough =
+      let f = is-sound k t text past header planLine nodes states work r .head-good .few-nodes in
+      let e = size-is k t text past header planLine nodes states work r in omega arith
+
+  pub method-read : (place : ℕ) (y : Again) → place ≡ getD work (1024 + label) 0 → y ≡ asAgain (readLine text T.method header 0 place)
+      → MethodIs text (k .head) method y
+  unfolding methodsFrom
+  method-read place y e q =
+      let w = r .finds .methodLine label (node-is .below) in
+      method-found text (k .head) (w .0) (getD work (methodsFrom + label) 0) method (w .1) (w .2) (w .3) y
+      (q ∙ λ j. asAgain (readLine text T.method (r .heads j) 0 (e j)))
+
+  module _ (second third : ℕ) (d : Cursor) (counts : second ≡ length (method .subtasks)) (tests : testsAt text (k .head) second third (d .at) ≡ method .constraints) where
+    -- None follow the M line.
+    pub none-follow : (line : ℕ) → third ≡ 0 → All ≡ keptAs (brokenOfNode k t line n)
+    none-follow line e =
+        none-of k t line n (node-is .brings ∙ sym tests ∙ ap (λ (c : ℕ). testsAt text (k .head) second c (d .at)) e)
+
+    counted : second ≡ countOf (subtreesOf (nodeOfTree t n))
+    counted = counts ∙ sym (node-is .count)
+
+    pub few-second : second ≤ 32
+    few-second = let e = counted in let f = few-subtrees k t text past header planLine nodes states work r n h label node-is in omega arith
+
+    pub room-before : planFrom ≤ length work
+    unfolding planFrom workNeed
+    room-before = let f = r .room in omega arith
+
+    pub nodes-inside : Each (RowInside work) (siblings work (n + 1) second)
+    nodes-inside =
+        subst (λ (c : ℕ). Each (RowInside work) (siblings work (n + 1) c)) (sym counted)
+        (subtrees-inside k t text past header planLine nodes states work r n h label node-is)
+
+    module _ (new : List ℕ) (stores : new ≡ sets work subtasksFrom (siblings work (n + 1) second)) where
+      is-after : new ≡ sets work subtasksFrom (siblings work (n + 1) (countOf (subtreesOf (nodeOfTree t n))))
+      is-after = stores ∙ ap (λ (c : ℕ). sets work subtasksFrom (siblings work (n + 1) c)) counted
+
+      pub new-leaves : Leaves work new
+      new-leaves = subst (Leaves work) (sym is-after) (after-leaves k t text past header planLine nodes states work r n h label node-is)
+
+      pub new-inside : RowInside new n
+      new-inside =
+          subst (λ (w : List ℕ). RowInside w n) (sym is-after) (own-inside k t text past header planLine nodes states work r n h label node-is)
+
+      pub new-room : planFrom ≤ length new
+      new-room = subst (λ (w : List ℕ). planFrom ≤ length w) (sym is-after) (plan-room k t text past header planLine nodes states work r n h label node-is)
+
+      good : Each (GoodConstraint (k .head) (length (subtaskSpans (nodeOfTree t n)))) (method .constraints)
+      good =
+          let e : length (method .subtasks) ≡ length (subtaskSpans (nodeOfTree t n)) =
+          sym (node-is .count) ∙ sym (spans-length (subtreesOf (nodeOfTree t n))) ∙ ap length (subtrees-spans (nodeOfTree t n)) in
+          subst (λ (c : ℕ). Each (GoodConstraint (k .head) c) (method .constraints)) e
+          (method-good k label (is-sound k t text past header planLine nodes states work r) (node-is .below) .constraints-good)
+
+      module _ (own : Span) (owns : own ≡ rowSpan new n) where
+        own-is : own ≡ span (nodeOfTree t n)
+        own-is =
+            owns ∙ ap (λ (w : List ℕ). rowSpan w n) is-after ∙ own-span k t text past header planLine nodes states work r n h label node-is
+
+        pub new-tested : Each (Tested new states own) (testsAt text header second third (d .at))
+        new-tested =
+            subst (λ (ds : List Constraint). Each (Tested new states own) ds) (sym (ap (λ (x : Header). testsAt text x second third (d .at)) (r .heads) ∙ tests))
+            (λ x m.
+            subst (λ (w : List ℕ). Tested w states own x) (sym is-after)
+            (subst (λ (s : Span). Tested (sets work subtasksFrom (siblings work (n + 1) (countOf (subtreesOf (nodeOfTree t n))))) states s x) (sym own-is)
+            (good-tested (k .head) (k .head .cues) (span (nodeOfTree t n)) (subtaskSpans (nodeOfTree t n))
+            (sets work subtasksFrom (siblings work (n + 1) (countOf (subtreesOf (nodeOfTree t n))))) states (holdsIn (statesOf k))
+            (placed k t text past header planLine nodes states work r n h label node-is) x (good x m))))
+
+        pub new-kept : (line : ℕ) (kept : Kept)
+            → kept ≡ keptAs (firstBrokenOf (inRow states) (spanOfPart own (spansIn new)) line 0 (testsAt text header second third (d .at)))
+            → kept ≡ keptAs (brokenOfNode k t line n)
+        unfolding brokenOfNode partsOf
+        new-kept line kept e =
+            let x = nodeOfTree t n in
+            let ds : testsAt text header second third (d .at) ≡ constraintsOf k x =
+            ap (λ (y : Header). testsAt text y second third (d .at)) (r .heads) ∙ tests ∙ sym (node-is .brings) in
+            e
+            ∙ ap (λ (w : List ℕ). keptAs (firstBrokenOf (inRow states) (spanOfPart own (spansIn w)) line 0 (testsAt text header second third (d .at)))) is-after
+            ∙ ap₂ (λ (s : Span) (cs : List Constraint). keptAs (firstBrokenOf (inRow states) (spanOfPart s (spansIn (sets work subtasksFrom (siblings work (n + 1) (countOf (subtreesOf x)))))) line 0 cs)) own-is ds
+            ∙ ap keptAs (broken-same (k .head) (k .head .cues) (span x) (subtaskSpans x)
+            (sets work subtasksFrom (siblings work (n + 1) (countOf (subtreesOf x)))) states (holdsIn (statesOf k))
+            (placed k t text past header planLine nodes states work r n h label node-is) line 0 (constraintsOf k x)
+            (subst (λ (cs : List Constraint). Each (GoodConstraint (k .head) (length (subtaskSpans x))) cs) (sym (node-is .brings)) good))
+
+-- ---- the nodes in order
+
+unfoldable pub broken-from : Case → Tree → ℕ → Option Answer
+broken-from k t n = firstBroken k (holdsIn (statesOf k)) (k .planLine + 1 + n) (drop n (preorder t))
+
+pub record Going (k : Case) (t : Tree) (text : List ℕ) (past : ℕ) (header : Header) (planLine nodes : ℕ) (states start work : List ℕ) (place n : ℕ) : Type 0 where
+  pub ready : Ready k t text past header planLine nodes states work
+  pub leaves : Leaves start work
+  pub most : n ≤ size t
+  pub lines : NodesFrom text k n place
+  pub same : brokenOfTree k t ≡ broken-from k t n
+
+orElse-none : (o later : Option Answer) → All ≡ keptAs o → orElse o later ≡ later
+orElse-none none later e = refl
+orElse-none (some a) later e = let z : _≡_ {A = ℕ} 0 1 = cc in absurd (omega arith)
+
+orElse-some : (o later : Option Answer) (a : Answer) → Broken a ≡ keptAs o → orElse o later ≡ some a
+orElse-some none later a e = let z : _≡_ {A = ℕ} 0 1 = cc in absurd (omega arith)
+orElse-some (some b) later a e = let same : b ≡ a = cc in ap some same
+
+module _ (k : Case) (t : Tree) (text : List ℕ) (past : ℕ) (header : Header) (planLine nodes : ℕ) (states start : List ℕ) where
+  pub going-starts : Ready k t text past header planLine nodes states start → Going k t text past header planLine nodes states start start nodes 0
+  unfolding brokenOfTree broken-from
+  going-starts r =
+      let all : k .head .nodes ≡ k .head .nodes - 0 = omega arith in
+      let first : k .planLine + 1 ≡ k .planLine + 1 + 0 = omega arith in
+      record {
+        ready = r;
+        leaves = leaves-all start;
+        most = omega arith;
+        lines = record {
+          lines = r .finds .nodeLines;
+          number = k .planLine + 1;
+          past = r .finds .nodesRead .0;
+          next = r .finds .nodesRead .1;
+          reads = ap (λ (c : ℕ). many (oneLine text (k .head) T.node 0) c (k .planLine + 1) nodes) (sym all) ∙ r .finds .nodesRead .2;
+          are = r .finds .nodesAre;
+        };
+        same = ap (λ (l : ℕ). firstBroken k (holdsIn (statesOf k)) l (preorder t)) first;
+      }
+
+  module _ (work : List ℕ) (place n : ℕ) (g : Going k t text past header planLine nodes states start work place n) where
+    pub all-nodes : size t ≡ header .nodes
+    all-nodes = size-is k t text past header planLine nodes states work (g .ready) ∙ ap (λ (x : Header). x .nodes) (sym (g .ready .heads))
+
+    module _ (more : n < header .nodes) where
+      pub below : n < size t
+      below = let e = all-nodes in omega arith
+
+      pub going-line : (y : Again) → y ≡ asAgain (readLine text T.node header 0 place) → NodeIs text k n (rootLine (nodeOfTree t n)) y
+      unfolding nodeOfTree rootLine
+      going-line y q =
+          let s = is-sound k t text past header planLine nodes states work (g .ready) in
+          let e = all-nodes in
+          let z = size-is k t text past header planLine nodes states work (g .ready) in
+          let len = s .nodes-length in
+          subst (λ (x : NodeLine). NodeIs text k n x y)
+          (ap (λ (l : List NodeLine). getD l n (L 0 0)) (sym (tree-is k t text past header planLine nodes states work (g .ready) .preordered))
+          ∙ List·getD-map rootLine (preorder t) n (leaf 0 0))
+          (node-found text k n place (g .lines) (L 0 0) (omega arith) (omega arith) y (q ∙ ap (λ (x : Header). asAgain (readLine text T.node x 0 place)) (g .ready .heads)))
+
+      this-node : broken-from k t n ≡ orElse (brokenOfNode k t (k .planLine + 1 + n) n) (broken-from k t (n + 1))
+      unfolding brokenOfNode broken-from firstBroken nodeOfTree
+      this-node =
+          let len = preorder-length t in
+          let b = below in
+          let next : suc n ≡ n + 1 = sym (add-one n) in
+          let line : k .planLine + 1 + n + 1 ≡ k .planLine + 1 + (n + 1) = omega arith in
+          ap (firstBroken k (holdsIn (statesOf k)) (k .planLine + 1 + n)) (drop-cons (preorder t) n (leaf 0 0) (omega arith))
+          ∙ ap₂ (λ (l i : ℕ). orElse (brokenOfNode k t (k .planLine + 1 + n) n) (firstBroken k (holdsIn (statesOf k)) l (drop i (preorder t)))) line next
+
+      pub going-breaks : (line : ℕ) (answer : Answer) → line ≡ planLine + 1 + n → Broken answer ≡ keptAs (brokenOfNode k t line n)
+          → Broken answer ≡ keptAs (brokenOfTree k t)
+      going-breaks line answer e b =
+          let at : line ≡ k .planLine + 1 + n = e ∙ ap (λ (p : ℕ). p + 1 + n) (g .ready .plans) in
+          sym (ap keptAs (g .same ∙ this-node
+          ∙ orElse-some (brokenOfNode k t (k .planLine + 1 + n) n) (broken-from k t (n + 1)) answer (b ∙ ap (λ (l : ℕ). keptAs (brokenOfNode k t l n)) at)))
+
+      pub going-on : (line : ℕ) (new : List ℕ) (next : ℕ) → line ≡ planLine + 1 + n → All ≡ keptAs (brokenOfNode k t line n) → Leaves work new
+          → NodesFrom text k (n + 1) next → Going k t text past header planLine nodes states start new next (n + 1)
+      going-on line new next e b l f =
+          let at : line ≡ k .planLine + 1 + n = e ∙ ap (λ (p : ℕ). p + 1 + n) (g .ready .plans) in
+          let h = below in
+          record {
+            ready = ready-leaves k t text past header planLine nodes states work (g .ready) new l;
+            leaves = leaves-then (g .leaves) l;
+            most = omega arith;
+            lines = f;
+            same = g .same ∙ this-node
+                ∙ orElse-none (brokenOfNode k t (k .planLine + 1 + n) n) (broken-from k t (n + 1)) (b ∙ ap (λ (m : ℕ). keptAs (brokenOfNode k t m n)) at);
+          }
+
+    pub going-ends : header .nodes ≤ n → All ≡ keptAs (brokenOfTree k t)
+    unfolding broken-from firstBroken
+    going-ends over =
+        let len = preorder-length t in
+        let e = all-nodes in
+        sym (ap keptAs (g .same ∙ ap (firstBroken k (holdsIn (statesOf k)) (k .planLine + 1 + n)) (drop-of-length-le (preorder t) {i = n} (omega arith))))

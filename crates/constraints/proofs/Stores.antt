@@ -1,0 +1,63 @@
+-- The stores of the subtasks' nodes leave the directory and the rows, and the nodes stand first in their places. Assumes nothing.
+use mathlib.Core.Path.{_≡_, refl, sym, ap, ap₂, _∙_, fun-ext}
+use mathlib.Core.List.{List, [], _∷_, _++_, append-assoc}
+use Prim.Native.Nat.{ℕ, zero, suc, _+_, _-_, _*_, _≤_, _<_}
+use native.Mathlib.Omega.{arith}
+use lib.ListN.{length, getD, take, drop, set, length-drop, length-take}
+use lib.Seq.{sets, length-sets, sets-eq, getD-set-other, take-set-le, take-set-lt, drop-set-lt, take-append-add, drop-at, length-take-le}
+use Rattle.rules.specs.Index.{Span}
+use Rattle.rules.specs.Verdict.{workNeed}
+use Rattle.tree.specs.Layout.{marksFrom, subtasksFrom, planFrom, rowsFrom, rowsPast, directoryOf, rowsIn}
+use Rattle.parts.specs.Spans.{rowSpan, nodeAfter, siblings, nodesIn}
+use Rattle.constraints.specs.Ready.{Leaves}
+
+pub siblings-length : (work : List ℕ) (n count : ℕ) → length (siblings work n count) ≡ count
+siblings-length work n zero = refl
+siblings-length work n (suc count) = ap suc (siblings-length work (nodeAfter work n) count)
+
+sets-past : (l : List ℕ) (i : ℕ) (vs : List ℕ) (j : ℕ) → i + length vs ≤ j → getD (sets l i vs) j 0 ≡ getD l j 0
+sets-past l i [] j h = refl
+sets-past l i (v ∷ vs) j h = sets-past (set l i v) (suc i) vs j (omega arith) ∙ getD-set-other l i j v 0 (λ e. omega arith)
+
+take-sets : (n : ℕ) (l : List ℕ) (i : ℕ) (vs : List ℕ) → n ≤ i → take n (sets l i vs) ≡ take n l
+take-sets n l i [] h = refl
+take-sets n l i (v ∷ vs) h = take-sets n (set l i v) (suc i) vs (omega arith) ∙ take-set-le n l i v h
+
+slice-sets : (a b : ℕ) (l : List ℕ) (i : ℕ) (vs : List ℕ) → i + length vs ≤ a → a ≤ b → drop a (take b (sets l i vs)) ≡ drop a (take b l)
+slice-sets a b l i [] h le = refl
+slice-sets a b l i (v ∷ vs) h le =
+    slice-sets a b (set l i v) (suc i) vs (omega arith) le
+    ∙ ap (drop a) (take-set-lt b l i v (omega arith)) ∙ drop-set-lt a (take b l) i v (omega arith)
+
+module _ (work ns : List ℕ) (few : length ns ≤ 32) where
+  abbrev pub stored : List ℕ
+  stored = sets work subtasksFrom ns
+
+  pub leaves-stored : Leaves work stored
+  unfolding marksFrom subtasksFrom rowsFrom rowsPast
+  leaves-stored = record {
+    same-size = length-sets work subtasksFrom ns;
+    directory = take-sets marksFrom work subtasksFrom ns (omega arith);
+    rows = slice-sets rowsFrom rowsPast work subtasksFrom ns (omega arith) (omega arith);
+  }
+
+  pub rows-stored : rowSpan stored ≡ rowSpan work
+  unfolding rowSpan subtasksFrom rowsFrom
+  rows-stored = fun-ext (λ n.
+      let a = sets-past work subtasksFrom ns (rowsFrom + 3 * n) (omega arith) in
+      let b = sets-past work subtasksFrom ns (rowsFrom + 3 * n + 1) (omega arith) in
+      λ j. record { start = a j; end = b j })
+
+  pub nodes-stored : planFrom ≤ length work → nodesIn stored ≡ ns ++ take (32 - length ns) (drop (subtasksFrom + length ns) work)
+  unfolding nodesIn subtasksFrom planFrom
+  nodes-stored room =
+      let before : length (take subtasksFrom work) ≡ subtasksFrom = length-take-le subtasksFrom work (omega arith) in
+      let after : List ℕ = drop (subtasksFrom + length ns) work in
+      let all : planFrom ≡ length (take subtasksFrom work) + 32 = omega arith in
+      let some : 32 ≡ length ns + (32 - length ns) = omega arith in
+      ap (λ (l : List ℕ). drop subtasksFrom (take planFrom l)) (sets-eq ns work subtasksFrom (omega arith) ∙ append-assoc (take subtasksFrom work) ns after)
+      ∙ ap (λ (m : ℕ). drop subtasksFrom (take m (take subtasksFrom work ++ (ns ++ after)))) all
+      ∙ ap (drop subtasksFrom) (take-append-add (take subtasksFrom work) (ns ++ after) 32)
+      ∙ drop-at (take subtasksFrom work) (take 32 (ns ++ after)) subtasksFrom before
+      ∙ ap (λ (m : ℕ). take m (ns ++ after)) some
+      ∙ take-append-add ns after (32 - length ns)

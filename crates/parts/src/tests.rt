@@ -1,0 +1,74 @@
+// The tests of the four kinds of constraint (01, "Indexes"), at the spans of a task's parts. From an index to a state's number there are only
+// the two roundings of `index`.
+ghost use mathlib.Core.Path.{_≡_};
+ghost use Prim.Native.Nat.{_-_, _≤_};
+ghost use lib.ListN.{length};
+ghost use Rattle.rules.specs.Index.{c, f, spanOfPart};
+ghost use Rattle.rules.specs.Constraint.{holdsFrom, keeps};
+ghost use Rattle.index.specs.Spans.{spanOf};
+ghost use Rattle.tree.specs.Layout.{planFrom};
+ghost use Rattle.parts.specs.States.{inRow};
+ghost use Rattle.parts.specs.Spans.{spansIn};
+ghost use Rattle.parts.specs.Tests.{Timed, Tested, numbered};
+use crate::spans::span_of_set;
+use crate::spans::subtask_span;
+use crate::states::holds;
+use crate::states::holds_from;
+use index::Span;
+use index::StateNumber;
+
+// "before(p, U): p is in state c(U) - 1."
+fn keeps_before(states: &[u64], p: u32, u: Span) -> bool
+    requires { ⌜ Timed (now states) (spanOf u) ⌝ }
+    ensures { λ r. ⌜ r ≡ inRow (now (states .entry)) p (c (spanOf u) - 1) ⌝ }
+{
+    holds(states, p, StateNumber(u.c().0 - 1))
+}
+
+// "after(p, U): p is in state f(U)."
+fn keeps_after(states: &[u64], p: u32, u: Span) -> bool
+    requires { ⌜ Timed (now states) (spanOf u) ⌝ }
+    ensures { λ r. ⌜ r ≡ inRow (now (states .entry)) p (f (spanOf u)) ⌝ }
+{
+    holds(states, p, u.f())
+}
+
+// "between(U, p, V): p is in each state l with f(U) ≤ l < c(V); no such l, then it holds."
+fn keeps_between(states: &[u64], p: u32, u: Span, v: Span) -> bool
+    requires { ⌜ Timed (now states) (spanOf v) ⌝ }
+    ensures { λ r. ⌜ r ≡ holdsFrom (inRow (now (states .entry))) p (f (spanOf u)) (c (spanOf v)) ⌝ }
+{
+    holds_from(states, p, u.f(), v.c())
+}
+
+// Whether a task keeps the constraint of a line's letter and numbers: "O,i,j (i before j, i ≠ j, both subtask numbers); B,p,U (before);
+// F,p,U (after); W,U,p,V (between)".
+pub fn keeps(
+    work: &[u32],
+    states: &[u64],
+    own: Span,
+    letter: u8,
+    first: u32,
+    second: u32,
+    third: u32,
+) -> bool
+    requires { ⌜ planFrom ≤ length (now work) ⌝ }
+    requires { ⌜ Tested (now work) (now states) (spanOf own) (numbered letter first second third) ⌝ }
+    ensures { λ r. ⌜ r ≡ keeps (inRow (now (states .entry))) (spanOfPart (spanOf own) (spansIn (now (work .entry)))) (numbered letter first second third) ⌝ }
+{
+    if letter == b'O' {
+        return subtask_span(work, first).is_before(subtask_span(work, second));
+    }
+    if letter == b'B' {
+        return keeps_before(states, first, span_of_set(work, own, second));
+    }
+    if letter == b'F' {
+        return keeps_after(states, first, span_of_set(work, own, second));
+    }
+    keeps_between(
+        states,
+        second,
+        span_of_set(work, own, first),
+        span_of_set(work, own, third),
+    )
+}

@@ -1,0 +1,286 @@
+-- How a node's line fits: what the code reads of the node, and of the method that it names, settles the first step of the node's walk.
+-- Assumes nothing.
+use mathlib.Core.Path.{_≡_, refl, sym, ap, ap₂, subst, _∙_}
+use mathlib.Core.Bool.{Bool, true, false, _&&_, not, and-false}
+use mathlib.Core.List.{List, [], _∷_, map}
+use Prim.Native.Nat.{ℕ, zero, suc, _+_, _-_, _≤_, _<_}
+use native.Mathlib.Omega.{arith}
+use borrow.Author.Tests.{lt-ltb, le-leb, eq-eqb, ltb-true, ltb-false, eqb-true, eqb-false, not-true}
+use lib.Dec.{eqb, leb, ltb}
+use lib.ListN.{length, getD, set, drop, drop-of-length-le}
+use lib.Seq.{sets, drop-drop, drop-cons, getD-take, getD-set-other}
+use Rattle.rules.specs.declared.Answer.{Answer}
+use Rattle.rules.specs.declared.Answer.the-variants.{WrongNode, TooDeep}
+use Rattle.rules.specs.declared.Header.{Header}
+use Rattle.rules.specs.Table as T
+use Rattle.rules.specs.Table.{Value, scalar, members, numberOf, LineRead, line, readLine}
+use Rattle.rules.specs.Case.{Method, NodeLine, D, E, L, Case, methodAt, noMethod, scalarAt, Valued, nodeOf, Read, read, readCase, oneLine, many}
+use Rattle.rules.specs.Tree.{Tree, empty, Walk, Walks, asTask, walkSubtasks, noSubtasks, isMethodOf, fits, ClaimTest, mayClaim, walkFitting, walkNode}
+use Rattle.rules.proofs.Judgement.Each.{Each, each-at, both-true}
+use Rattle.rules.proofs.Judgement.Sound.{Sound, GoodHeader, GoodMethod, GoodNode, sound}
+use Rattle.lines.specs.Reading.{asLine, noValues}
+use Rattle.reading.specs.Directory.{methodsFrom, directorySize}
+use Rattle.tree.specs.declared.fit.Given.{Given}
+use Rattle.tree.specs.declared.fit.Place.{Place}
+use Rattle.tree.specs.declared.fit.Subtasks.{Subtasks}
+use Rattle.tree.specs.declared.fit.Entry.{Entry}
+use Rattle.tree.specs.declared.fit.Entry.the-variants.{Task, Empty, Leaf}
+use Rattle.tree.specs.declared.fit.EntryRead.{EntryRead}
+use Rattle.tree.specs.declared.fit.Fit.{Fit}
+use Rattle.tree.specs.declared.fit.Fit.the-variants.{Refused, Open, Empty as EmptyFit, Leaf as LeafFit}
+use Rattle.tree.specs.Layout.{marksFrom, directoryOf, NodesFrom}
+use Rattle.tree.specs.Numbers.{numbersAt}
+use Rattle.tree.specs.Fits.{lineAt, Follows, pickEntry, entryOf, entryRead, entryLine, WithMethod, methodHead, headIn, pickFit, fitOf, deepFit, atLevel}
+use Rattle.tree.specs.Standing.{MethodsAt, Steady, nodeFrom, listFrom, claimFrom, Beyond, Judged}
+use Rattle.tree.proofs.Numbers.{length-numbers, line-read, many-first, HeadIs, method-head}
+
+-- ---- The node's line
+
+sets-keeps : (vs l : List ℕ) (i j : ℕ) → j < i → getD (sets l i vs) j 0 ≡ getD l j 0
+sets-keeps [] l i j h = refl
+sets-keeps (v ∷ vs) l i j h = sets-keeps vs (set l i v) (suc i) j (omega arith) ∙ getD-set-other l i j v 0 (λ e. omega arith)
+
+-- The numbers of a line, as the line reader hands them over.
+abbrev valuesOf : List Value → List ℕ
+valuesOf vs = sets noValues 0 (map numberOf vs)
+
+value-0 : (vs : List Value) → getD (valuesOf vs) 0 0 ≡ scalarAt vs 0
+unfolding scalarAt
+value-0 [] = refl
+value-0 (v ∷ vs) = sets-keeps (map numberOf vs) (set noValues 0 (numberOf v)) 1 0 (omega arith)
+
+value-1 : (vs : List Value) → getD (valuesOf vs) 1 0 ≡ scalarAt vs 1
+unfolding scalarAt
+value-1 [] = refl
+value-1 (v ∷ []) = refl
+value-1 (v ∷ u ∷ vs) = sets-keeps (map numberOf vs) (set (set noValues 0 (numberOf v)) 1 (numberOf u)) 2 1 (omega arith)
+
+entry-line : (l : ℕ) (vs : List Value) → entryLine (entryOf l (valuesOf vs)) ≡ nodeOf (l, vs)
+unfolding entryOf nodeOf
+entry-line l vs = go (eqb l 68) (eqb l 69)
+  where
+    go : (d e : Bool)
+        → entryLine (pickEntry d (Task (getD (valuesOf vs) 0 0))
+        (pickEntry e (Empty (getD (valuesOf vs) 0 0) (getD (valuesOf vs) 1 0)) (Leaf (getD (valuesOf vs) 0 0) (getD (valuesOf vs) 1 0))))
+        ≡ elim d as (λ x. NodeLine) [
+          | true ↦ D (scalarAt vs 0)
+          | false ↦ elim e as (λ x. NodeLine) [ true ↦ E (scalarAt vs 0) (scalarAt vs 1) | false ↦ L (scalarAt vs 0) (scalarAt vs 1) ]
+        ]
+    go true e = ap D (value-0 vs)
+    go false true = ap₂ E (value-0 vs) (value-1 vs)
+    go false false = ap₂ L (value-0 vs) (value-1 vs)
+
+drop-tail : {A : Type 0} (n : ℕ) (l : List A) (x : A) (xs : List A) → drop n l ≡ x ∷ xs → drop (n + 1) l ≡ xs
+drop-tail n l x xs e = sym (drop-drop 1 n l) ∙ ap (drop 1) e
+
+-- The node lines from node n on: its own entry, and those after it.
+pub record EntryHere (text : List ℕ) (k : Case) (n : ℕ) (r : EntryRead) : Type 0 where
+  pub here : drop n (k .nodes) ≡ entryLine (r .entry) ∷ drop (n + 1) (k .nodes)
+  pub rest : NodesFrom text k (n + 1) (r .next .at)
+
+pub entry-here : (text : List ℕ) (k : Case) (n place : ℕ) → NodesFrom text k n place → n < k .head .nodes
+    → EntryHere text k n (entryRead (asLine (readLine text T.node (k .head) 0 place)))
+unfolding asLine
+entry-here text k n place f h =
+    let left : k .head .nodes - n ≡ suc (k .head .nodes - (n + 1)) = omega arith in
+    let each = oneLine text (k .head) T.node 0 in
+    let m = many-first each (k .head .nodes - (n + 1)) (f .number) place (f .lines) (f .past) (f .next)
+    (sym (ap (λ (c : ℕ). many each c (f .number) place) left) ∙ f .reads) in
+    let x = m .0 in
+    let e = line-read text (k .head) T.node (f .number) place x (m .1) (m .2) (m .4) in
+    let all : nodeOf x ∷ map nodeOf (m .3) ≡ drop n (k .nodes) = sym (ap (map nodeOf) (m .6)) ∙ f .are in
+    let tail : drop (n + 1) (k .nodes) ≡ map nodeOf (m .3) = drop-tail n (k .nodes) (nodeOf x) (map nodeOf (m .3)) (sym all) in
+    subst (λ (r : LineRead). EntryHere text k n (entryRead (asLine r))) (sym e)
+    (record {
+      here = sym all ∙ ap₂ _∷_ (sym (entry-line (x .0) (x .1))) (sym tail);
+      rest = record { lines = m .3; number = m .1; past = f .past; next = f .next; reads = m .5; are = sym tail };
+    })
+
+-- Each node's numbers are in their ranges.
+pub good-node : (k : Case) → Sound k → (n : ℕ) (x : NodeLine) (left : List NodeLine) → n < k .head .nodes → drop n (k .nodes) ≡ x ∷ left → GoodNode (k .head) x
+good-node k s n x left h e =
+    let room : n < length (k .nodes) = omega (arith, s .nodes-length) in
+    let same : getD (k .nodes) n (D 0) ≡ x = first (sym (drop-cons (k .nodes) n (D 0) room) ∙ e) in
+    subst (GoodNode (k .head)) same (each-at (GoodNode (k .head)) (k .nodes) n (D 0) (s .nodes-good) room)
+  where
+    first : {y z : NodeLine} {ys zs : List NodeLine} → y ∷ ys ≡ z ∷ zs → y ≡ z
+    first e = cc
+
+-- ---- The method that it names
+
+and-implied : (a b : Bool) → (b ≡ true → a ≡ true) → (a && b) ≡ b
+and-implied a true f = ap (λ (x : Bool). x && true) (f refl)
+and-implied a false f = and-false a
+
+module _ (text : List ℕ) (k : Case) (w : List ℕ) (s : Sound k) (found : MethodsAt text k (directoryOf w)) (m : ℕ) (h : m < k .head .methods) where
+  head-here : HeadIs text (getD w (methodsFrom + m) 0) (methodAt (k .methods) m)
+  unfolding methodsFrom marksFrom
+  head-here =
+      let few = s .head-good .few-methods in
+      let q = found m h in
+      subst (λ (p : ℕ). HeadIs text p (methodAt (k .methods) m)) (getD-take marksFrom w (methodsFrom + m) 0 (omega arith))
+      (method-head text (k .head) (q .0) (getD (directoryOf w) (methodsFrom + m) 0) (methodAt (k .methods) m) (q .1) (q .2) (q .3))
+
+  is-method : (t : ℕ) → isMethodOf k m t ≡ eqb (headIn text w m .task) t
+  unfolding isMethodOf methodAt
+  is-method t =
+      let room : m < length (k .methods) = omega (arith, s .methods-length) in
+      let good : GoodMethod (k .head) (methodAt (k .methods) m) = each-at (GoodMethod (k .head)) (k .methods) m noMethod (s .methods-good) room in
+      let mt = methodAt (k .methods) m .task in
+      ap (λ (b : Bool). b && (leb (k .head .actions) t && eqb mt t)) (lt-ltb m (length (k .methods)) room)
+      ∙ and-implied (leb (k .head .actions) t) (eqb mt t) (λ e. le-leb (k .head .actions) t (let q = eqb-true mt t e in let l = good .task-least in omega arith))
+      ∙ ap (λ (x : ℕ). eqb x t) (head-here .task)
+
+  no-subtasks : noSubtasks (methodAt (k .methods) m) ≡ eqb (headIn text w m .subtasks .count) 0
+  unfolding noSubtasks
+  no-subtasks =
+      let c = headIn text w m .subtasks in
+      ap (λ (l : List ℕ). eqb (length l) 0) (head-here .subtasks) ∙ ap (λ (x : ℕ). eqb x 0) (length-numbers text (c .count) (c .at .at))
+
+  fits-task : (t : ℕ) → fits k (D m) t ≡ (eqb (headIn text w m .task) t && not (eqb (headIn text w m .subtasks .count) 0))
+  unfolding fits
+  fits-task t = ap₂ (λ (a b : Bool). a && not b) (is-method t) no-subtasks
+
+  fits-empty : (t g : ℕ) → fits k (E m g) t ≡ (eqb (headIn text w m .task) t && eqb (headIn text w m .subtasks .count) 0)
+  unfolding fits
+  fits-empty t g = ap₂ (λ (a b : Bool). a && b) (is-method t) no-subtasks
+
+fits-leaf : (k : Case) (a i t : ℕ) → a < k .head .actions → fits k (L a i) t ≡ eqb a t
+unfolding fits
+fits-leaf k a i t h =
+    and-implied (ltb t (k .head .actions)) (eqb a t) (λ e. lt-ltb t (k .head .actions) (let q = eqb-true a t e in omega arith))
+
+-- ---- The first step of the node's walk
+
+module _ (k : Case) (ok : ClaimTest) (t line : ℕ) (claimed : List ℕ) where
+  pub walk-lacking : (levels : ℕ) → walkNode levels k ok t line [] claimed ≡ Walk.refused (WrongNode line)
+  unfolding walkNode
+  walk-lacking zero = refl
+  walk-lacking (suc levels) = refl
+
+  module _ (x : NodeLine) (left : List NodeLine) where
+    abbrev byFit : Walk → Bool → Walk
+    byFit w b = elim b [ true ↦ w | false ↦ Walk.refused (WrongNode line) ]
+
+    walk-misfit : (levels : ℕ) → fits k x t ≡ false → walkNode levels k ok t line (x ∷ left) claimed ≡ Walk.refused (WrongNode line)
+    unfolding walkNode
+    walk-misfit zero e = ap (byFit (Walk.refused (TooDeep line))) e
+    walk-misfit (suc levels) e = ap (byFit (walkFitting k ok (walkNode levels k ok) x line left claimed)) e
+
+    walk-deep : fits k x t ≡ true → walkNode zero k ok t line (x ∷ left) claimed ≡ Walk.refused (TooDeep line)
+    unfolding walkNode
+    walk-deep e = ap (byFit (Walk.refused (TooDeep line))) e
+
+    walk-fits : (levels : ℕ) → fits k x t ≡ true
+        → walkNode (suc levels) k ok t line (x ∷ left) claimed ≡ walkFitting k ok (walkNode levels k ok) x line left claimed
+    unfolding walkNode
+    walk-fits levels e = ap (byFit (walkFitting k ok (walkNode levels k ok) x line left claimed)) e
+
+-- ---- What the code's fit makes of it
+
+module _ (text : List ℕ) (k : Case) (p : Place) (t level : ℕ) where
+  abbrev n : ℕ
+  n = p .node
+
+  abbrev ok : ClaimTest
+  ok = mayClaim (k .plan)
+
+  abbrev here : ℕ
+  here = lineAt (k .planLine) n
+
+  abbrev wrong : Answer
+  wrong = WrongNode here
+
+  abbrev deep : Answer
+  deep = TooDeep here
+
+  pub judged-lacking : k .head .nodes ≤ n → Sound k → Judged text k p t level (Refused wrong)
+  judged-lacking h s claimed =
+      let none : drop n (k .nodes) ≡ [] = drop-of-length-le (k .nodes) {i = n} (let l = s .nodes-length in omega arith) in
+      ap (λ (l : List NodeLine). walkNode (65 - level) k ok t here l claimed) none ∙ walk-lacking k ok t here claimed (65 - level)
+
+  module _ (x : NodeLine) (there : drop n (k .nodes) ≡ x ∷ drop (n + 1) (k .nodes)) where
+    misfits : fits k x t ≡ false → Judged text k p t level (Refused wrong)
+    misfits e claimed =
+        ap (λ (l : List NodeLine). walkNode (65 - level) k ok t here l claimed) there
+        ∙ walk-misfit k ok t here claimed x (drop (n + 1) (k .nodes)) (65 - level) e
+
+    too-deep : fits k x t ≡ true → ltb level 65 ≡ false → Judged text k p t level (Refused deep)
+    too-deep e h claimed =
+        let z : 65 - level ≡ zero = let q = ltb-false level 65 h in omega arith in
+        ap (λ (l : List NodeLine). walkNode (65 - level) k ok t here l claimed) there
+        ∙ ap (λ (d : ℕ). walkNode d k ok t here (x ∷ drop (n + 1) (k .nodes)) claimed) z
+        ∙ walk-deep k ok t here claimed x (drop (n + 1) (k .nodes)) e
+
+    goes : fits k x t ≡ true → ltb level 65 ≡ true → (claimed : List ℕ)
+        → nodeFrom k (65 - level) t n claimed ≡ walkFitting k ok (walkNode (64 - level) k ok) x here (drop (n + 1) (k .nodes)) claimed
+    goes e h claimed =
+        let z : 65 - level ≡ suc (64 - level) = let q = ltb-true level 65 h in omega arith in
+        ap (λ (l : List NodeLine). walkNode (65 - level) k ok t here l claimed) there
+        ∙ ap (λ (d : ℕ). walkNode d k ok t here (x ∷ drop (n + 1) (k .nodes)) claimed) z
+        ∙ walk-fits k ok t here claimed x (drop (n + 1) (k .nodes)) (64 - level) e
+
+    -- A fit f, if the test says so and a level is left.
+    judged-by : (f : Fit) (b v : Bool) → fits k x t ≡ b → ltb level 65 ≡ v → deepFit f deep ≡ Refused deep
+        → (fits k x t ≡ true → ltb level 65 ≡ true → Judged text k p t level f)
+        → Judged text k p t level (pickFit v (pickFit b f (Refused wrong)) (deepFit (pickFit b f (Refused wrong)) deep))
+    judged-by f true true e h z w = w e h
+    judged-by f true false e h z w = subst (Judged text k p t level) (sym z) (too-deep e h)
+    judged-by f false true e h z w = misfits e
+    judged-by f false false e h z w = misfits e
+
+  next-line : here + 1 ≡ lineAt (k .planLine) (n + 1)
+  unfolding lineAt
+  next-line = omega arith
+
+  module _ (w : List ℕ) (s : Sound k) (found : MethodsAt text k (directoryOf w)) where
+    open-judged : (m : ℕ) (next : Place) → drop n (k .nodes) ≡ D m ∷ drop (n + 1) (k .nodes) → m < k .head .methods → Beyond text k p next
+        → fits k (D m) t ≡ true → ltb level 65 ≡ true → Judged text k p t level (Open (headIn text w m .subtasks) next)
+    open-judged m next there h b e v =
+        let c = headIn text w m .subtasks in
+        let test = sym (fits-task text k w s found m h t) ∙ e in
+        let some = eqb-false (c .count) 0 (not-true (eqb (c .count) 0) (both-true (eqb (headIn text w m .task) t) (not (eqb (c .count) 0)) test .1)) in (
+          m,
+          (λ claimed. goes (D m) there e v claimed
+              ∙ λ j. asTask m (walkSubtasks (walkNode (64 - level) k ok) (head-here text k w s found m h .subtasks j) (next-line j) (drop (n + 1) (k .nodes)) claimed)),
+          ltb-true level 65 v,
+          omega arith,
+          b,
+        )
+
+    empty-judged : (m g : ℕ) (next : Place) → drop n (k .nodes) ≡ E m g ∷ drop (n + 1) (k .nodes) → g ≤ k .head .cues → Beyond text k p next
+        → fits k (E m g) t ≡ true → ltb level 65 ≡ true → Judged text k p t level (EmptyFit g next)
+    empty-judged m g next there h b e v = (
+      m,
+      (λ claimed. goes (E m g) there e v claimed ∙ ap (λ (l : ℕ). Walk.walked (empty m g) l (drop (n + 1) (k .nodes)) claimed) next-line),
+      (let few = s .head-good .few-cues in omega arith),
+      b,
+    )
+
+    leaf-judged : (a i : ℕ) (next : Place) → drop n (k .nodes) ≡ L a i ∷ drop (n + 1) (k .nodes) → 1 ≤ i → i ≤ k .head .cues → Beyond text k p next
+        → fits k (L a i) t ≡ true → ltb level 65 ≡ true → Judged text k p t level (LeafFit a i next)
+    leaf-judged a i next there h h′ b e v = (
+      (λ claimed. goes (L a i) there e v claimed
+          ∙ ap (λ (l : ℕ). elim (ok a i claimed) as (λ z. Walk) [
+            | true ↦ Walk.walked (Rattle.rules.specs.Tree.leaf a i) l (drop (n + 1) (k .nodes)) (i ∷ claimed)
+            | false ↦ Walk.refused (Rattle.rules.specs.declared.Answer.the-variants.WrongClaim here i)
+          ]) next-line),
+      h,
+      h′,
+      b,
+    )
+
+    pub judged : (entry : Entry) (next : Place) → drop n (k .nodes) ≡ entryLine entry ∷ drop (n + 1) (k .nodes) → GoodNode (k .head) (entryLine entry)
+        → Beyond text k p next → Judged text k p t level (atLevel level (fitOf text w entry next t wrong) deep)
+    unfolding atLevel fitOf
+    judged (Task m) next there good b =
+        judged-by (D m) there (Open (headIn text w m .subtasks) next)
+        (eqb (headIn text w m .task) t && not (eqb (headIn text w m .subtasks .count) 0)) (ltb level 65)
+        (fits-task text k w s found m good t) refl refl (open-judged m next there good b)
+    judged (Empty m g) next there good b =
+        judged-by (E m g) there (EmptyFit g next)
+        (eqb (headIn text w m .task) t && eqb (headIn text w m .subtasks .count) 0) (ltb level 65)
+        (fits-empty text k w s found m (good .0) t g) refl refl (empty-judged m g next there (good .1) b)
+    judged (Leaf a i) next there good b =
+        judged-by (L a i) there (LeafFit a i next) (eqb a t) (ltb level 65) (fits-leaf k a i t (good .0)) refl refl
+        (leaf-judged a i next there (good .1) (good .2) b)

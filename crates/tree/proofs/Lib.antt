@@ -1,0 +1,11 @@
+-- What the proofs of several functions use, and what later crates may rely on.
+pub mod Numbers
+pub mod Stores
+pub mod Claimed
+pub mod Planned
+pub mod Preorder
+mod Judging
+mod Steps
+mod Passing
+mod Within
+mod Whole

@@ -1,0 +1,287 @@
+-- Numbers read again: what a line's row of the table read is what the code finds by taking the numbers from left to right. Assumes nothing.
+use mathlib.Core.Path.{_≡_, refl, sym, ap, ap₂, subst, _∙_}
+use mathlib.Core.Bool.{Bool, true, false, _&&_}
+use mathlib.Core.List.{List, [], _∷_, _++_}
+use mathlib.Core.Option.{some}
+use Prim.Native.Nat.{ℕ, zero, suc, _+_}
+use lib.Dec.{eqb, leb}
+use lib.ListN.{length}
+use Rattle.rules.specs.declared.Header.{Header}
+use Rattle.rules.specs.Text.{Number, number, notPlain, missing, numberAt, Letter, letter, noLetter, letterAt, Ending, ended, surplus, endingAt, feedFollows}
+use Rattle.rules.specs.Table as T
+use Rattle.rules.specs.Table.{Role, Item, one, Row, table, rowIn, rowOf, roleNumber, inRange, taken, out, take, Value, scalar, members, numberOf, ItemRead, item, followTaken, withMember, leastAfter, readMembers, readList, readItem, LineRead, line, followItem, withValue, finishLine, readItems, readRow, readLetter, readLine}
+use Rattle.rules.specs.Case.{Method, Case, Valued, Read, read, refused, follow, readOf, oneLine, many, oneMethod, methodOf, scalarAt, membersAt}
+use Rattle.text.specs.declared.Cursor.{Cursor}
+use Rattle.text.specs.declared.Field.{Field}
+use Rattle.text.specs.declared.Field.the-variants.{Number as ReadNumber, NotPlain, Missing}
+use Rattle.text.specs.declared.Letter.{Letter as ReadLetter}
+use Rattle.text.specs.declared.Letter.the-variants.{Byte, Wrong}
+use Rattle.text.specs.Cursor.{cursor, asField, asLetter}
+use Rattle.reading.specs.Directory.{LineIs}
+use Rattle.tree.specs.declared.number.Numbered.{Numbered}
+use Rattle.tree.specs.Numbers.{valueIn, nextIn, numbered, placeAfter, afterLetter, numbersAt, PlanAt}
+use Rattle.tree.specs.Fits.{methodHead, taskPlace, countPlace, subtaskPlace}
+
+-- ---- What the code makes of a field and of a letter
+
+abbrev pub numberedBy : Field → Numbered
+numberedBy (ReadNumber v d) = record { value = v; next = d }
+numberedBy NotPlain = record { value = 0; next = cursor 0 }
+numberedBy Missing = record { value = 0; next = cursor 0 }
+
+pub numbered-of : (x : Number) {f : Field} → f ≡ asField x → numberedBy f ≡ numbered x
+unfolding valueIn nextIn
+numbered-of (number v next) e = ap numberedBy e
+numbered-of notPlain e = ap numberedBy e
+numbered-of missing e = ap numberedBy e
+
+abbrev pub placedBy : ReadLetter → Cursor
+placedBy (Byte b d) = d
+placedBy Wrong = cursor 0
+
+pub placed-of : (x : Letter) {f : ReadLetter} → f ≡ asLetter x → placedBy f ≡ afterLetter x
+unfolding placeAfter
+placed-of (letter b next) e = ap placedBy e
+placed-of noLetter e = ap placedBy e
+
+pub length-numbers : (text : List ℕ) (count place : ℕ) → length (numbersAt text count place) ≡ count
+length-numbers text zero place = refl
+length-numbers text (suc count) place = ap suc (length-numbers text count (nextIn (numberAt text place)))
+
+-- ---- What an item of the table reads, and where the next one starts
+
+abbrev ItemTells : (Value → ℕ → Type 0) → ItemRead → Type 0
+ItemTells P (item v field next) = P v next
+ItemTells P (ItemRead.unreadable field) = Unit {0}
+ItemTells P (ItemRead.outside field) = Unit {0}
+
+taken-tells : (P : Value → ℕ → Type 0) (ok : ℕ → Bool) (x : Number) (field : ℕ) (rest : ℕ → ℕ → ItemRead)
+    → ItemTells P (rest (valueIn x) (nextIn x)) → ItemTells P (followTaken (take ok x) field rest)
+unfolding valueIn nextIn
+taken-tells P ok (number v next) field rest f = go (ok v)
+  where
+    go : (b : Bool) → ItemTells P (followTaken (elim b [ true ↦ taken v next | false ↦ out ]) field rest)
+    go true = f
+    go false = tt
+taken-tells P ok notPlain field rest f = tt
+taken-tells P ok missing field rest f = tt
+
+member-tells : (v : ℕ) (vs : List ℕ) (r : ItemRead) → ItemTells (λ x next. x ≡ members vs) r → ItemTells (λ x next. x ≡ members (v ∷ vs)) (withMember v r)
+member-tells v vs (item (scalar w) field next) h = absurd (let z : _≡_ {A = ℕ} 0 1 = cc in native.Mathlib.Nat.not-suc-le-zero (native.Mathlib.Nat.le-of-eq (sym z)))
+member-tells v vs (item (members ws) field next) h = let e : ws ≡ vs = cc in ap (λ (l : List ℕ). members (v ∷ l)) e
+member-tells v vs (ItemRead.unreadable field) h = tt
+member-tells v vs (ItemRead.outside field) h = tt
+
+module _ (text : List ℕ) (ok : ℕ → Bool) (ascending : Bool) where
+  members-tell : (count low field place : ℕ)
+      → ItemTells (λ x next. x ≡ members (numbersAt text count place)) (readMembers text ok ascending count low field place)
+  members-tell zero low field place = refl
+  members-tell (suc count) low field place =
+      let v = valueIn (numberAt text place) in
+      let place′ = nextIn (numberAt text place) in
+      taken-tells (λ x next. x ≡ members (numbersAt text (suc count) place)) (λ w. leb low w && ok w) (numberAt text place) field
+      (λ w next. withMember w (readMembers text ok ascending count (leastAfter ascending w) (field + 1) next))
+      (member-tells v (numbersAt text count place′) (readMembers text ok ascending count (leastAfter ascending v) (field + 1) place′)
+      (members-tell count (leastAfter ascending v) (field + 1) place′))
+
+-- ---- What a line reads
+
+abbrev LineTells : (List Value → Type 0) → LineRead → Type 0
+LineTells P (line l vs next) = P vs
+LineTells P (LineRead.unreadable field) = Unit {0}
+LineTells P (LineRead.outside field) = Unit {0}
+
+value-tells : (P : List Value → Type 0) (v : Value) (r : LineRead) → LineTells (λ vs. P (v ∷ vs)) r → LineTells P (withValue v r)
+value-tells P v (line l vs next) h = h
+value-tells P v (LineRead.unreadable field) h = tt
+value-tells P v (LineRead.outside field) h = tt
+
+item-then : (P : List Value → Type 0) (Q : Value → ℕ → Type 0) (r : ItemRead) (rest : Value → ℕ → ℕ → LineRead) → ItemTells Q r
+    → ((v : Value) (field next : ℕ) → Q v next → LineTells P (rest v field next)) → LineTells P (followItem r rest)
+item-then P Q (item v field next) rest q f = f v field next q
+item-then P Q (ItemRead.unreadable field) rest q f = tt
+item-then P Q (ItemRead.outside field) rest q f = tt
+
+any-line : (P : List Value → Type 0) (r : LineRead) → ((vs : List Value) → P vs) → LineTells P r
+any-line P (line l vs next) f = f vs
+any-line P (LineRead.unreadable field) f = tt
+any-line P (LineRead.outside field) f = tt
+
+-- A besides B, where the test passes.
+abbrev AlsoIf : Bool → Type 0 → Type 0 → Type 0
+AlsoIf true A B = A × B
+AlsoIf false A B = B
+
+-- What the items of each row of a role read.
+abbrev RowsTell : Role → (List Item → Type 0) → List Row → Type 0
+RowsTell due P [] = Unit {0}
+RowsTell due P (r ∷ rs) = AlsoIf (eqb (roleNumber due) (roleNumber (r .role))) (P (r .items)) (RowsTell due P rs)
+
+also-rest : (d : Bool) (A B : Type 0) → AlsoIf d A B → B
+also-rest true A B w = w .1
+also-rest false A B w = w
+
+module _ (text : List ℕ) (due : Role) (h : Header) (n : ℕ) (P : List Value → Type 0) where
+  -- Items that are read from a place on tell of the values.
+  abbrev FromPlace : ℕ → ℕ → List Item → Type 0
+  FromPlace l place is = LineTells P (readItems text h n l is [] 2 place)
+
+  rows-tell : (l place : ℕ) (rs : List Row) → RowsTell due (FromPlace l place) rs → LineTells P (readRow text due h n l place (rowIn l rs))
+  rows-tell l place [] f = tt
+  rows-tell l place (r ∷ rs) f =
+      go (eqb l (r .letter))
+      (rows-tell l place rs (also-rest (eqb (roleNumber due) (roleNumber (r .role))) (FromPlace l place (r .items)) (RowsTell due (FromPlace l place) rs) f))
+    where
+      chosen : (d : Bool) → AlsoIf d (FromPlace l place (r .items)) (RowsTell due (FromPlace l place) rs)
+          → LineTells P (elim d [ true ↦ readItems text h n l (r .items) [] 2 place | false ↦ LineRead.unreadable 1 ])
+      chosen true g = g .0
+      chosen false g = tt
+
+      go : (b : Bool) → LineTells P (readRow text due h n l place (rowIn l rs))
+          → LineTells P (readRow text due h n l place (elim b [ true ↦ some r | false ↦ rowIn l rs ]))
+      go true rest = chosen (eqb (roleNumber due) (roleNumber (r .role))) f
+      go false rest = rest
+
+  line-tells : (place : ℕ) → ((l : ℕ) → RowsTell due (FromPlace l (placeAfter (letterAt text place))) table) → LineTells P (readLine text due h n place)
+  unfolding readLine rowOf placeAfter
+  line-tells place f = go (feedFollows text place)
+    where
+      found : (x : Letter) → ((l : ℕ) → RowsTell due (FromPlace l (placeAfter x)) table) → LineTells P (readLetter text due h n x)
+      found (letter b next) g = rows-tell b next table (g b)
+      found noLetter g = tt
+
+      go : (b : Bool) → LineTells P (elim b [ true ↦ readLetter text due h n (letterAt text place) | false ↦ LineRead.unreadable 0 ])
+      go true = found (letterAt text place) f
+      go false = tt
+
+-- ---- The P line and the M line
+
+plan-tells : (text : List ℕ) (h : Header) (place : ℕ)
+    → LineTells (λ vs. membersAt vs 0 ≡ numbersAt text (h .cues) (placeAfter (letterAt text place))) (readLine text T.plan h 0 place)
+unfolding table roleNumber readItem membersAt
+plan-tells text h place =
+    let start = placeAfter (letterAt text place) in
+    let P : List Value → Type 0 = λ vs. membersAt vs 0 ≡ numbersAt text (h .cues) start in
+    line-tells text T.plan h 0 P place (λ l. (
+      item-then P (λ x next. x ≡ members (numbersAt text (h .cues) start)) (readMembers text (inRange h 0 [] T.anAction) false (h .cues) 0 2 start)
+          (λ v after next. withValue v (readItems text h 0 l [] ([] ++ (numberOf v ∷ [])) after next))
+          (members-tell text (inRange h 0 [] T.anAction) false (h .cues) 0 2 start)
+          (λ v after next e. value-tells P v (readItems text h 0 l [] ([] ++ (numberOf v ∷ [])) after next)
+          (any-line (λ vs. P (v ∷ vs)) (readItems text h 0 l [] ([] ++ (numberOf v ∷ [])) after next) (λ vs. ap Rattle.rules.specs.Case.listOf e))),
+      tt,
+    ))
+
+-- The plan's actions are the numbers of its line.
+pub plan-numbers : (text : List ℕ) (k : Case) (cues place : ℕ) (w : List ℕ) → PlanAt text k cues place w
+    → numbersAt text cues (placeAfter (letterAt text place)) ≡ k .plan
+plan-numbers text k cues place w p =
+    ap (λ (c : ℕ). numbersAt text c (placeAfter (letterAt text place))) (p .count)
+    ∙ sym (subst (LineTells (λ vs. membersAt vs 0 ≡ numbersAt text (k .head .cues) (placeAfter (letterAt text place)))) (p .planLine .reads)
+    (plan-tells text (k .head) place))
+    ∙ p .planCues
+
+-- What the numbers of a method's line are.
+abbrev HeadTold : List ℕ → ℕ → List Value → Type 0
+HeadTold text place vs =
+    (scalarAt vs 0 ≡ valueIn (numberAt text (taskPlace text place)))
+    × (membersAt vs 1 ≡ numbersAt text (valueIn (numberAt text (countPlace text place))) (subtaskPlace text place))
+
+method-tells : (text : List ℕ) (h : Header) (place : ℕ) → LineTells (HeadTold text place) (readLine text T.method h 0 place)
+unfolding table roleNumber readItem readList membersAt scalarAt
+method-tells text h place =
+    let t = numberAt text (taskPlace text place) in
+    let c = numberAt text (countPlace text place) in
+    let P : List Value → Type 0 = HeadTold text place in
+    line-tells text T.method h 0 P place (λ l. (
+      item-then P (λ x next. (x ≡ scalar (valueIn t)) × (next ≡ nextIn t)) (readItem text h 0 [] (one T.compound) 2 (taskPlace text place)) _
+          (taken-tells (λ x next. (x ≡ scalar (valueIn t)) × (next ≡ nextIn t)) (inRange h 0 [] T.compound) t 2 (λ v next. item (scalar v) 3 next) (refl, refl))
+          (λ v after next e.
+          let is : List Item = T.subtaskList ∷ one (T.upTo 64) ∷ [] in
+          value-tells P v (readItems text h 0 l is ([] ++ (numberOf v ∷ [])) after next)
+          (item-then (λ vs. P (v ∷ vs)) (λ x next. x ≡ members (numbersAt text (valueIn c) (nextIn c)))
+          (readItem text h 0 ([] ++ (numberOf v ∷ [])) T.subtaskList after next) _
+          (rw (e .1)
+          (taken-tells (λ x next. x ≡ members (numbersAt text (valueIn c) (nextIn c))) (inRange h 0 ([] ++ (numberOf v ∷ [])) (T.upTo 32)) c after
+          (λ count start. readMembers text (inRange h 0 ([] ++ (numberOf v ∷ [])) T.task) false count 0 (after + 1) start)
+          (members-tell text (inRange h 0 ([] ++ (numberOf v ∷ [])) T.task) false (valueIn c) 0 (after + 1) (nextIn c))))
+          (λ u after′ next′ f.
+          let rest = readItems text h 0 l (one (T.upTo 64) ∷ []) (([] ++ (numberOf v ∷ [])) ++ (numberOf u ∷ [])) after′ next′ in
+          value-tells (λ vs. P (v ∷ vs)) u rest
+          (any-line (λ vs. P (v ∷ u ∷ vs)) rest (λ vs. (ap numberOf (e .0), ap Rattle.rules.specs.Case.listOf f)))))),
+      tt,
+    ))
+
+-- A reading that goes on was one that read.
+follow-read : {A B : Type 0} (r : Read A) (rest : A → ℕ → ℕ → Read B) (b : B) (n p : ℕ) → follow r rest ≡ read b n p
+    → (a : A) × (n′ p′ : ℕ) × (r ≡ read a n′ p′) × (rest a n′ p′ ≡ read b n p)
+follow-read (read a n′ p′) rest b n p e = (a, n′, p′, refl, e)
+follow-read (refused x) rest b n p e = let z : _≡_ {A = ℕ} 0 1 = cc in absurd (zero-one z)
+  where
+    zero-one : _≡_ {A = ℕ} 0 1 → ⊥
+    zero-one z = omega native.Mathlib.Omega.arith
+
+read-line : (n : ℕ) (r : LineRead) (x : Valued) (n′ p′ : ℕ) → readOf n r ≡ read x n′ p′ → r ≡ line (x .0) (x .1) p′
+read-line n (line l vs next) x n′ p′ e =
+    let a : l ≡ x .0 = ap (λ (r : Read Valued). fst r) e in
+    let b : vs ≡ x .1 = ap (λ (r : Read Valued). snd r) e in
+    let c : next ≡ p′ = cc in
+    λ j. line (a j) (b j) (c j)
+  where
+    fst : Read Valued → ℕ
+    fst (read y m q) = y .0
+    fst (refused z) = 0
+
+    snd : Read Valued → List Value
+    snd (read y m q) = y .1
+    snd (refused z) = []
+read-line n (LineRead.unreadable f) x n′ p′ e = let z : _≡_ {A = ℕ} 0 1 = cc in absurd (omega native.Mathlib.Omega.arith)
+read-line n (LineRead.outside f) x n′ p′ e = let z : _≡_ {A = ℕ} 0 1 = cc in absurd (omega native.Mathlib.Omega.arith)
+
+-- A line that is read, as the line reader has it.
+pub line-read : (text : List ℕ) (h : Header) (due : Role) (n place : ℕ) (x : Valued) (n′ p′ : ℕ) → oneLine text h due 0 n place ≡ read x n′ p′
+    → readLine text due h 0 place ≡ line (x .0) (x .1) p′
+unfolding oneLine
+line-read text h due n place x n′ p′ e = read-line n (readLine text due h 0 place) x n′ p′ e
+
+-- The first of several, and the others.
+pub many-first : {A : Type 0} (each : ℕ → ℕ → Read A) (count n place : ℕ) (xs : List A) (n″ p″ : ℕ) → many each (suc count) n place ≡ read xs n″ p″
+    → (x : A) × (n′ p′ : ℕ) × (ys : List A) × (each n place ≡ read x n′ p′) × (many each count n′ p′ ≡ read ys n″ p″) × (xs ≡ x ∷ ys)
+many-first each count n place xs n″ p″ e =
+    let a = follow-read (each n place) _ xs n″ p″ e in
+    let b = follow-read (many each count (a .1) (a .2)) _ xs n″ p″ (a .4) in
+    let q = b .4 in
+    (a .0, a .1, a .2, b .0, a .3, b .3 ∙ λ j. read (b .0) (number-same q j) (place-same q j), sym (list-same q))
+  where
+    list-same : {A : Type 0} {xs ys : List A} {n p n′ p′ : ℕ} → read xs n p ≡ read ys n′ p′ → xs ≡ ys
+    list-same e = cc
+
+    number-same : {A : Type 0} {xs ys : List A} {n p n′ p′ : ℕ} → read xs n p ≡ read ys n′ p′ → n ≡ n′
+    number-same e = cc
+
+    place-same : {A : Type 0} {xs ys : List A} {n p n′ p′ : ℕ} → read xs n p ≡ read ys n′ p′ → p ≡ p′
+    place-same e = cc
+
+-- A method's line holds its task, its subtask count and its subtasks.
+pub record HeadIs (text : List ℕ) (place : ℕ) (m : Method) : Type 0 where
+  pub task : m .task ≡ methodHead text place .task
+  pub subtasks : m .subtasks ≡ numbersAt text (methodHead text place .subtasks .count) (methodHead text place .subtasks .at .at)
+
+head-is : (text : List ℕ) (place : ℕ) (vs : List Value) (cs : List Valued) (m : Method) → HeadTold text place vs → methodOf vs cs ≡ m → HeadIs text place m
+unfolding methodOf methodHead
+head-is text place vs cs m h e = record {
+  task = sym (ap (λ (x : Method). x .task) e) ∙ h .0;
+  subtasks = sym (ap (λ (x : Method). x .subtasks) e) ∙ h .1;
+}
+
+pub method-head : (text : List ℕ) (h : Header) (n place : ℕ) (m : Method) (n″ p″ : ℕ) → oneMethod text h n place ≡ read m n″ p″ → HeadIs text place m
+unfolding oneMethod
+method-head text h n place m n″ p″ e =
+    let a = follow-read (oneLine text h T.method 0 n place) _ m n″ p″ e in
+    let x = a .0 in
+    let b = follow-read (many (oneLine text h T.constraint (scalarAt (x .1) 1)) (scalarAt (x .1) 2) (a .1) (a .2)) _ m n″ p″ (a .4) in
+    let q : methodOf (x .1) (b .0) ≡ m = read-same (b .4) in
+    head-is text place (x .1) (b .0) m
+    (subst (LineTells (HeadTold text place)) (line-read text h T.method n place x (a .1) (a .2) (a .3)) (method-tells text h place)) q
+  where
+    read-same : {A : Type 0} {x y : A} {n p n′ p′ : ℕ} → read x n p ≡ read y n′ p′ → x ≡ y
+    read-same e = cc

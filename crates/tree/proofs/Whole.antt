@@ -1,0 +1,173 @@
+-- The root's walk, told of the whole claimed tree: one law for each way out of `walk_tree`. Assumes nothing.
+use mathlib.Core.Path.{_≡_, refl, sym, ap, subst, _∙_}
+use mathlib.Core.List.{List, [], _∷_, _++_}
+use Prim.Native.Nat.{ℕ, zero, suc, _+_, _-_, _*_, _≤_, _<_}
+use native.Mathlib.Omega.{arith}
+use lib.ListN.{length, getD, take, drop, length-drop, drop-of-length-le}
+use lib.Seq.{sets, take-take, drop-cons, getD-take}
+use Rattle.rules.specs.declared.Answer.{Answer}
+use Rattle.rules.specs.declared.Answer.the-variants.{WrongNode}
+use Rattle.rules.specs.declared.Header.{Header}
+use Rattle.rules.specs.Table as T
+use Rattle.rules.specs.Case.{NodeLine, D, Case, Read, read, oneLine, many, methodAt, oneMethod}
+use Rattle.rules.specs.Tree.{Tree, Walk, mayClaim, walkNode, noneOver, levelCount, walkTree}
+use Rattle.rules.proofs.Judgement.Sound.{Sound, sound}
+use Rattle.index.specs.declared.Span.{Span}
+use Rattle.reading.specs.Directory.{methodsFrom, Finds}
+use Rattle.tree.specs.declared.fit.Given.{Given}
+use Rattle.tree.specs.declared.fit.Place.{Place}
+use Rattle.tree.specs.declared.rows.Walked.{Walked}
+use Rattle.tree.specs.declared.rows.Walked.the-variants.{Next, Refused}
+use Rattle.tree.specs.declared.walk.TreeWalk.{TreeWalk}
+use Rattle.tree.specs.declared.walk.TreeWalk.the-variants.{Right, Refused as TreeRefused}
+use Rattle.text.specs.declared.Cursor.{Cursor}
+use Rattle.tree.specs.Layout.{marksFrom, rowsFrom, rowsPast, size, rows, directoryOf, marksIn, marksOf, planIn, rowsIn, NodesFrom}
+use Rattle.tree.specs.Fits.{lineAt, Follows}
+use Rattle.tree.specs.Standing.{MethodsAt, Steady, nodeFrom, Passed, Told, WalksNode}
+use Rattle.tree.specs.Whole.{Ready, TreeKept, TreeTold}
+use Rattle.tree.proofs.Stores.{drop-take, take-sets-all, length-rows}
+use Rattle.tree.proofs.Within.{plan-line-low}
+
+-- ---- What the root's walk stands on
+
+module _ (text : List ℕ) (k : Case) (past : ℕ) (header : Header) (planLine : ℕ) (nodes : Cursor) (w : List ℕ) (rd : Ready text k past header planLine (nodes .at) w) where
+  abbrev given : Given
+  given = record { past = past; header = header; line = planLine }
+
+  root-sound : Sound k
+  root-sound = sound text k (rd .line) (rd .place) (rd .reads)
+
+  found : MethodsAt text k (directoryOf w)
+  unfolding methodsFrom marksFrom
+  found m h =
+      let few = root-sound .head-good .few-methods in
+      let q = rd .finds .methodLine m h in
+      let e = getD-take marksFrom w (methodsFrom + m) 0 (omega arith) in
+      (q .0, q .1, q .2, ap (λ (p : ℕ). oneMethod text (k .head) (q .0) p) e ∙ q .3)
+
+  pub root-steady : Steady text k given w
+  root-steady = record {
+    line = rd .line;
+    place = rd .place;
+    reads = rd .reads;
+    feeds = rd .feeds;
+    head = rd .head;
+    planned = rd .planned;
+    low = let a = plan-line-low text k (rd .line) (rd .place) (rd .reads) in let b = rd .short in omega arith;
+    room = rd .room;
+    methods = found;
+    plan = rd .cues;
+    claimed = [];
+    marks = rd .unmarked;
+  }
+
+  pub root-follows : Follows text k (record { node = 0; at = nodes })
+  root-follows = record {
+    nodes =
+        let q = rd .finds .nodesRead in
+        let z : k .head .nodes - 0 ≡ k .head .nodes = omega arith in
+        record {
+          lines = rd .finds .nodeLines;
+          number = k .planLine + 1;
+          past = q .0;
+          next = q .1;
+          reads = ap (λ (c : ℕ). many (oneLine text (k .head) T.node 0) c (k .planLine + 1) (nodes .at)) z ∙ q .2;
+          are = rd .finds .nodesAre;
+        };
+    within = omega arith;
+  }
+
+  pub root-line : (n : ℕ) → n < header .nodes → planLine + n < 4294967295
+  root-line n h =
+      let e = ap (λ (y : Header). y .nodes) (rd .head) in
+      let f = root-sound .head-good .few-nodes in
+      let a = plan-line-low text k (rd .line) (rd .place) (rd .reads) in
+      let b = rd .short in
+      let c = rd .planned in
+      omega arith
+
+  -- ---- The rows of a tree that takes every line
+
+  rows-kept : (t : Tree) (v : List ℕ) → size t ≤ 3000 → drop rowsFrom v ≡ sets (drop rowsFrom w) (3 * 0) (rows t 0) → take (3 * size t) (rowsIn v) ≡ rows t 0
+  unfolding rowsFrom rowsPast
+  rows-kept t v h e =
+      let room = rd .room in
+      let ln = length-rows t 0 in
+      ap (take (3 * size t)) (drop-take rowsFrom 9000 v)
+      ∙ take-take (3 * size t) 9000 (drop rowsFrom v) (omega arith)
+      ∙ ap (take (3 * size t)) e
+      ∙ ap (λ (x : ℕ). take x (sets (drop rowsFrom w) 0 (rows t 0))) (sym ln)
+      ∙ take-sets-all (rows t 0) (drop rowsFrom w) (omega (arith, length-drop rowsFrom w))
+
+  -- ---- Each way out
+
+  refused-next : {a : Answer} {next : Place} {s : Span} → Next next s ≡ Refused a → ⊥
+  refused-next e = let z : _≡_ {A = ℕ} 0 1 = cc in omega arith
+
+  abbrev root : Walk
+  root = nodeFrom k 64 (k .head .goal) 0 []
+
+  whole-is : walkTree k (mayClaim (k .plan)) ≡ noneOver root
+  unfolding walkTree levelCount lineAt
+  whole-is =
+      let e : k .planLine + 1 ≡ k .planLine + 1 + 0 = omega arith in
+      ap (λ (l : ℕ). noneOver (walkNode 64 k (mayClaim (k .plan)) (k .head .goal) l (k .nodes) [])) e
+
+  takes-all : (x : Walk) (next : Place) (s : Span) (v : List ℕ) → Told text k 0 w x (Next next s) v → k .head .nodes ≤ next .node
+      → TreeTold k w (noneOver x) Right v
+  takes-all (Walk.walked t line left claimed) next s v f h =
+      let same : next ≡ f .next = cc (f .answer) in
+      let there : next .node ≡ f .next .node = ap (λ (p : Place). p .node) same in
+      let few = root-sound .head-good .few-nodes in
+      let all = root-sound .nodes-length in
+      let in? = f .follows .within in
+      let none : left ≡ [] = f .lefts ∙ drop-of-length-le (k .nodes) {i = f .next .node} (omega arith) in
+      subst (λ (l : List NodeLine). TreeTold k w (noneOver (Walk.walked t line l claimed)) Right v) (sym none)
+      (record {
+        right = refl;
+        rowed = rows-kept t v (let a = f .after in omega arith) (f .rowed);
+        marked = f .marked;
+        directory = f .directory;
+        plan = f .plan;
+      })
+  takes-all (Walk.refused a) next s v f h = absurd (refused-next f)
+
+  leaves-some : (x : Walk) (next : Place) (s : Span) (v : List ℕ) (l : ℕ) → Told text k 0 w x (Next next s) v → next .node < k .head .nodes
+      → l ≡ lineAt (k .planLine) (next .node) → TreeTold k w (noneOver x) (TreeRefused (WrongNode l)) v
+  leaves-some (Walk.walked t line left claimed) next s v l f h e =
+      let same : next ≡ f .next = cc (f .answer) in
+      let there : next .node ≡ f .next .node = ap (λ (p : Place). p .node) same in
+      let all = root-sound .nodes-length in
+      let some = f .lefts ∙ drop-cons (k .nodes) (f .next .node) (D 0) (omega arith) in
+      subst (λ (y : List NodeLine). TreeTold k w (noneOver (Walk.walked t line y claimed)) (TreeRefused (WrongNode l)) v) (sym some)
+      (ap (λ (y : ℕ). TreeRefused (WrongNode y)) (e ∙ ap (lineAt (k .planLine)) there ∙ sym (f .lines)))
+  leaves-some (Walk.refused a) next s v l f h e = absurd (refused-next f)
+
+  is-refused : (x : Walk) (a : Answer) (v : List ℕ) → Told text k 0 w x (Refused a) v → TreeTold k w (noneOver x) (TreeRefused a) v
+  is-refused (Walk.walked t line left claimed) a v f = absurd (refused-next (sym (f .answer)))
+  is-refused (Walk.refused b) a v f = ap TreeRefused (let q : a ≡ b = cc f in q)
+
+  module _ (r : Walked) (v : List ℕ) (told : WalksNode text k 64 (header .goal) 0 w r v) where
+    root-told : (r′ : Walked) → r ≡ r′ → Told text k 0 w root r′ v
+    root-told r′ e =
+        subst (λ (y : Walked). Told text k 0 w root y v) e
+        (subst (λ (h : Header). Told text k 0 w (nodeFrom k 64 (h .goal) 0 []) r v) (rd .head) (told [] (rd .unmarked)))
+
+    abbrev Whole : TreeWalk → Type 0
+    Whole a = TreeTold k w (walkTree k (mayClaim (k .plan))) a v
+
+    pub right : (next : Place) (s : Span) → r ≡ Next next s → header .nodes ≤ next .node → Whole Right
+    right next s e h =
+        subst (λ (x : Walk). TreeTold k w x Right v) (sym whole-is)
+        (takes-all root next s v (root-told (Next next s) e) (let q = ap (λ (y : Header). y .nodes) (rd .head) in omega arith))
+
+    pub over : (next : Place) (s : Span) (l : ℕ) → r ≡ Next next s → next .node < header .nodes → l ≡ lineAt planLine (next .node)
+        → Whole (TreeRefused (WrongNode l))
+    over next s l e h z =
+        subst (λ (x : Walk). TreeTold k w x (TreeRefused (WrongNode l)) v) (sym whole-is)
+        (leaves-some root next s v l (root-told (Next next s) e) (let q = ap (λ (y : Header). y .nodes) (rd .head) in omega arith)
+        (z ∙ ap (λ (y : ℕ). lineAt y (next .node)) (rd .planned)))
+
+    pub refuses : (a : Answer) → r ≡ Refused a → Whole (TreeRefused a)
+    refuses a e =
+        subst (λ (x : Walk). TreeTold k w x (TreeRefused a) v) (sym whole-is) (is-refused root a v (root-told (Refused a) e))

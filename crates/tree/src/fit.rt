@@ -1,0 +1,244 @@
+// A node's line against the task that is expected there (01, "The tree"): "an action leaf for an action; for a compound task one of its
+// own methods".
+ghost use mathlib.Core.Path.{_≡_};
+ghost use Prim.Native.Nat.{ℕ, _+_, _≤_, _<_};
+ghost use lib.Dec.{ltb};
+ghost use lib.ListN.{length, getD};
+ghost use Rattle.rules.specs.Text.{feedFollows};
+ghost use Rattle.rules.specs.Table.{node, readLine};
+ghost use Rattle.lines.specs.Reading.{asLine};
+ghost use Rattle.reading.specs.Directory.{methodsFrom};
+ghost use Rattle.tree.specs.Layout.{NodesFrom};
+ghost use Rattle.tree.specs.Numbers.{caseIn};
+ghost use Rattle.tree.specs.Fits.{entryOf, nextLine, entryRead, methodHead, fitOf, WithMethod, atLevel, Follows, lineAt};
+ghost use Rattle.tree.specs.Standing.{Steady, Judged};
+use crate::number;
+use lines::Context;
+use lines::Finish;
+use lines::Role;
+use rules::Answer;
+use rules::Header;
+use text::Cursor;
+
+// What a walk goes by: the place past the text's last line feed, the header's numbers, and the number of the P line.
+pub struct Given {
+    pub past: usize,
+    pub header: Header,
+    pub line: u32,
+}
+
+// A node's number, from 0, and where its line starts.
+pub struct Place {
+    pub node: u32,
+    pub at: Cursor,
+}
+
+// How many subtasks are left of a method's, and where the next stands in its line.
+pub struct Subtasks {
+    pub count: u32,
+    pub at: Cursor,
+}
+
+// A node's line: "D,m (method m, not empty); E,m,g (empty method m in gap g, 0 to k); L,a,i (action a at position i, 1 to k)".
+pub enum Entry {
+    Task { method: u32 },
+    Empty { method: u32, gap: u32 },
+    Leaf { action: u32, position: u32 },
+}
+
+pub struct EntryRead {
+    pub entry: Entry,
+    pub next: Cursor,
+}
+
+// A method's line: its compound task and its subtasks.
+pub struct MethodHead {
+    pub task: u32,
+    pub subtasks: Subtasks,
+}
+
+// How a node fits the task expected there, with the place of the node after its line; or the answer that refuses it.
+pub enum Fit {
+    Refused {
+        answer: Answer,
+    },
+    Open {
+        subtasks: Subtasks,
+        next: Place,
+    },
+    Empty {
+        gap: u32,
+        next: Place,
+    },
+    Leaf {
+        action: u32,
+        position: u32,
+        next: Place,
+    },
+}
+
+fn entry_of(letter: u8, values: [u32; 7]) -> Entry
+    ensures { λ r. ⌜ r ≡ entryOf letter values ⌝ }
+{
+    if letter == b'D' {
+        return Entry::Task { method: values[0] };
+    }
+    if letter == b'E' {
+        Entry::Empty {
+            method: values[0],
+            gap: values[1],
+        }
+    } else {
+        Entry::Leaf {
+            action: values[0],
+            position: values[1],
+        }
+    }
+}
+
+fn next_line(finish: Finish) -> Cursor
+    ensures { λ r. ⌜ r ≡ nextLine finish ⌝ }
+{
+    match finish {
+        Finish::Done { next } => next,
+        Finish::Bad { field: _ } => Cursor::new(),
+        Finish::Range { field: _ } => Cursor::new(),
+    }
+}
+
+// The node's line, by the one line reader.
+fn read_entry(text: &[u8], g: Given, at: Cursor) -> EntryRead
+    requires { ⌜ ((p : ℕ) → feedFollows (now text) p ≡ ltb p (g .past)) ⌝ }
+    ensures { λ r. ⌜ r ≡ entryRead (asLine (readLine (now (text .entry)) node (g .header) 0 (at .at))) ⌝ }
+{
+    let header = g.header;
+    let r = lines::read_line(
+        text,
+        g.past,
+        at,
+        Role::Node,
+        Context {
+            header,
+            subtasks: 0,
+        },
+    );
+    let finish = r.finish;
+    let values = r.values;
+    EntryRead {
+        entry: entry_of(r.letter, values),
+        next: next_line(finish),
+    }
+}
+
+// Method m's line, through the directory.
+fn method_head(text: &[u8], work: &[u32], m: u32) -> MethodHead
+    requires { ⌜ (m < 2048) × (3072 ≤ length (now work)) ⌝ }
+    ensures { λ r. ⌜ r ≡ methodHead (now (text .entry)) (getD (now (work .entry)) (methodsFrom + m) 0) ⌝ }
+{
+    let i = 1024 + m as usize;
+    let at = work[i] as usize;
+    let c = number::after_letter(text, Cursor { at });
+    let task = number::number_at(text, c);
+    let count = number::number_at(text, task.next);
+    let at = count.next;
+    MethodHead {
+        task: task.value,
+        subtasks: Subtasks {
+            count: count.value,
+            at,
+        },
+    }
+}
+
+// How a line fits the task, where `wrong` answers that it doesn't.
+fn fit_entry(text: &[u8], work: &[u32], entry: Entry, next: Place, task: u32, wrong: Answer) -> Fit
+    requires { ⌜ WithMethod 2048 entry × (3072 ≤ length (now work)) ⌝ }
+    ensures { λ r. ⌜ r ≡ fitOf (now (text .entry)) (now (work .entry)) entry next task wrong ⌝ }
+{
+    match entry {
+        Entry::Task { method } => {
+            let head = method_head(text, work, method);
+            let subtasks = head.subtasks;
+            if head.task == task {
+                if subtasks.count != 0 {
+                    return Fit::Open { subtasks, next };
+                }
+            }
+            Fit::Refused { answer: wrong }
+        }
+        Entry::Empty { method, gap } => {
+            let head = method_head(text, work, method);
+            let subtasks = head.subtasks;
+            if head.task == task {
+                if subtasks.count == 0 {
+                    return Fit::Empty { gap, next };
+                }
+            }
+            Fit::Refused { answer: wrong }
+        }
+        Entry::Leaf { action, position } => {
+            if action == task {
+                Fit::Leaf {
+                    action,
+                    position,
+                    next,
+                }
+            } else {
+                Fit::Refused { answer: wrong }
+            }
+        }
+    }
+}
+
+// "same node: level 65", for a node that fits.
+fn at_level(level: u32, fit: Fit, deep: Answer) -> Fit
+    ensures { λ r. ⌜ r ≡ atLevel level fit deep ⌝ }
+{
+    if level < 65 {
+        return fit;
+    }
+    match fit {
+        Fit::Refused { answer } => Fit::Refused { answer },
+        Fit::Open {
+            subtasks: _,
+            next: _,
+        } => Fit::Refused { answer: deep },
+        Fit::Empty { gap: _, next: _ } => Fit::Refused { answer: deep },
+        Fit::Leaf {
+            action: _,
+            position: _,
+            next: _,
+        } => Fit::Refused { answer: deep },
+    }
+}
+
+// A node's line in the text: the node lines follow the P line.
+pub fn line_at(g: Given, node: u32) -> u32
+    requires { ⌜ g .line + node < 4294967295 ⌝ }
+    ensures { λ r. ⌜ r ≡ lineAt (g .line) node ⌝ }
+{
+    g.line + 1 + node
+}
+
+// The node here, where `task` is expected at `level`: 6, then 7.
+pub fn judge(text: &[u8], g: Given, work: &[u32], p: Place, task: u32, level: u32) -> Fit
+    requires { ⌜ Steady (now text) (caseIn (now text)) g (now work) × Follows (now text) (caseIn (now text)) p ⌝ }
+    ensures { λ r. ⌜ Judged (now (text .entry)) (caseIn (now (text .entry))) p task level r ⌝ }
+{
+    let header = g.header;
+    let line = line_at(g, p.node);
+    let wrong = Answer::WrongNode { line };
+    if header.nodes <= p.node {
+        return Fit::Refused { answer: wrong };
+    }
+    let at = p.at;
+    let r = read_entry(text, g, at);
+    let entry = r.entry;
+    let after = r.next;
+    let next = Place {
+        node: p.node + 1,
+        at: after,
+    };
+    let fit = fit_entry(text, work, entry, next, task, wrong);
+    at_level(level, fit, Answer::TooDeep { line })
+}
