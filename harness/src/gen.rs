@@ -21,7 +21,7 @@ impl Rng {
         Rng(seed)
     }
 
-    pub fn next(&mut self) -> u64 {
+    pub fn word(&mut self) -> u64 {
         self.0 = self.0.wrapping_add(0x9E37_79B9_7F4A_7C15);
         let mut z = self.0;
         z = (z ^ (z >> 30)).wrapping_mul(0xBF58_476D_1CE4_E5B9);
@@ -31,7 +31,7 @@ impl Rng {
 
     /// A number below `limit`; 0 if there is none.
     pub fn below(&mut self, limit: usize) -> usize {
-        ((u128::from(self.next()) * limit as u128) >> 64) as usize
+        ((u128::from(self.word()) * limit as u128) >> 64) as usize
     }
 
     /// A number from `low` to `high`, both included.
@@ -377,8 +377,22 @@ impl Stage {
 
     /// A constraint for a method: a true one, or if `broken` one that fails at some node. Of
     /// those drawn, one that some wrong reading takes the other way is best.
-    fn choose(&self, rng: &mut Rng, draft: &Draft, tree: &Tree, method: usize, tries: usize, broken: bool) -> Option<Constraint> {
+    fn choose(
+        &self,
+        rng: &mut Rng,
+        draft: &Draft,
+        tree: &Tree,
+        method: usize,
+        tries: usize,
+        broken: bool,
+    ) -> Option<Constraint> {
         let subtasks = draft.methods[method].subtasks.len();
+        if broken && rng.percent(60) {
+            let dented = self.choose_dented(rng, draft, tree, method);
+            if dented.is_some() {
+                return dented;
+            }
+        }
         let mut fallback = None;
         for _ in 0..tries {
             let candidate = draw_constraint(rng, &draft.palette, subtasks)?;
@@ -391,6 +405,22 @@ impl Stage {
             fallback = Some(candidate);
         }
         fallback
+    }
+
+    /// A between of two single subtasks that fails at some node, but at no end of its states.
+    fn choose_dented(&self, rng: &mut Rng, draft: &Draft, tree: &Tree, method: usize) -> Option<Constraint> {
+        let subtasks = draft.methods[method].subtasks.len();
+        if subtasks < 2 || draft.palette.is_empty() {
+            return None;
+        }
+        let mut draw = || {
+            let (from, to) = (1 << rng.below(subtasks), 1 << rng.below(subtasks));
+            Constraint::Between(from, *rng.pick(&draft.palette), to)
+        };
+        (0..40).map(|_| draw()).find(|between| {
+            self.holds_everywhere(tree, method, between, Reading::EndsOnly)
+                && !self.holds_everywhere(tree, method, between, Reading::Right)
+        })
     }
 }
 
@@ -467,7 +497,7 @@ fn draw_mask(rng: &mut Rng, subtasks: usize) -> u32 {
         0 => 0,
         1 if subtasks > 0 => 1 << rng.below(subtasks),
         2 => all,
-        _ => rng.next() as u32 & all,
+        _ => rng.word() as u32 & all,
     }
 }
 
@@ -563,10 +593,17 @@ fn draw_methods(rng: &mut Rng, size: &Size) -> Draft {
     }
 }
 
-/// So many propositions: all that the model has, or some of more.
+/// Propositions at the edges of the four words.
+const EDGES: [u32; 10] = [0, 1, 63, 64, 127, 128, 191, 192, 254, 255];
+
+/// So many propositions: all that the model has, some of more, or some at the edges of words.
 fn draw_palette(rng: &mut Rng, count: usize) -> (u32, Vec<u32>) {
-    let propositions = if rng.percent(50) { count } else { rng.between(count, 256) };
+    let more = rng.between(count, 256);
+    let propositions = *rng.pick(&[count, count, more, 256]);
     let mut palette: Vec<u32> = (0..propositions as u32).collect();
+    if propositions == 256 && count < EDGES.len() {
+        palette = EDGES.to_vec();
+    }
     rng.shuffle(&mut palette);
     palette.truncate(count);
     palette.sort();
@@ -615,7 +652,7 @@ impl Inputs {
     /// The numbers that belong to one input, for its text and for whatever is done with it.
     pub fn rng(&self, number: u64) -> Rng {
         let mut mixed = Rng::new(self.seed);
-        Rng::new(mixed.next() ^ number.wrapping_mul(0xD134_2543_DE82_EF95))
+        Rng::new(mixed.word() ^ number.wrapping_mul(0xD134_2543_DE82_EF95))
     }
 
     pub fn text(&self, rng: &mut Rng) -> Vec<u8> {

@@ -3,9 +3,9 @@
 //! This is the only file with unsafe code: each call passes a slice's own pointer and length,
 //! which is what the C declarations ask for.
 
+use crate::plain::Answer;
 #[cfg(feature = "link-check")]
 use crate::plain::Node;
-use crate::plain::Answer;
 
 // Not bundled into this crate: a new archive only needs the programs to be linked again.
 #[link(name = "capi", kind = "static", modifiers = "-bundle")]

@@ -60,7 +60,7 @@ impl Dirt {
             0 => Dirt::Same(0),
             1 => Dirt::Same(1),
             2 => Dirt::Same(u32::MAX),
-            3 => Dirt::Same(rng.next() as u32),
+            3 => Dirt::Same(rng.word() as u32),
             _ => Dirt::Counting,
         }
     }

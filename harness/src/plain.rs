@@ -65,11 +65,7 @@ pub fn step(state: Set, needed: Set, forbidden: Set, added: Set, deleted: Set) -
 
 /// The check call: reads, runs, walks, and tries every constraint.
 pub fn check(text: &[u8], states: &mut [u64], nodes: &mut [Node], work: &mut [u32]) -> Answer {
-    let asked = [
-        (states.len() < STATES_ASKED, 1),
-        (nodes.len() < NODES_ASKED, 2),
-        (work.len() < WORK_ASKED, 3),
-    ];
+    let asked = [(states.len() < STATES_ASKED, 1), (nodes.len() < NODES_ASKED, 2), (work.len() < WORK_ASKED, 3)];
     work.fill(0);
     match check_with(text, &asked, states, nodes) {
         Ok(case) => {
@@ -437,14 +433,12 @@ fn read_constraint(reader: &mut Reader, header: &Header, subtasks: u32) -> Check
             }
             Constraint::Order { first, second }
         }
-        b'B' => Constraint::Before {
-            proposition: reader.number_in(..header.propositions)?,
-            set: reader.mask(subtasks)?,
-        },
-        b'F' => Constraint::After {
-            proposition: reader.number_in(..header.propositions)?,
-            set: reader.mask(subtasks)?,
-        },
+        b'B' => {
+            Constraint::Before { proposition: reader.number_in(..header.propositions)?, set: reader.mask(subtasks)? }
+        }
+        b'F' => {
+            Constraint::After { proposition: reader.number_in(..header.propositions)?, set: reader.mask(subtasks)? }
+        }
         _ => Constraint::Between {
             from: reader.mask(subtasks)?,
             proposition: reader.number_in(..header.propositions)?,
@@ -469,14 +463,8 @@ fn read_claim(reader: &mut Reader, header: &Header) -> Checked<Claim> {
     let letter = reader.letter(b"DEL")?;
     let claim = match letter {
         b'D' => Claim::Decomposed { method: reader.number_in(..header.methods)? },
-        b'E' => Claim::Empty {
-            method: reader.number_in(..header.methods)?,
-            gap: reader.number_in(..=header.cues)?,
-        },
-        _ => Claim::Leaf {
-            action: reader.number_in(..header.actions)?,
-            position: reader.number_in(1..=header.cues)?,
-        },
+        b'E' => Claim::Empty { method: reader.number_in(..header.methods)?, gap: reader.number_in(..=header.cues)? },
+        _ => Claim::Leaf { action: reader.number_in(..header.actions)?, position: reader.number_in(1..=header.cues)? },
     };
     reader.end_line()?;
     Ok(claim)

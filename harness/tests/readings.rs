@@ -23,9 +23,10 @@ fn checked(text: &[u8]) -> String {
 
 /// Case a with some lines replaced, counted from 1; an empty replacement drops the line.
 fn case_a(changes: &[(usize, &str)]) -> String {
-    let lines = CASE_A.lines().enumerate().map(|(i, line)| {
-        changes.iter().find(|(number, _)| *number == i + 1).map_or(line, |(_, changed)| changed)
-    });
+    let lines = CASE_A
+        .lines()
+        .enumerate()
+        .map(|(i, line)| changes.iter().find(|(number, _)| *number == i + 1).map_or(line, |(_, changed)| changed));
     lines.filter(|line| !line.is_empty()).map(|line| format!("{line}\n")).collect()
 }
 
@@ -140,7 +141,10 @@ fn replay_reads_the_tree_but_does_not_walk_it() {
 #[test]
 fn step_deletes_then_adds() {
     let none = [0; 4];
-    assert_eq!(step([5, 0, 0, 1 << 63], [1, 0, 0, 1 << 63], [2, 0, 0, 0], [8, 0, 0, 0], [12, 0, 0, 1 << 63]), (true, [9, 0, 0, 0]));
+    assert_eq!(
+        step([5, 0, 0, 1 << 63], [1, 0, 0, 1 << 63], [2, 0, 0, 0], [8, 0, 0, 0], [12, 0, 0, 1 << 63]),
+        (true, [9, 0, 0, 0])
+    );
     assert_eq!(step([5, 0, 0, 0], [2, 0, 0, 0], none, [8, 0, 0, 0], none), (false, [5, 0, 0, 0]));
     assert_eq!(step([5, 0, 7, 0], none, [0, 0, 4, 0], [8, 0, 0, 0], none), (false, [5, 0, 7, 0]));
     assert_eq!(step(none, none, none, [u64::MAX; 4], [u64::MAX; 4]), (true, [u64::MAX; 4]));

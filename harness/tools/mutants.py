@@ -2,7 +2,7 @@
 """Shows how much the comparison sees: each mutant is plain.rs with one mistake, built as the
 mock of libcapi.a and compared with the sound rendering. Run in harness/:
 
-    tools/mutants.py [COUNT SEED [FIRST]]
+    tools/mutants.py [COUNT SEED [NAME]]
 
 Prints for each mutant the input at which it was found out, or SURVIVED.
 """
@@ -88,10 +88,10 @@ MUTANTS = [
     ("31 subtasks", "reader.number_in(..=32)?", "reader.number_in(..=31)?"),
     ("65 constraints", "reader.number_in(..=64)?", "reader.number_in(..=65)?"),
     ("63 constraints", "reader.number_in(..=64)?", "reader.number_in(..=63)?"),
-    ("short state list", "(states.len() < STATES_ASKED, 1),\n        (nodes", "(states.len() + 1 < STATES_ASKED, 1),\n        (nodes"),
+    ("short state list", "(states.len() < STATES_ASKED, 1), (nodes", "(states.len() + 1 < STATES_ASKED, 1), (nodes"),
     ("short node list", "(nodes.len() < NODES_ASKED, 2)", "(nodes.len() + 1 < NODES_ASKED, 2)"),
-    ("short work list", "(work.len() < WORK_ASKED, 3),\n    ];\n    work.fill(0);\n    match check_with", "(work.len() + 1 < WORK_ASKED, 3),\n    ];\n    work.fill(0);\n    match check_with"),
-    ("work list before node list", "(nodes.len() < NODES_ASKED, 2),\n        (work.len() < WORK_ASKED, 3),", "(work.len() < WORK_ASKED, 3),\n        (nodes.len() < NODES_ASKED, 2),"),
+    ("short work list", "(work.len() < WORK_ASKED, 3)];\n    work.fill(0);\n    match check_with", "(work.len() + 1 < WORK_ASKED, 3)];\n    work.fill(0);\n    match check_with"),
+    ("work list before node list", "(nodes.len() < NODES_ASKED, 2), (work.len() < WORK_ASKED, 3)]", "(work.len() < WORK_ASKED, 3), (nodes.len() < NODES_ASKED, 2)]"),
     ("long text before short lists", "if let Some(&(_, item))", "if text.len() > TEXT_LIMIT { return refuse(2, 0, 0); }\n    if let Some(&(_, item))"),
     ("nodes left after refusal", "nodes.fill(Node::default());", ""),
     ("dirt behind the nodes", "nodes[case.claims.len()..].fill(Node::default());", "nodes[case.claims.len()..NODES_ASKED].fill(Node::default());"),
@@ -137,15 +137,16 @@ def link(folder, call):
 
 
 def main():
-    count, seed = (sys.argv[1:3] + ["30000", "1"])[:2] if len(sys.argv) > 2 else ("30000", "1")
-    first = int(sys.argv[3]) if len(sys.argv) > 3 else 0
+    count, seed, wanted = (sys.argv[1:] + ["30000", "1", ""][len(sys.argv) - 1 :])[:3]
+    mutants = [mutant for mutant in MUTANTS if wanted in mutant[0]]
     sound = Path("src/plain.rs").read_text()
     folder = Path("target/mutants/archive")
     survivors = 0
-    for name, old, new, *call in MUTANTS[first:]:
-        call = (call or ["check"])[0]
-        if sound.count(old) < 1:
+    for name, old, *_ in MUTANTS:
+        if old not in sound:
             sys.exit(f"{name}: the text is not in plain.rs")
+    for name, old, new, *call in mutants:
+        call = (call or ["check"])[0]
         build(sound.replace(old, new, 1), folder)
         link(folder, call)
         run = subprocess.run([f"target/mutants/release/compare_{call}", count, seed], capture_output=True, text=True)
@@ -158,7 +159,7 @@ def main():
         else:
             verdict = f"found: ended with {run.returncode}"
         print(f"{name}: {verdict}", flush=True)
-    print(f"{len(MUTANTS[first:])} mutants, {survivors} survived")
+    print(f"{len(mutants)} mutants, {survivors} survived")
 
 
 if __name__ == "__main__":

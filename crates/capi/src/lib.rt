@@ -1,11 +1,12 @@
 // The calls for C and Rust. An exported call returns a struct of numbers, since it cannot return an enum.
 use rules::Answer;
+use rules::Node;
 use state::State;
 ghost use mathlib.Core.Path.{_≡_};
 ghost use lib.ListN.{length};
 ghost use Rattle.rules.specs.State.{step};
-ghost use Rattle.rules.specs.Verdict.{replay, replayLists, answerOf, statesAfter, workAfter, refusal, reported};
-ghost use Rattle.capi.specs.Replies.{replyOf, stepReply};
+ghost use Rattle.rules.specs.Verdict.{replay, replayLists, check, checkLists, answerOf, statesAfter, nodesAfter, workAfter, refusal, reported};
+ghost use Rattle.capi.specs.Replies.{replyOf, stepReply, ReplyDemand2, ReplyDemand3};
 
 // The answer's row of the table: number, line and item, 0 for acceptance; k and n of an acceptance, 0 for a refusal.
 #[repr(C)]
@@ -55,6 +56,24 @@ pub fn as_reply(answer: Answer) -> Reply
         Answer::AfterBroken { line, constraint } => refusal(12, line, constraint),
         Answer::BetweenBroken { line, constraint } => refusal(13, line, constraint),
     }
+}
+
+// The check call.
+#[no_mangle]
+pub extern "C" fn cuecheck_check(
+    text: &[u8],
+    states: &mut [u64],
+    nodes: &mut [Node],
+    work: &mut [u32],
+) -> Reply
+    ensures reply { λ r. ⌜ r ≡ replyOf (reported (answerOf (check (checkLists (length (now (states .entry))) (length (now (nodes .entry))) (length (now (work .entry)))) (now (text .entry))))) ⌝ }
+    ensures states { λ r. ⌜ now (states .exit) ≡ statesAfter (length (now (states .entry))) (check (checkLists (length (now (states .entry))) (length (now (nodes .entry))) (length (now (work .entry)))) (now (text .entry))) ⌝ }
+    ensures nodes { λ r. ⌜ now (nodes .exit) ≡ nodesAfter (length (now (nodes .entry))) (check (checkLists (length (now (states .entry))) (length (now (nodes .entry))) (length (now (work .entry)))) (now (text .entry))) ⌝ }
+    ensures work { λ r. ⌜ now (work .exit) ≡ workAfter (length (now (work .entry))) ⌝ }
+    ensures demand2 { λ r. ⌜ ReplyDemand2 (checkLists (length (now (states .entry))) (length (now (nodes .entry))) (length (now (work .entry)))) (now (text .entry)) r ⌝ }
+    ensures demand3 { λ r. ⌜ ReplyDemand3 (checkLists (length (now (states .entry))) (length (now (nodes .entry))) (length (now (work .entry)))) (now (text .entry)) r ⌝ }
+{
+    as_reply(verdict::check(text, states, nodes, work))
 }
 
 // The replay call.

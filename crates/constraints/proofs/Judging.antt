@@ -1,13 +1,12 @@
 -- A test over the lists is that of the definitions: the places of the subtasks' nodes hold the subtasks' spans first, and every state that a
 -- test asks is one of the case's. Assumes nothing.
 use mathlib.Core.Path.{_≡_, refl, sym, ap, ap₂, subst, _∙_}
-use mathlib.Core.Logic.{_≢_}
 use mathlib.Core.Bool.{Bool, true, false, cond, _&&_}
 use mathlib.Core.List.{List, [], _∷_, _++_, append-nil, append-assoc}
 use mathlib.Core.List.{List·Memᴰ·head as here}
 use mathlib.Core.Option.{Option, some}
 use Prim.Native.Nat.{ℕ, zero, suc, _+_, _-_, _*_, _^_, _≤_, _<_}
-use native.Mathlib.Nat.{lt-of-lt-of-le, zero-add}
+use native.Mathlib.Nat.{lt-of-lt-of-le}
 use native.Mathlib.Omega.{arith}
 use borrow.Author.Tests.{ne-eqb}
 use lib.Dec.{eqb}
@@ -22,7 +21,6 @@ use Rattle.rules.specs.Constraint.{Holds, holdsFrom, keeps, brokenAt, firstBrok
 use Rattle.rules.proofs.Bits.{bit-above}
 use Rattle.rules.proofs.Judgement.Each.{Each, each-tail}
 use Rattle.rules.proofs.Judgement.Sound.{GoodConstraint}
-use Rattle.subsets.specs.Members.{membersOf}
 use Rattle.subsets.proofs.Members.{members-below}
 use Rattle.parts.specs.States.{inRow}
 use Rattle.parts.specs.Spans.{RowInside, nodesIn, spansIn, SubtaskInside}

@@ -1,37 +1,36 @@
 -- What the phases before left of one node: its row and those of its subtasks, its method and its constraints, and the states; and what the
 -- nodes before it leave of them. Assumes nothing.
-use mathlib.Core.Path.{_≡_, refl, sym, ap, ap₂, subst, _∙_}
-use mathlib.Core.Logic.{_≢_}
-use mathlib.Core.Bool.{Bool, true, false, true≢false}
+use mathlib.Core.Path.{_≡_, refl, sym, ap, subst, _∙_}
+use mathlib.Core.Bool.{true, false, true≢false}
 use mathlib.Core.List.{List, [], _∷_, _++_, map, map-append, flatten, List·Memᴰ·not-nil}
 use mathlib.Core.List.{List·Memᴰ as Mem, List·Memᴰ·head as here, List·Memᴰ·tail as there}
-use mathlib.Core.Option.{Option, none, some}
-use Prim.Native.Nat.{ℕ, zero, suc, _+_, _-_, _*_, _≤_, _<_}
+use mathlib.Core.Option.{some}
+use Prim.Native.Nat.{ℕ, _+_, _-_, _*_, _≤_, _<_}
 use native.Mathlib.Omega.{arith}
-use lib.ListN.{length, getD, take, drop, length-map, List·getD-map, List·getD-append}
-use lib.Seq.{sets, getD-take, getD-drop, length-take-le}
+use lib.ListN.{length, getD, take, drop, length-map, List·getD-append}
+use lib.Seq.{sets, getD-take, getD-drop}
 use Rattle.rules.specs.declared.Header.{Header}
 use Rattle.rules.specs.State.{wordCount}
 use Rattle.rules.specs.Index.{Span}
 use Rattle.rules.specs.Table as T
-use Rattle.rules.specs.Case.{Constraint, Method, methodAt, noMethod, NodeLine, D, E, L, Case, Read, oneMethod}
+use Rattle.rules.specs.Case.{Method, methodAt, noMethod, NodeLine, Case, Read, oneMethod}
 use Rattle.rules.specs.Tree.{Tree, leaf, empty, task, preorder, rootLine, span, subtaskSpans, mayClaim}
-use Rattle.rules.specs.Constraint.{holdsIn, constraintsOf, partsOf, firstBrokenOf}
+use Rattle.rules.specs.Constraint.{holdsIn, constraintsOf}
 use Rattle.rules.specs.Verdict.{stateNeed, workNeed, statesOf}
-use Rattle.rules.proofs.Judgement.Each.{Each, each-at, each-map}
-use Rattle.rules.proofs.Judgement.Sound.{GoodHeader, GoodConstraint, GoodMethod, GoodNode, Sound, sound}
-use Rattle.rules.proofs.Judgement.Preorder.{TreeOf, linesOf}
+use Rattle.rules.proofs.Judgement.Each.{Each, each-at}
+use Rattle.rules.proofs.Judgement.Sound.{GoodHeader, GoodMethod, GoodNode, Sound, sound}
+use Rattle.rules.proofs.Judgement.Preorder.{TreeOf}
 use Rattle.rules.proofs.Judgement.Walk.{walk-shows}
 use Rattle.reading.specs.Directory.{methodsFrom, LineIs, Finds}
-use Rattle.tree.specs.Layout.{marksFrom, planFrom, rowsFrom, rowsPast, subtasksFrom, size, rows, directoryOf, rowsIn}
+use Rattle.tree.specs.Layout.{marksFrom, planFrom, rowsFrom, rowsPast, subtasksFrom, size, rows, rowsIn}
 use Rattle.parts.specs.States.{inRow}
 use Rattle.parts.specs.Spans.{rowSpan, RowInside, siblings, nodesIn, spansIn}
 use Rattle.constraints.specs.Ready.{Ready, Leaves, namesMethod, Labels, nodeOfTree}
-use Rattle.parts.proofs.Stretches.{Whole, whole-set, states-hold, filled-size}
-use Rattle.constraints.proofs.Held.{Held, HeldAll, Holds, held, held-node, held-subtrees, root-row, rows-length, preorder-length, subtreesOf, subtrees-spans, countOf, spans-length, siblings-spans, siblings-inside}
-use Rattle.constraints.proofs.Within.{Within, Proper, proper, proper-span}
+use Rattle.parts.proofs.Stretches.{whole-set, states-hold, filled-size}
+use Rattle.constraints.proofs.Held.{Held, HeldAll, Holds, held, held-node, held-subtrees, root-row, rows-length, preorder-length, subtreesOf, subtrees-spans, countOf, siblings-spans, siblings-inside}
+use Rattle.constraints.proofs.Within.{Within, Proper, proper}
 use Rattle.constraints.proofs.Judging.{Placed}
-use Rattle.constraints.proofs.Stores.{siblings-length, stored, leaves-stored, rows-stored, nodes-stored}
+use Rattle.constraints.proofs.Stores.{siblings-length, leaves-stored, rows-stored, nodes-stored}
 
 -- ---- what is left as it was
 
@@ -84,7 +83,7 @@ leaves-then p q = record {
 
 -- ---- the whole tree
 
-module _ (k : Case) (t : Tree) (text : List ℕ) (past : ℕ) (header : Header) (planLine nodes : ℕ) (states work : List ℕ)
+module _ {k : Case} {t : Tree} {text : List ℕ} {past : ℕ} {header : Header} {planLine nodes : ℕ} {states work : List ℕ}
     (r : Ready k t text past header planLine nodes states work) where
   pub is-sound : Sound k
   is-sound = sound text k (r .reads .0) (r .reads .1) (r .reads .2)
@@ -191,17 +190,17 @@ method-good k m s h = each-at (GoodMethod (k .head)) (k .methods) m noMethod (s 
 
 -- ---- once its subtasks' nodes are stored
 
-module _ (k : Case) (t : Tree) (text : List ℕ) (past : ℕ) (header : Header) (planLine nodes : ℕ) (states work : List ℕ)
+module _ {k : Case} {t : Tree} {text : List ℕ} {past : ℕ} {header : Header} {planLine nodes : ℕ} {states work : List ℕ}
     (r : Ready k t text past header planLine nodes states work) (n : ℕ) (h : n < size t) (m : ℕ) (w : MethodNode k m (nodeOfTree t n)) where
   abbrev x : Tree
   x = nodeOfTree t n
 
   subtrees-held : HeldAll work (subtreesOf x) (n + 1)
-  subtrees-held = held-subtrees work x n (node-held k t text past header planLine nodes states work r n h)
+  subtrees-held = held-subtrees work x n (node-held r n h)
 
   pub few-subtrees : countOf (subtreesOf x) ≤ 32
   few-subtrees =
-      let g = method-good k m (is-sound k t text past header planLine nodes states work r) (w .below) .few-subtasks in
+      let g = method-good k m (is-sound r) (w .below) .few-subtasks in
       let e = w .count in omega arith
 
   pub subtrees-inside : Each (RowInside work) (siblings work (n + 1) (countOf (subtreesOf x)))
@@ -221,12 +220,12 @@ module _ (k : Case) (t : Tree) (text : List ℕ) (past : ℕ) (header : Header) 
   inside-after j b = let e = after-leaves .same-size in omega arith
 
   pub own-inside : RowInside after n
-  own-inside = inside-after n (root-row work x n (node-held k t text past header planLine nodes states work r n h) .inside)
+  own-inside = inside-after n (root-row work x n (node-held r n h) .inside)
 
   pub own-span : rowSpan after n ≡ span x
   own-span =
       ap (λ (g : ℕ → Span). g n) (rows-stored work (siblings work (n + 1) (countOf (subtreesOf x))) few-nodes)
-      ∙ root-row work x n (node-held k t text past header planLine nodes states work r n h) .spanned
+      ∙ root-row work x n (node-held r n h) .spanned
 
   pub plan-room : planFrom ≤ length after
   unfolding planFrom workNeed
@@ -251,6 +250,6 @@ module _ (k : Case) (t : Tree) (text : List ℕ) (past : ℕ) (header : Header) 
             (inside-after (getD ns j 0) (each-at (RowInside work) ns j 0 subtrees-inside here));
         ownWithin = w .ownWithin;
         subsWithin = w .subsWithin;
-        long = states-long k t text past header planLine nodes states work r;
-        agree = states-agree k t text past header planLine nodes states work r;
+        long = states-long r;
+        agree = states-agree r;
       }

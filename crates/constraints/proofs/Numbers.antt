@@ -1,7 +1,7 @@
 -- How many lines stand before the nodes: each group of lines has at most its count of them, so a node's line fits. Assumes nothing.
-use mathlib.Core.Path.{_≡_, refl, sym, ap, subst, _∙_}
+use mathlib.Core.Path.{_≡_, refl, subst}
 use mathlib.Core.Bool.{Bool, true, false}
-use mathlib.Core.List.{List, [], _∷_, map}
+use mathlib.Core.List.{List, map}
 use Prim.Native.Nat.{ℕ, zero, suc, _+_, _*_, _≤_, _<_}
 use native.Mathlib.Nat.{suc-mul}
 use native.Mathlib.Omega.{arith}
@@ -12,11 +12,9 @@ use Rattle.rules.specs.declared.Header.{Header}
 use Rattle.rules.specs.declared.Answer.the-variants.{Unreadable}
 use Rattle.rules.specs.Table as T
 use Rattle.rules.specs.Table.{readLine, table, roleNumber, inRange}
-use Rattle.rules.specs.Case.{Method, Case, Valued, scalarAt, membersAt, setAt, headerOf, actionOf, nodeOf, methodOf, Read, read, refused, follow, readOf, oneLine, many, oneMethod, noSurplus, readBody, noHeader, readCase}
+use Rattle.rules.specs.Case.{Method, Case, Valued, scalarAt, membersAt, setAt, headerOf, actionOf, nodeOf, Read, read, refused, follow, readOf, oneLine, many, oneMethod, noSurplus, readBody, noHeader, readCase}
 use Rattle.rules.specs.Tree.{Tree}
 use Rattle.rules.proofs.Judgement.Reading.{ForLine, ReadSays, one-line-says}
-use Rattle.rules.proofs.Judgement.Sound.{GoodHeader}
-use Rattle.constraints.specs.Ready.{Ready}
 use Rattle.constraints.proofs.Nodes.{is-sound, size-is}
 use Rattle.constraints.proofs.Steps.{Going, all-nodes}
 
@@ -124,16 +122,16 @@ plan-early text k n place e =
     (line-says text noHeader T.header 0 1 0) (λ x m p q. body-says text (headerOf (x .1)) m p q))
 
 -- A node's line fits.
-pub line-fits : (k : Case) (t : Tree) (text : List ℕ) (past : ℕ) (header : Header) (planLine nodes : ℕ) (states start work : List ℕ) (place n : ℕ)
+pub line-fits : {k : Case} {t : Tree} {text : List ℕ} {past : ℕ} {header : Header} {planLine nodes : ℕ} {states start work : List ℕ} {place n : ℕ}
     → Going k t text past header planLine nodes states start work place n → n < header .nodes → planLine + 1 + n < 1000000
-line-fits k t text past header planLine nodes states start work place n g h =
+line-fits {k = k} {text = text} g h =
     let r = g .ready in
-    let s = is-sound k t text past header planLine nodes states work r .head-good in
+    let s = is-sound r .head-good in
     let a = s .few-actions in
     let b = s .few-methods in
     let c = s .few-nodes in
     let e = plan-early text k (r .reads .0) (r .reads .1) (r .reads .2) in
     let d = r .plans in
-    let f = all-nodes k t text past header planLine nodes states start work place n g in
-    let z = size-is k t text past header planLine nodes states work r in
+    let f = all-nodes g in
+    let z = size-is r in
     omega arith

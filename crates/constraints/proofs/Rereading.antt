@@ -1,6 +1,5 @@
 -- A line that is read again: the reader's array holds the numbers of the line's items. Assumes nothing.
 use mathlib.Core.Path.{_≡_, refl, sym, ap, _∙_}
-use mathlib.Core.Logic.{_≢_}
 use mathlib.Core.List.{List, [], _∷_, map}
 use Prim.Native.Nat.{ℕ, zero, suc, _+_, _≤_, _<_}
 use native.Mathlib.Nat.{add-zero, zero-add}
@@ -12,7 +11,6 @@ use Rattle.rules.specs.Table.{Value, scalar, numberOf}
 use Rattle.rules.specs.Case.{scalarAt}
 use Rattle.text.specs.declared.Cursor.{Cursor}
 use Rattle.text.specs.Cursor.{cursor}
-use Rattle.lines.specs.declared.line.Finish.{Finish}
 use Rattle.lines.specs.declared.line.Finish.the-variants.{Done, Bad, Range}
 use Rattle.lines.specs.declared.line.LineRead.{LineRead}
 use Rattle.lines.specs.Reading.{noValues, asLine}

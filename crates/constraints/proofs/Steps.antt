@@ -1,30 +1,29 @@
 -- One node's constraints, by what the code read and stored for it; and the nodes in order: the first broken constraint of the whole tree is
 -- that from here on, after the nodes that kept theirs. Assumes nothing.
 use mathlib.Core.Path.{_≡_, refl, sym, ap, ap₂, subst, _∙_}
-use mathlib.Core.Bool.{Bool, true, false}
-use mathlib.Core.List.{List, [], _∷_}
+use mathlib.Core.Bool.{true, false}
+use mathlib.Core.List.{List, []}
 use mathlib.Core.Option.{Option, none, some}
-use Prim.Native.Nat.{ℕ, zero, suc, _+_, _-_, _*_, _≤_, _<_}
+use Prim.Native.Nat.{ℕ, suc, _+_, _-_, _≤_, _<_}
 use native.Mathlib.Numerals.{add-one}
 use native.Mathlib.Omega.{arith}
-use lib.ListN.{length, getD, drop, length-map, List·getD-map, drop-of-length-le}
+use lib.ListN.{length, getD, drop, List·getD-map, drop-of-length-le}
 use lib.Seq.{sets, drop-cons}
 use Rattle.rules.specs.declared.Header.{Header}
 use Rattle.rules.specs.declared.Answer.{Answer}
-use Rattle.rules.specs.Index.{Span, Part, spanOfPart}
+use Rattle.rules.specs.Index.{Span, spanOfPart}
 use Rattle.rules.specs.Table as T
 use Rattle.rules.specs.Table.{readLine}
 use Rattle.rules.specs.Case.{Constraint, Method, methodAt, NodeLine, L, Case, oneLine, many}
 use Rattle.rules.specs.Tree.{Tree, leaf, preorder, rootLine, span, subtaskSpans}
-use Rattle.rules.specs.Constraint.{Holds, holdsIn, constraintsOf, partsOf, firstBrokenOf, orElse, firstBroken}
+use Rattle.rules.specs.Constraint.{holdsIn, constraintsOf, partsOf, firstBrokenOf, orElse, firstBroken}
 use Rattle.rules.specs.Verdict.{workNeed, statesOf}
 use Rattle.rules.proofs.Judgement.Each.{Each}
-use Rattle.rules.proofs.Judgement.Sound.{GoodConstraint, GoodMethod}
+use Rattle.rules.proofs.Judgement.Sound.{GoodConstraint}
 use Rattle.reading.specs.Directory.{methodsFrom}
 use Rattle.tree.specs.Layout.{planFrom, subtasksFrom, size, NodesFrom}
 use Rattle.text.specs.declared.Cursor.{Cursor}
 use Rattle.constraints.specs.declared.again.Again.{Again}
-use Rattle.constraints.specs.declared.again.Again.the-variants.{Line, Nothing}
 use Rattle.constraints.specs.declared.method.Kept.{Kept}
 use Rattle.constraints.specs.declared.method.Kept.the-variants.{All, Broken}
 use Rattle.parts.specs.States.{inRow}
@@ -50,11 +49,28 @@ pub leaf-kept : (k : Case) (t : Tree) (line n letter label : ℕ) → Labels let
     → All ≡ keptAs (brokenOfNode k t line n)
 leaf-kept k t line n letter label l e = none-of k t line n (no-constraints k letter label (nodeOfTree t n) l e)
 
-module _ (k : Case) (t : Tree) (text : List ℕ) (past : ℕ) (header : Header) (planLine nodes : ℕ) (states work : List ℕ)
-    (r : Ready k t text past header planLine nodes states work) (n : ℕ) (h : n < size t) (letter label : ℕ)
-    (labels : Labels letter label (rootLine (nodeOfTree t n))) (names : namesMethod letter ≡ true) where
-  pub node-is : MethodNode k label (nodeOfTree t n)
-  node-is = method-node k letter label (nodeOfTree t n) (node-proper k t text past header planLine nodes states work r n h) labels names
+-- Node n, whose line names a method, among what the phases before left.
+pub record Standing (k : Case) (t : Tree) (text : List ℕ) (past : ℕ) (header : Header) (planLine nodes : ℕ) (states work : List ℕ) (n label : ℕ) : Type 0 where
+  pub ready : Ready k t text past header planLine nodes states work
+  pub below : n < size t
+  pub node : MethodNode k label (nodeOfTree t n)
+
+abbrev pub standing : {k : Case} {t : Tree} {text : List ℕ} {past : ℕ} {header : Header} {planLine nodes : ℕ} {states work : List ℕ}
+    (r : Ready k t text past header planLine nodes states work) (n letter label : ℕ) → n < size t → Labels letter label (rootLine (nodeOfTree t n))
+    → namesMethod letter ≡ true → Standing k t text past header planLine nodes states work n label
+standing {k} {t} r n letter label h labels names =
+    record { ready = r; below = h; node = method-node k letter label (nodeOfTree t n) (node-proper r n h) labels names }
+
+module _ {k : Case} {t : Tree} {text : List ℕ} {past : ℕ} {header : Header} {planLine nodes : ℕ} {states work : List ℕ} {n label : ℕ}
+    (w : Standing k t text past header planLine nodes states work n label) where
+  abbrev r : Ready k t text past header planLine nodes states work
+  r = w .ready
+
+  abbrev h : n < size t
+  h = w .below
+
+  abbrev node-is : MethodNode k label (nodeOfTree t n)
+  node-is = w .node
 
   abbrev method : Method
   method = methodAt (k .methods) label
@@ -63,20 +79,20 @@ module _ (k : Case) (t : Tree) (text : List ℕ) (past : ℕ) (header : Header) 
   unfolding workNeed
   method-inside =
       let b = node-is .below in
-      let f = is-sound k t text past header planLine nodes states work r .head-good .few-methods in
+      let f = is-sound r .head-good .few-methods in
       let g = r .room in omega arith
 
   pub few-enough : n + 1 ≤ 4294967295
   few-enough =
-      let f = is-sound k t text past header planLine nodes states work r .head-good .few-nodes in
-      let e = size-is k t text past header planLine nodes states work r in omega arith
+      let f = is-sound r .head-good .few-nodes in
+      let e = size-is r in omega arith
 
   pub method-read : (place : ℕ) (y : Again) → place ≡ getD work (1024 + label) 0 → y ≡ asAgain (readLine text T.method header 0 place)
       → MethodIs text (k .head) method y
   unfolding methodsFrom
   method-read place y e q =
-      let w = r .finds .methodLine label (node-is .below) in
-      method-found text (k .head) (w .0) (getD work (methodsFrom + label) 0) method (w .1) (w .2) (w .3) y
+      let f = r .finds .methodLine label (node-is .below) in
+      method-found text (k .head) (f .0) (getD work (methodsFrom + label) 0) method (f .1) (f .2) (f .3) y
       (q ∙ λ j. asAgain (readLine text T.method (r .heads j) 0 (e j)))
 
   module _ (second third : ℕ) (d : Cursor) (counts : second ≡ length (method .subtasks)) (tests : testsAt text (k .head) second third (d .at) ≡ method .constraints) where
@@ -89,7 +105,7 @@ module _ (k : Case) (t : Tree) (text : List ℕ) (past : ℕ) (header : Header) 
     counted = counts ∙ sym (node-is .count)
 
     pub few-second : second ≤ 32
-    few-second = let e = counted in let f = few-subtrees k t text past header planLine nodes states work r n h label node-is in omega arith
+    few-second = let e = counted in let f = few-subtrees r n h label node-is in omega arith
 
     pub room-before : planFrom ≤ length work
     unfolding planFrom workNeed
@@ -98,43 +114,43 @@ module _ (k : Case) (t : Tree) (text : List ℕ) (past : ℕ) (header : Header) 
     pub nodes-inside : Each (RowInside work) (siblings work (n + 1) second)
     nodes-inside =
         subst (λ (c : ℕ). Each (RowInside work) (siblings work (n + 1) c)) (sym counted)
-        (subtrees-inside k t text past header planLine nodes states work r n h label node-is)
+        (subtrees-inside r n h label node-is)
 
     module _ (new : List ℕ) (stores : new ≡ sets work subtasksFrom (siblings work (n + 1) second)) where
       is-after : new ≡ sets work subtasksFrom (siblings work (n + 1) (countOf (subtreesOf (nodeOfTree t n))))
       is-after = stores ∙ ap (λ (c : ℕ). sets work subtasksFrom (siblings work (n + 1) c)) counted
 
       pub new-leaves : Leaves work new
-      new-leaves = subst (Leaves work) (sym is-after) (after-leaves k t text past header planLine nodes states work r n h label node-is)
+      new-leaves = subst (Leaves work) (sym is-after) (after-leaves r n h label node-is)
 
       pub new-inside : RowInside new n
       new-inside =
-          subst (λ (w : List ℕ). RowInside w n) (sym is-after) (own-inside k t text past header planLine nodes states work r n h label node-is)
+          subst (λ (l : List ℕ). RowInside l n) (sym is-after) (own-inside r n h label node-is)
 
       pub new-room : planFrom ≤ length new
-      new-room = subst (λ (w : List ℕ). planFrom ≤ length w) (sym is-after) (plan-room k t text past header planLine nodes states work r n h label node-is)
+      new-room = subst (λ (l : List ℕ). planFrom ≤ length l) (sym is-after) (plan-room r n h label node-is)
 
       good : Each (GoodConstraint (k .head) (length (subtaskSpans (nodeOfTree t n)))) (method .constraints)
       good =
           let e : length (method .subtasks) ≡ length (subtaskSpans (nodeOfTree t n)) =
           sym (node-is .count) ∙ sym (spans-length (subtreesOf (nodeOfTree t n))) ∙ ap length (subtrees-spans (nodeOfTree t n)) in
           subst (λ (c : ℕ). Each (GoodConstraint (k .head) c) (method .constraints)) e
-          (method-good k label (is-sound k t text past header planLine nodes states work r) (node-is .below) .constraints-good)
+          (method-good k label (is-sound r) (node-is .below) .constraints-good)
 
       module _ (own : Span) (owns : own ≡ rowSpan new n) where
         own-is : own ≡ span (nodeOfTree t n)
         own-is =
-            owns ∙ ap (λ (w : List ℕ). rowSpan w n) is-after ∙ own-span k t text past header planLine nodes states work r n h label node-is
+            owns ∙ ap (λ (l : List ℕ). rowSpan l n) is-after ∙ own-span r n h label node-is
 
         pub new-tested : Each (Tested new states own) (testsAt text header second third (d .at))
         new-tested =
             subst (λ (ds : List Constraint). Each (Tested new states own) ds) (sym (ap (λ (x : Header). testsAt text x second third (d .at)) (r .heads) ∙ tests))
             (λ x m.
-            subst (λ (w : List ℕ). Tested w states own x) (sym is-after)
+            subst (λ (l : List ℕ). Tested l states own x) (sym is-after)
             (subst (λ (s : Span). Tested (sets work subtasksFrom (siblings work (n + 1) (countOf (subtreesOf (nodeOfTree t n))))) states s x) (sym own-is)
             (good-tested (k .head) (k .head .cues) (span (nodeOfTree t n)) (subtaskSpans (nodeOfTree t n))
             (sets work subtasksFrom (siblings work (n + 1) (countOf (subtreesOf (nodeOfTree t n))))) states (holdsIn (statesOf k))
-            (placed k t text past header planLine nodes states work r n h label node-is) x (good x m))))
+            (placed r n h label node-is) x (good x m))))
 
         pub new-kept : (line : ℕ) (kept : Kept)
             → kept ≡ keptAs (firstBrokenOf (inRow states) (spanOfPart own (spansIn new)) line 0 (testsAt text header second third (d .at)))
@@ -145,11 +161,11 @@ module _ (k : Case) (t : Tree) (text : List ℕ) (past : ℕ) (header : Header) 
             let ds : testsAt text header second third (d .at) ≡ constraintsOf k x =
             ap (λ (y : Header). testsAt text y second third (d .at)) (r .heads) ∙ tests ∙ sym (node-is .brings) in
             e
-            ∙ ap (λ (w : List ℕ). keptAs (firstBrokenOf (inRow states) (spanOfPart own (spansIn w)) line 0 (testsAt text header second third (d .at)))) is-after
+            ∙ ap (λ (l : List ℕ). keptAs (firstBrokenOf (inRow states) (spanOfPart own (spansIn l)) line 0 (testsAt text header second third (d .at)))) is-after
             ∙ ap₂ (λ (s : Span) (cs : List Constraint). keptAs (firstBrokenOf (inRow states) (spanOfPart s (spansIn (sets work subtasksFrom (siblings work (n + 1) (countOf (subtreesOf x)))))) line 0 cs)) own-is ds
             ∙ ap keptAs (broken-same (k .head) (k .head .cues) (span x) (subtaskSpans x)
             (sets work subtasksFrom (siblings work (n + 1) (countOf (subtreesOf x)))) states (holdsIn (statesOf k))
-            (placed k t text past header planLine nodes states work r n h label node-is) line 0 (constraintsOf k x)
+            (placed r n h label node-is) line 0 (constraintsOf k x)
             (subst (λ (cs : List Constraint). Each (GoodConstraint (k .head) (length (subtaskSpans x))) cs) (sym (node-is .brings)) good))
 
 -- ---- the nodes in order
@@ -172,7 +188,7 @@ orElse-some : (o later : Option Answer) (a : Answer) → Broken a ≡ keptAs o �
 orElse-some none later a e = let z : _≡_ {A = ℕ} 0 1 = cc in absurd (omega arith)
 orElse-some (some b) later a e = let same : b ≡ a = cc in ap some same
 
-module _ (k : Case) (t : Tree) (text : List ℕ) (past : ℕ) (header : Header) (planLine nodes : ℕ) (states start : List ℕ) where
+module _ {k : Case} {t : Tree} {text : List ℕ} {past : ℕ} {header : Header} {planLine nodes : ℕ} {states start : List ℕ} where
   pub going-starts : Ready k t text past header planLine nodes states start → Going k t text past header planLine nodes states start start nodes 0
   unfolding brokenOfTree broken-from
   going-starts r =
@@ -193,9 +209,9 @@ module _ (k : Case) (t : Tree) (text : List ℕ) (past : ℕ) (header : Header) 
         same = ap (λ (l : ℕ). firstBroken k (holdsIn (statesOf k)) l (preorder t)) first;
       }
 
-  module _ (work : List ℕ) (place n : ℕ) (g : Going k t text past header planLine nodes states start work place n) where
+  module _ {work : List ℕ} {place n : ℕ} (g : Going k t text past header planLine nodes states start work place n) where
     pub all-nodes : size t ≡ header .nodes
-    all-nodes = size-is k t text past header planLine nodes states work (g .ready) ∙ ap (λ (x : Header). x .nodes) (sym (g .ready .heads))
+    all-nodes = size-is (g .ready) ∙ ap (λ (x : Header). x .nodes) (sym (g .ready .heads))
 
     module _ (more : n < header .nodes) where
       pub below : n < size t
@@ -204,12 +220,12 @@ module _ (k : Case) (t : Tree) (text : List ℕ) (past : ℕ) (header : Header) 
       pub going-line : (y : Again) → y ≡ asAgain (readLine text T.node header 0 place) → NodeIs text k n (rootLine (nodeOfTree t n)) y
       unfolding nodeOfTree rootLine
       going-line y q =
-          let s = is-sound k t text past header planLine nodes states work (g .ready) in
+          let s = is-sound (g .ready) in
           let e = all-nodes in
-          let z = size-is k t text past header planLine nodes states work (g .ready) in
+          let z = size-is (g .ready) in
           let len = s .nodes-length in
           subst (λ (x : NodeLine). NodeIs text k n x y)
-          (ap (λ (l : List NodeLine). getD l n (L 0 0)) (sym (tree-is k t text past header planLine nodes states work (g .ready) .preordered))
+          (ap (λ (l : List NodeLine). getD l n (L 0 0)) (sym (tree-is (g .ready) .preordered))
           ∙ List·getD-map rootLine (preorder t) n (leaf 0 0))
           (node-found text k n place (g .lines) (L 0 0) (omega arith) (omega arith) y (q ∙ ap (λ (x : Header). asAgain (readLine text T.node x 0 place)) (g .ready .heads)))
 
@@ -236,7 +252,7 @@ module _ (k : Case) (t : Tree) (text : List ℕ) (past : ℕ) (header : Header) 
           let at : line ≡ k .planLine + 1 + n = e ∙ ap (λ (p : ℕ). p + 1 + n) (g .ready .plans) in
           let h = below in
           record {
-            ready = ready-leaves k t text past header planLine nodes states work (g .ready) new l;
+            ready = ready-leaves (g .ready) new l;
             leaves = leaves-then (g .leaves) l;
             most = omega arith;
             lines = f;

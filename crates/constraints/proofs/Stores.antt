@@ -1,13 +1,11 @@
 -- The stores of the subtasks' nodes leave the directory and the rows, and the nodes stand first in their places. Assumes nothing.
-use mathlib.Core.Path.{_≡_, refl, sym, ap, ap₂, _∙_, fun-ext}
+use mathlib.Core.Path.{_≡_, refl, ap, _∙_, fun-ext}
 use mathlib.Core.List.{List, [], _∷_, _++_, append-assoc}
-use Prim.Native.Nat.{ℕ, zero, suc, _+_, _-_, _*_, _≤_, _<_}
+use Prim.Native.Nat.{ℕ, zero, suc, _+_, _-_, _*_, _≤_}
 use native.Mathlib.Omega.{arith}
-use lib.ListN.{length, getD, take, drop, set, length-drop, length-take}
+use lib.ListN.{length, getD, take, drop, set}
 use lib.Seq.{sets, length-sets, sets-eq, getD-set-other, take-set-le, take-set-lt, drop-set-lt, take-append-add, drop-at, length-take-le}
-use Rattle.rules.specs.Index.{Span}
-use Rattle.rules.specs.Verdict.{workNeed}
-use Rattle.tree.specs.Layout.{marksFrom, subtasksFrom, planFrom, rowsFrom, rowsPast, directoryOf, rowsIn}
+use Rattle.tree.specs.Layout.{marksFrom, subtasksFrom, planFrom, rowsFrom, rowsPast}
 use Rattle.parts.specs.Spans.{rowSpan, nodeAfter, siblings, nodesIn}
 use Rattle.constraints.specs.Ready.{Leaves}
 

@@ -6,8 +6,8 @@ use mathlib.Core.Option.{Option, none, some}
 use Prim.Native.Nat.{ℕ}
 use Rattle.rules.specs.declared.Header.{Header}
 use Rattle.rules.specs.declared.Answer.{Answer}
-use Rattle.rules.specs.Case.{Case, read, readCase}
-use Rattle.rules.specs.Tree.{Tree, Walk, mayClaim, walkTree}
+use Rattle.rules.specs.Case.{Case}
+use Rattle.rules.specs.Tree.{Tree, mayClaim, walkTree}
 use Rattle.rules.specs.Verdict.{Found, right, wrong, noneBroken, judgeConstraints}
 use Rattle.tree.specs.Layout.{caseOf, treeOf}
 use Rattle.constraints.specs.declared.method.Kept.{Kept}

@@ -2,21 +2,18 @@
 -- such spans. By recursion on the tree. Assumes nothing.
 use mathlib.Core.Path.{_≡_, refl, sym, ap, subst, _∙_}
 use mathlib.Core.Logic.{_≢_, ⊎-elim}
-use mathlib.Core.Bool.{Bool, true, false, _&&_, not}
+use mathlib.Core.Bool.{true, not}
 use mathlib.Core.List.{List, [], _∷_, _++_, map, headD, tail}
 use mathlib.Core.List.{List·Memᴰ as Mem, List·Memᴰ·head as here, List·Memᴰ·append-cases as append-cases, Memᴰ·append-left as in-left, Memᴰ·append-right as in-right}
 use Prim.Native.Nat.{ℕ, zero, suc, _+_, _*_, _^_, _≤_, _<_}
 use native.Mathlib.Nat.{lt-of-lt-of-le}
 use native.Mathlib.Omega.{arith}
-use borrow.Author.Tests.{eqb-true, eqb-false, not-true, ltb-true}
-use lib.Dec.{eqb, leb, ltb}
+use borrow.Author.Tests.{eqb-true, eqb-false, not-true}
 use lib.ListN.{length, getD}
 use lib.Pow.{pow-mono}
-use Rattle.rules.specs.declared.Header.{Header}
-use Rattle.rules.specs.Index.{Span, at, ofCue, ofGap, hull, pick, partOf, spanOfPart, c, f, roundedUp, roundedDown}
-use Rattle.rules.specs.State.{bit}
-use Rattle.rules.specs.Case.{Method, methodAt, NodeLine, D, E, L, Case}
-use Rattle.rules.specs.Tree.{Tree, leaf, empty, task, Trees, noTree, more, preorder, preorders, rootLine, span, spans, subtaskSpans, noSubtasks, isMethodOf, fits}
+use Rattle.rules.specs.Index.{Span, at, ofCue, ofGap, hull, partOf, spanOfPart, c, f, roundedUp, roundedDown}
+use Rattle.rules.specs.Case.{methodAt, D, E, Case}
+use Rattle.rules.specs.Tree.{Tree, leaf, empty, task, Trees, noTree, more, preorder, preorders, rootLine, span, spans, noSubtasks, isMethodOf, fits}
 use Rattle.rules.specs.Rules.{FitsTask, FitsTasks}
 use Rattle.rules.proofs.Spans.{hull-one, hull-cons-start, hull-cons-end}
 use Rattle.rules.proofs.Judgement.Each.{Each, each-nil, each-cons, each-tail, both-true}

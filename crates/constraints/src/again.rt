@@ -9,6 +9,7 @@ ghost use Rattle.constraints.specs.Again.{asAgain};
 use lines::Context;
 use lines::Finish;
 use lines::Role;
+use rules::Header;
 use text::Cursor;
 
 // A line's letter and the numbers of its first three items, 0 for an item that it hasn't, with the start of the next line; or no such line.
@@ -23,11 +24,19 @@ pub enum Again {
     Nothing,
 }
 
-pub fn read_again(text: &[u8], past: usize, c: Cursor, due: Role, x: Context) -> Again
+// The line that starts at the cursor, where one of role `due` is due, of a method with so many subtasks.
+pub fn read_again(
+    text: &[u8],
+    past: usize,
+    c: Cursor,
+    due: Role,
+    header: Header,
+    subtasks: u32,
+) -> Again
     requires { ⌜ ((p : ℕ) → feedFollows (now text) p ≡ ltb p past) ⌝ }
-    ensures { λ r. ⌜ r ≡ asAgain (readLine (now (text .entry)) (roleOf due) (x .header) (x .subtasks) (c .at)) ⌝ }
+    ensures { λ r. ⌜ r ≡ asAgain (readLine (now (text .entry)) (roleOf due) header subtasks (c .at)) ⌝ }
 {
-    let r = lines::read_line(text, past, c, due, x);
+    let r = lines::read_line(text, past, c, due, Context { header, subtasks });
     let finish = r.finish;
     let letter = r.letter;
     let v = r.values;

@@ -16,10 +16,10 @@ ghost use Rattle.constraints.specs.Methods.{keptAs, testsAt};
 use crate::again::Again;
 use crate::again::read_again;
 use index::Span;
-use lines::Context;
 use lines::Role;
 use parts::keeps;
 use rules::Answer;
+use rules::Header;
 use text::Cursor;
 
 // Whether all constraints hold, or the answer for the first broken one.
@@ -56,12 +56,13 @@ fn broken(letter: u8, line: u32, number: u32) -> Answer
     }
 }
 
-// The first broken one of so many constraints, "each method's in text order", of the node of a line.
+// The first broken one of so many constraints, "each method's in text order", of a node with so many subtasks.
 pub fn first_broken_of(
     text: &[u8],
     past: usize,
     c: Cursor,
-    x: Context,
+    header: Header,
+    subtasks: u32,
     count: u32,
     line: u32,
     own: Span,
@@ -70,13 +71,13 @@ pub fn first_broken_of(
 ) -> Kept
     requires { ⌜ ((p : ℕ) → feedFollows (now text) p ≡ ltb p past) ⌝ }
     requires { ⌜ planFrom ≤ length (now work) ⌝ }
-    requires { ⌜ Each (Tested (now work) (now states) (spanOf own)) (testsAt (now text) (x .header) (x .subtasks) count (c .at)) ⌝ }
-    ensures { λ r. ⌜ r ≡ keptAs (firstBrokenOf (inRow (now (states .entry))) (spanOfPart (spanOf own) (spansIn (now (work .entry)))) line 0 (testsAt (now (text .entry)) (x .header) (x .subtasks) count (c .at))) ⌝ }
+    requires { ⌜ Each (Tested (now work) (now states) (spanOf own)) (testsAt (now text) header subtasks count (c .at)) ⌝ }
+    ensures { λ r. ⌜ r ≡ keptAs (firstBrokenOf (inRow (now (states .entry))) (spanOfPart (spanOf own) (spansIn (now (work .entry)))) line 0 (testsAt (now (text .entry)) header subtasks count (c .at))) ⌝ }
 {
     let mut at = c;
     let mut number: u32 = 0;
     while number < count {
-        match read_again(text, past, at, Role::Constraint, x) {
+        match read_again(text, past, at, Role::Constraint, header, subtasks) {
             Again::Line {
                 letter,
                 first,

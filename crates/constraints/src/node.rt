@@ -10,7 +10,6 @@ use crate::again::Again;
 use crate::again::read_again;
 use crate::method::Kept;
 use crate::method::first_broken_of;
-use lines::Context;
 use lines::Role;
 use parts::span_at;
 use parts::subtask_nodes;
@@ -51,16 +50,7 @@ fn node_kept(
     }
     let at = METHODS + label as usize;
     let place = work[at] as usize;
-    match read_again(
-        text,
-        past,
-        Cursor { at: place },
-        Role::Method,
-        Context {
-            header,
-            subtasks: 0,
-        },
-    ) {
+    match read_again(text, past, Cursor { at: place }, Role::Method, header, 0) {
         Again::Line {
             letter: _,
             first: _,
@@ -77,10 +67,8 @@ fn node_kept(
                 text,
                 past,
                 next,
-                Context {
-                    header,
-                    subtasks: second,
-                },
+                header,
+                second,
                 third,
                 line,
                 own,
@@ -109,16 +97,7 @@ pub fn first_broken(
     let mut at = nodes;
     let mut n: u32 = 0;
     while n < header.nodes {
-        match read_again(
-            text,
-            past,
-            at,
-            Role::Node,
-            Context {
-                header,
-                subtasks: 0,
-            },
-        ) {
+        match read_again(text, past, at, Role::Node, header, 0) {
             Again::Line {
                 letter,
                 first,

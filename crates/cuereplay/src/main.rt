@@ -2,26 +2,6 @@
 // rows 1 to 5 of 01's table; the tree and the constraints are not judged here.
 use capi::Reply;
 use libc::STDIN_FILENO;
-use libc::STDOUT_FILENO;
-
-fn print_field(v: u32) {
-    io::write_all(STDOUT_FILENO, b",");
-    io::print_decimal(STDOUT_FILENO, v as u64);
-}
-
-fn print_reply(r: Reply) {
-    if r.number == 0 {
-        io::write_all(STDOUT_FILENO, b"Y");
-        print_field(r.cues);
-        print_field(r.nodes);
-    } else {
-        io::write_all(STDOUT_FILENO, b"R");
-        print_field(r.number);
-        print_field(r.line);
-        print_field(r.item);
-    }
-    io::write_all(STDOUT_FILENO, b"\n");
-}
 
 // The replay call with lists as long as it asks.
 fn replay_text(text: &[u8]) -> Reply {
@@ -34,5 +14,5 @@ fn replay_text(text: &[u8]) -> Reply {
 fn main() {
     let mut buffer = io::large_buffer();
     let n = io::read_full(STDIN_FILENO, &mut buffer);
-    print_reply(replay_text(&buffer[..n]));
+    printing::print_reply(replay_text(&buffer[..n]));
 }

@@ -1,1 +1,5 @@
 pub mod Verdicts
+pub mod Frames
+pub mod Finals
+pub mod Phases
+pub mod Constrained

@@ -1,1 +1,183 @@
-// The core of the check call.
+// The core of the check call, over plain lists: the rows of 01's table in their order. What it leaves in the work space are the numbers of
+// the node records, which the call then copies into the node list.
+ghost use mathlib.Core.Path.{_≡_};
+ghost use Prim.Native.Nat.{ℕ, _≤_};
+ghost use lib.ListN.{length, replicate};
+ghost use Rattle.rules.specs.Verdict.{stateNeed, workNeed, textMost, check, checkLists, answerOf, statesAfter, judgeText, judgeRun, judgeTree};
+ghost use Rattle.records.specs.Records.{recordsAfter};
+ghost use Rattle.replay.specs.Running.{caseOf};
+ghost use Rattle.judge.specs.Phases.{Cleared, Read, Ran as HasRun, Walked, Claimed};
+use constraints::Kept;
+use lines::Context;
+use reading::CaseRead;
+use replay::Ran;
+use rules::Answer;
+use rules::Header;
+use state::WORDS;
+use text::Cursor;
+use tree::TreeWalk;
+use tree::Unclaimed;
+
+// A case that was read: its header, the place past the text's last line feed, the number of its P line, and where its lines start.
+pub struct Opened {
+    pub header: Header,
+    pub past: usize,
+    pub plan_line: u32,
+    pub plan: Cursor,
+    pub nodes: Cursor,
+}
+
+// A refusal: "both lists are zero throughout. Work space is zero after each call."
+fn refuse(states: &mut [u64], work: &mut [u32], answer: Answer) -> Answer
+    ensures answer { λ r. ⌜ r ≡ answer ⌝ }
+    ensures states { λ r. ⌜ now (states .exit) ≡ replicate (length (now (states .entry))) 0 ⌝ }
+    ensures work { λ r. ⌜ now (work .exit) ≡ replicate (length (now (work .entry))) 0 ⌝ }
+{
+    rows::clear(states);
+    rows::clear_work(work);
+    answer
+}
+
+// Rows 10 to 13, of a tree whose positions are all claimed; then the records.
+fn judge_constraints(text: &[u8], o: Opened, states: &mut [u64], work: &mut [u32]) -> Answer
+    requires { ⌜ Claimed (now text) o (now states) (now work) ⌝ }
+    ensures answer { λ r. ⌜ r ≡ answerOf (judgeTree (caseOf (now (text .entry)))) ⌝ }
+    ensures states { λ r. ⌜ now (states .exit) ≡ statesAfter (length (now (states .entry))) (judgeTree (caseOf (now (text .entry)))) ⌝ }
+    ensures work { λ r. ⌜ now (work .exit) ≡ recordsAfter (length (now (work .entry))) (judgeTree (caseOf (now (text .entry)))) ⌝ }
+{
+    let header = o.header;
+    let nodes = o.nodes;
+    let kept = constraints::first_broken(text, o.past, header, o.plan_line, nodes, states, work);
+    match kept {
+        Kept::All => {
+            records::write_records(text, o.past, header, nodes, work);
+            Answer::Accepted {
+                cues: header.cues,
+                nodes: header.nodes,
+            }
+        }
+        Kept::Broken { answer } => refuse(states, work, answer),
+    }
+}
+
+// Row 9, of a tree that is right; then the rest.
+fn judge_claims(text: &[u8], o: Opened, states: &mut [u64], work: &mut [u32]) -> Answer
+    requires { ⌜ Walked (now text) o (now states) (now work) ⌝ }
+    ensures answer { λ r. ⌜ r ≡ answerOf (judgeTree (caseOf (now (text .entry)))) ⌝ }
+    ensures states { λ r. ⌜ now (states .exit) ≡ statesAfter (length (now (states .entry))) (judgeTree (caseOf (now (text .entry)))) ⌝ }
+    ensures work { λ r. ⌜ now (work .exit) ≡ recordsAfter (length (now (work .entry))) (judgeTree (caseOf (now (text .entry)))) ⌝ }
+{
+    let header = o.header;
+    match tree::least_unclaimed(work, header.cues) {
+        Unclaimed::None => judge_constraints(text, o, states, work),
+        Unclaimed::At { position } => refuse(
+            states,
+            work,
+            Answer::Unclaimed {
+                line: o.plan_line,
+                position,
+            },
+        ),
+    }
+}
+
+// Rows 6 to 8, of a plan that runs; then the rest.
+fn judge_nodes(text: &[u8], o: Opened, states: &mut [u64], work: &mut [u32]) -> Answer
+    requires { ⌜ HasRun (now text) o (now states) (now work) ⌝ }
+    ensures answer { λ r. ⌜ r ≡ answerOf (judgeTree (caseOf (now (text .entry)))) ⌝ }
+    ensures states { λ r. ⌜ now (states .exit) ≡ statesAfter (length (now (states .entry))) (judgeTree (caseOf (now (text .entry)))) ⌝ }
+    ensures work { λ r. ⌜ now (work .exit) ≡ recordsAfter (length (now (work .entry))) (judgeTree (caseOf (now (text .entry)))) ⌝ }
+{
+    let header = o.header;
+    let plan = o.plan;
+    let nodes = o.nodes;
+    tree::store_plan(text, plan, header.cues, work);
+    match tree::walk_tree(text, o.past, header, o.plan_line, nodes, work) {
+        TreeWalk::Right => judge_claims(text, o, states, work),
+        TreeWalk::Refused { answer } => refuse(states, work, answer),
+    }
+}
+
+// Row 5, of a case that was read; then the rest.
+fn judge_run(
+    text: &[u8],
+    o: Opened,
+    initial: Cursor,
+    states: &mut [u64],
+    work: &mut [u32],
+) -> Answer
+    requires { ⌜ Read (now text) o (initial .at) (now states) (now work) ⌝ }
+    ensures answer { λ r. ⌜ r ≡ answerOf (judgeRun judgeTree (caseOf (now (text .entry)))) ⌝ }
+    ensures states { λ r. ⌜ now (states .exit) ≡ statesAfter (length (now (states .entry))) (judgeRun judgeTree (caseOf (now (text .entry)))) ⌝ }
+    ensures work { λ r. ⌜ now (work .exit) ≡ recordsAfter (length (now (work .entry))) (judgeRun judgeTree (caseOf (now (text .entry)))) ⌝ }
+{
+    let header = o.header;
+    let plan = o.plan;
+    let x = Context {
+        header,
+        subtasks: 0,
+    };
+    let first = replay::read_initial(text, initial, x);
+    match replay::run(text, work, header, plan, first, states) {
+        Ran::All => judge_nodes(text, o, states, work),
+        Ran::Stopped { cue } => refuse(
+            states,
+            work,
+            Answer::Inapplicable {
+                line: o.plan_line,
+                cue,
+            },
+        ),
+    }
+}
+
+// Rows 3 and 4, with lists that are long enough and a text that is not too long; then the rest.
+fn judge_lent(text: &[u8], states: &mut [u64], work: &mut [u32]) -> Answer
+    requires { ⌜ Cleared (now text) (now states) (now work) ⌝ }
+    ensures answer { λ r. ⌜ r ≡ answerOf (judgeText judgeTree (now (text .entry))) ⌝ }
+    ensures states { λ r. ⌜ now (states .exit) ≡ statesAfter (length (now (states .entry))) (judgeText judgeTree (now (text .entry))) ⌝ }
+    ensures work { λ r. ⌜ now (work .exit) ≡ recordsAfter (length (now (work .entry))) (judgeText judgeTree (now (text .entry))) ⌝ }
+{
+    match reading::read_case(text, &mut work[..3072]) {
+        CaseRead::Case {
+            header,
+            plan_line,
+            initial,
+            plan,
+            nodes,
+        } => {
+            let o = Opened {
+                header,
+                past: text::past_last_feed(text),
+                plan_line,
+                plan,
+                nodes,
+            };
+            judge_run(text, o, initial, states, work)
+        }
+        CaseRead::Refused { answer } => refuse(states, work, answer),
+    }
+}
+
+// All rows: "1 state, 2 node, 3 work; first such", the text's length, and the rest. The lists are zero before anything is checked.
+pub fn judge(text: &[u8], states: &mut [u64], work: &mut [u32], node_room: usize) -> Answer
+    ensures { λ r. ⌜ r ≡ answerOf (check (checkLists (length (now (states .entry))) «node_room» (length (now (work .entry)))) (now (text .entry))) ⌝ }
+    ensures { λ r. ⌜ now (states .exit) ≡ statesAfter (length (now (states .entry))) (check (checkLists (length (now (states .entry))) «node_room» (length (now (work .entry)))) (now (text .entry))) ⌝ }
+    ensures { λ r. ⌜ now (work .exit) ≡ recordsAfter (length (now (work .entry))) (check (checkLists (length (now (states .entry))) «node_room» (length (now (work .entry)))) (now (text .entry))) ⌝ }
+{
+    rows::clear(states);
+    rows::clear_work(work);
+    if states.len() < 1001 * WORDS {
+        return Answer::ShortList { list: 1 };
+    }
+    if node_room < 3000 {
+        return Answer::ShortList { list: 2 };
+    }
+    if work.len() < 16384 {
+        return Answer::ShortList { list: 3 };
+    }
+    if 65535 < text.len() {
+        return Answer::LongText;
+    }
+    judge_lent(text, states, work)
+}

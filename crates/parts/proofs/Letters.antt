@@ -2,7 +2,7 @@
 use mathlib.Core.Path.{_≡_, refl, sym, ap, ap₂, subst, _∙_}
 use mathlib.Core.Logic.{_≢_}
 use mathlib.Core.Bool.{Bool, true, false, cond}
-use mathlib.Core.List.{List, [], _∷_, _++_, map}
+use mathlib.Core.List.{List, [], _∷_, _++_}
 use Prim.Native.Nat.{ℕ, zero, suc, _+_, _-_, _≤_, _<_}
 use native.Mathlib.Nat.{zero-add}
 use native.Mathlib.Omega.{arith}
@@ -11,7 +11,7 @@ use lib.Dec.{eqb}
 use lib.ListN.{length, getD, length-map, List·getD-map}
 use Rattle.rules.specs.Index.{Span, Part, partOf, only, pick, hull, spanOfPart, c, f, isBefore}
 use Rattle.rules.specs.Case.{Constraint, O, B, F, W}
-use Rattle.rules.specs.Constraint.{Holds, holdsFrom, keeps}
+use Rattle.rules.specs.Constraint.{holdsFrom, keeps}
 use Rattle.rules.proofs.Spans.{hull-one}
 use Rattle.tree.specs.Layout.{planFrom}
 use Rattle.parts.specs.States.{inRow}

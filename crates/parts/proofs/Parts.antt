@@ -2,22 +2,19 @@
 -- Assumes nothing.
 use mathlib.Core.Path.{_≡_, refl, sym, ap, ap₂, subst, _∙_, fun-ext}
 use mathlib.Core.Logic.{_≢_}
-use mathlib.Core.Bool.{Bool}
 use mathlib.Core.List.{List, [], _∷_, map, headD, tail}
 use mathlib.Core.List.{List·Memᴰ as Mem, List·Memᴰ·head as here}
 use Prim.Native.Nat.{ℕ, zero, suc, _+_, _-_, _*_, _^_, _≤_, _<_}
-use native.Mathlib.Numerals.{add-one}
 use native.Mathlib.Omega.{arith}
-use lib.Dec.{lit<}
 use lib.ListN.{length, getD, take, set, length-map, length-set, List·getD-map}
 use lib.Seq.{sets, getD-take, getD-drop, getD-set-other, length-slice}
-use Rattle.rules.specs.Index.{Span, Part, partOf, pick, hull, spanOfPart}
+use Rattle.rules.specs.Index.{Span, partOf, pick, hull, spanOfPart}
 use Rattle.rules.specs.State.{bit}
 use Rattle.rules.proofs.Spans.{hull-join, hull-one}
-use Rattle.rules.proofs.Judgement.Each.{Each, each-nil, each-cons, each-tail}
+use Rattle.rules.proofs.Judgement.Each.{Each, each-tail}
 use Rattle.subsets.specs.Members.{membersOf}
 use Rattle.subsets.proofs.Chosen.{head-tail}
-use Rattle.subsets.proofs.Members.{members-cons, no-members, pick-members}
+use Rattle.subsets.proofs.Members.{members-cons, pick-members}
 use Rattle.tree.specs.Layout.{subtasksFrom, planFrom, rowsFrom}
 use Rattle.parts.specs.Spans.{rowSpan, nodeAfter, RowInside, siblings, nodesIn, subtaskSpan, spansIn, SubtaskInside}
 
@@ -76,16 +73,16 @@ joining-starts work u small n f first rest left e r l =
           ∙ ap₂ (λ (s : Span) (ms : List ℕ). hull (s ∷ map (subtaskSpan work) ms)) (sym e) (sym r);
     }
 
-module _ (work : List ℕ) (u : ℕ) (joined : Span) (rest left : ℕ) (p : Joining work u joined rest left) (some : 0 < left) where
+module _ {work : List ℕ} {u : ℕ} {joined : Span} {rest left : ℕ} (p : Joining work u joined rest left) (some : 0 < left) where
   first-rest : membersOf rest ≡ headD (membersOf rest) 32 ∷ tail (membersOf rest)
   first-rest = head-tail (membersOf rest) 32 (λ e. omega (arith, p .remain, ap length e))
 
   pub next-inside : SubtaskInside work (headD (membersOf rest) 32)
   next-inside = subst (λ (l : List ℕ). Each (SubtaskInside work) l) first-rest (p .inside) (headD (membersOf rest) 32) (here refl)
 
-  pub joining-goes-on : (other both : Span) (rest′ left′ : ℕ) → other ≡ subtaskSpan work (headD (membersOf rest) 32)
+  pub joining-goes-on : {other both : Span} (rest′ left′ : ℕ) → other ≡ subtaskSpan work (headD (membersOf rest) 32)
       → both ≡ hull (joined ∷ other ∷ []) → membersOf rest′ ≡ tail (membersOf rest) → left ≡ suc left′ → Joining work u both rest′ left′
-  joining-goes-on other both rest′ left′ e j r l =
+  joining-goes-on {other} {both} rest′ left′ e j r l =
       record {
         remain = ap length r ∙ (let q = ap length first-rest in let k = p .remain in omega arith);
         inside = subst (λ (ms : List ℕ). Each (SubtaskInside work) ms) (sym r)
@@ -100,9 +97,9 @@ no-length : (l : List ℕ) → length l ≡ 0 → l ≡ []
 no-length [] e = refl
 no-length (x ∷ l) e = absurd (omega arith)
 
-pub joining-ends : (work : List ℕ) (own : Span) (u : ℕ) (joined : Span) (rest left : ℕ) → Joining work u joined rest left → left ≡ 0
+pub joining-ends : {work : List ℕ} (own : Span) {u : ℕ} {joined : Span} {rest left : ℕ} → Joining work u joined rest left → left ≡ 0
     → planFrom ≤ length work → u < 2 ^ 32 → u ≢ 0 → joined ≡ spanOfPart own (spansIn work) (partOf u)
-joining-ends work own u joined rest left p e room small n =
+joining-ends {work} own {u} {joined} {rest} p e room small n =
     sym (set-span work own u room small n ∙ p .same
     ∙ ap (λ (ms : List ℕ). hull (joined ∷ map (subtaskSpan work) ms)) (no-length (membersOf rest) (p .remain ∙ e)) ∙ hull-one joined)
 
@@ -140,7 +137,7 @@ placing-starts work n count f =
       same = λ j. sets work (s j) (siblings work (n + 1) (c j));
     }
 
-module _ (start : List ℕ) (n count : ℕ) (work : List ℕ) (at i : ℕ) (p : Placing start n count work at i) (more : i < count) (few : count ≤ 32) where
+module _ {start : List ℕ} {n count : ℕ} {work : List ℕ} {at i : ℕ} (p : Placing start n count work at i) (more : i < count) (few : count ≤ 32) where
   left-one : count - i ≡ suc (count - (i + 1))
   left-one = omega arith
 
@@ -150,9 +147,9 @@ module _ (start : List ℕ) (n count : ℕ) (work : List ℕ) (at i : ℕ) (p : 
   pub row-inside : RowInside (set work (subtasksFrom + i) at) at
   row-inside = inside-kept work (subtasksFrom + i) at at (opened at (here refl))
 
-  pub placing-goes-on : (next : ℕ) → next ≡ nodeAfter (set work (subtasksFrom + i) at) at
+  pub placing-goes-on : {next : ℕ} → next ≡ nodeAfter (set work (subtasksFrom + i) at) at
       → Placing start n count (set work (subtasksFrom + i) at) next (i + 1)
-  placing-goes-on next e =
+  placing-goes-on {next} e =
       let small : i < 32 = omega arith in
       let stored : List ℕ = set work (subtasksFrom + i) at in
       let same-next : nodeAfter work at ≡ next = sym (e ∙ after-kept work i at at small) in
@@ -168,8 +165,8 @@ module _ (start : List ℕ) (n count : ℕ) (work : List ℕ) (at i : ℕ) (p : 
             ∙ ap₂ (λ (k : ℕ) (ms : List ℕ). sets stored k ms) put rest;
       }
 
-pub placing-ends : (start : List ℕ) (n count : ℕ) (work : List ℕ) (at i : ℕ) → Placing start n count work at i → count ≤ i
+pub placing-ends : {start : List ℕ} {n count : ℕ} {work : List ℕ} {at i : ℕ} → Placing start n count work at i → count ≤ i
     → work ≡ sets start subtasksFrom (siblings start (n + 1) count)
-placing-ends start n count work at i p h =
+placing-ends {start} {n} {count} {work} {at} {i} p h =
     let none : count - i ≡ 0 = omega arith in
     sym (p .same ∙ ap (λ (k : ℕ). sets work (subtasksFrom + i) (siblings work at k)) none)

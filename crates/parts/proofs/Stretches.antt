@@ -1,7 +1,7 @@
 -- The states of a case lie in the state list one after the other, each in its own stretch of words: by induction on the states.
 -- Assumes nothing.
 use mathlib.Core.Path.{_≡_, refl, sym, ap, _∙_}
-use mathlib.Core.Bool.{Bool, false}
+use mathlib.Core.Bool.{false}
 use mathlib.Core.List.{List, [], _∷_, _++_, flatten, append-assoc}
 use mathlib.Core.List.{List·Memᴰ·head as here}
 use Prim.Native.Nat.{ℕ, zero, suc, _+_, _-_, _*_, _/_, _%_, _≤_, _<_}

@@ -30,7 +30,7 @@ pub fn span_at(work: &[u32], n: u32) -> Span
 }
 
 // The node after the subtree of node n.
-pub fn after_at(work: &[u32], n: u32) -> u32
+fn after_at(work: &[u32], n: u32) -> u32
     requires { ⌜ RowInside (now work) n ⌝ }
     ensures { λ r. ⌜ r ≡ nodeAfter (now (work .entry)) n ⌝ }
 {

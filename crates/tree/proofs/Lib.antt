@@ -7,5 +7,5 @@ pub mod Preorder
 mod Judging
 mod Steps
 mod Passing
-mod Within
+pub mod Within
 mod Whole

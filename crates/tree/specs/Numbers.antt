@@ -13,7 +13,7 @@ use Rattle.tree.specs.declared.number.Numbered.{Numbered}
 use Rattle.tree.specs.Layout.{caseOf}
 
 -- The case that a text reads as.
-unfoldable pub caseIn : List ℕ → Case
+abbrev pub caseIn : List ℕ → Case
 caseIn text = caseOf (readCase text)
 
 unfoldable pub valueIn : Number → ℕ

@@ -60,7 +60,8 @@ fn write_answer(out: &mut impl Write, answer: Answer) -> Result<()> {
 fn write_list<T: Copy>(out: &mut impl Write, list: &[T], bytes: impl Fn(T) -> Vec<u8>) -> Result<()> {
     let is_zero = |item: &T| bytes(*item).iter().all(|&byte| byte == 0);
     let whole = size_of::<T>() == 1;
-    let count = if whole { list.len() } else { list.iter().rposition(|item| !is_zero(item)).map_or(0, |last| last + 1) };
+    let count =
+        if whole { list.len() } else { list.iter().rposition(|item| !is_zero(item)).map_or(0, |last| last + 1) };
     out.write_all(&(count as u32).to_le_bytes())?;
     list[..count].iter().try_for_each(|&item| out.write_all(&bytes(item)))
 }

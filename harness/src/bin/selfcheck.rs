@@ -10,7 +10,7 @@ use std::path::{Path, PathBuf};
 
 fn main() {
     let arguments: Vec<String> = std::env::args().skip(1).collect();
-    let folder = arguments.first().map_or("/work/shared/cases", String::as_str);
+    let folder = arguments.first().map_or("../cases", String::as_str);
     let number = |at: usize, otherwise: u64| arguments.get(at).map_or(otherwise, |n| n.parse().expect("a number"));
     let differing = run_cases(Path::new(folder));
     show_extremes();

@@ -219,23 +219,66 @@ pub fn text(rng: &mut Rng, text: &mut Vec<u8>) {
 /// The greatest count of each header field; the goal has none of its own.
 const MOST: [(usize, u32); 6] = [(2, 256), (3, 1_024), (4, 1_024), (5, 2_048), (7, 1_000), (8, 3_000)];
 
-/// Puts a count at its limit or one over it.
+/// Puts a count at its limit, one over it, or at 0.
 fn header(rng: &mut Rng, text: &mut Vec<u8>) {
     let end = text.iter().position(|&b| b == b'\n').unwrap_or(text.len());
     let mut fields: Vec<Vec<u8>> = text[..end].split(|&b| b == b',').map(<[u8]>::to_vec).collect();
     let &(item, most) = rng.pick(&MOST);
     if item <= fields.len() {
-        fields[item - 1] = (most + rng.below(2) as u32).to_string().into_bytes();
+        fields[item - 1] = rng.pick(&[most, most + 1, 0]).to_string().into_bytes();
     }
     text.splice(..end, fields.join(&b','));
 }
 
 /// Numbers at the edges of 01's ranges, and writings that are not plain numbers.
 const TELLING: &[&str] = &[
-    "0", "1", "2", "00", "01", "000", "32", "33", "64", "65", "255", "256", "257", "1000", "1001", "1024", "1025",
-    "2048", "2049", "3000", "3001", "4294967294", "4294967295", "4294967296", "04294967295", "42949672950",
-    "18446744073709551616", "99999999999999999999999999", "", " ", "1 ", " 1", "+1", "-1", "1.0", "x", "1x", "\r",
-    "1\r", "\0", "1\0", "\u{661}", "0x1", "1e3", "\"1\"", "A", "N",
+    "0",
+    "1",
+    "2",
+    "00",
+    "01",
+    "000",
+    "32",
+    "33",
+    "64",
+    "65",
+    "255",
+    "256",
+    "257",
+    "1000",
+    "1001",
+    "1024",
+    "1025",
+    "2048",
+    "2049",
+    "3000",
+    "3001",
+    "4294967294",
+    "4294967295",
+    "4294967296",
+    "04294967295",
+    "42949672950",
+    "18446744073709551616",
+    "99999999999999999999999999",
+    "",
+    " ",
+    "1 ",
+    " 1",
+    "+1",
+    "-1",
+    "1.0",
+    "x",
+    "1x",
+    "\r",
+    "1\r",
+    "\0",
+    "1\0",
+    "\u{661}",
+    "0x1",
+    "1e3",
+    "\"1\"",
+    "A",
+    "N",
 ];
 
 /// Changes one field. The line is drawn by its letter first: most lines are node lines.
@@ -262,10 +305,14 @@ fn fields(rng: &mut Rng, text: &mut Vec<u8>) {
             let other = rng.below(line.len());
             line.swap(item, other);
         }
-        _ => line[0] = rng.pick(&["N", "I", "A", "M", "O", "B", "F", "W", "P", "D", "E", "L", "d", "DD", "", "X"]).as_bytes().to_vec(),
+        _ => {
+            line[0] = rng
+                .pick(&["N", "I", "A", "M", "O", "B", "F", "W", "P", "D", "E", "L", "d", "DD", "", "X"])
+                .as_bytes()
+                .to_vec()
+        }
     }
-    let joined: Vec<Vec<u8>> = lines.iter().map(|line| line.join(&b','))
-        .collect();
+    let joined: Vec<Vec<u8>> = lines.iter().map(|line| line.join(&b',')).collect();
     *text = joined.join(&b'\n');
 }
 

@@ -28,8 +28,13 @@ pub fn chain(rng: &mut Rng, levels: usize) -> (Draft, usize) {
     let actions = rng.between(1, 2);
     let t = actions as u32;
     let mut a = || rng.below(actions) as u32;
-    let methods =
-        vec![method(t, vec![t]), method(t, vec![t, a()]), method(t, vec![a(), t]), method(t, vec![a()]), method(t, vec![])];
+    let methods = vec![
+        method(t, vec![t]),
+        method(t, vec![t, a()]),
+        method(t, vec![a(), t]),
+        method(t, vec![a()]),
+        method(t, vec![]),
+    ];
     let propositions = rng.below(4) as u32;
     let mut draft = skeleton(propositions, actions, 1, methods);
     let ends_in_leaf = rng.percent(50);
@@ -156,13 +161,8 @@ pub fn sets_of_32() -> Draft {
 /// Chains down to level 64, about 3,000 nodes in all, 64 constraints on each.
 pub fn levels_64() -> Draft {
     let (g, c, t) = (0, 1, 2);
-    let methods = vec![
-        method(g, vec![c; 32]),
-        method(c, vec![t]),
-        method(c, vec![t, t]),
-        method(t, vec![t]),
-        method(t, vec![]),
-    ];
+    let methods =
+        vec![method(g, vec![c; 32]), method(c, vec![t]), method(c, vec![t, t]), method(t, vec![t]), method(t, vec![])];
     let mut draft = skeleton(8, 0, 3, methods);
     draft.initial = (0..8).collect();
     draft.methods[3].constraints = vec![Constraint::Between(1, 7, 1); 64];

@@ -12,14 +12,14 @@ read-line-requires c κs = search needs
 enum-known-finish : tie.Need-enum-known-finish
 enum-known-finish c = search needs
 
-array-read-t14 : tie.Need-array-read-t14
-array-read-t14 c = search needs
+array-read-t16 : tie.Need-array-read-t16
+array-read-t16 c = search needs
 
-array-read-t17 : tie.Need-array-read-t17
-array-read-t17 c = search needs
+array-read-t19 : tie.Need-array-read-t19
+array-read-t19 c = search needs
 
-array-read-t20 : tie.Need-array-read-t20
-array-read-t20 c = search needs
+array-read-t22 : tie.Need-array-read-t22
+array-read-t22 c = search needs
 
 enum-told : tie.Need-enum-told
 enum-told c = search needs
@@ -30,17 +30,17 @@ enum-told-2 c = search needs
 returns : tie.Need-returns
 returns c =
     let a = c .before .before .before .before .before .before .args in
-    again-line (readLine (a .text .now) (roleOf (a .due)) (a .x .header) (a .x .subtasks) (a .c .at)) (c .before .before .before .before .read-line .result) (c .before .finish .given .0 .0) (c .before .before .before .before .read-line .ensures) (c .before .finish .given .1)
+    again-line (readLine (a .text .now) (roleOf (a .due)) (a .header) (a .subtasks) (a .c .at)) (c .before .before .before .before .read-line .result) (c .before .finish .given .0 .0) (c .before .before .before .before .read-line .ensures) (c .before .finish .given .1)
 
 returns-2 : tie.Need-returns-2
 returns-2 c =
     let a = c .before .before .before .before .before .args in
-    again-bad (readLine (a .text .now) (roleOf (a .due)) (a .x .header) (a .x .subtasks) (a .c .at)) (c .before .before .before .read-line .result) (c .enum-told .given .0 .0) (c .before .before .before .read-line .ensures) (c .enum-told .given .1)
+    again-bad (readLine (a .text .now) (roleOf (a .due)) (a .header) (a .subtasks) (a .c .at)) (c .before .before .before .read-line .result) (c .enum-told .given .0 .0) (c .before .before .before .read-line .ensures) (c .enum-told .given .1)
 
 returns-3 : tie.Need-returns-3
 returns-3 c =
     let a = c .before .before .before .before .before .args in
-    again-range (readLine (a .text .now) (roleOf (a .due)) (a .x .header) (a .x .subtasks) (a .c .at)) (c .before .before .before .read-line .result) (c .enum-told2 .given .0 .0) (c .before .before .before .read-line .ensures) (c .enum-told2 .given .1)
+    again-range (readLine (a .text .now) (roleOf (a .due)) (a .header) (a .subtasks) (a .c .at)) (c .before .before .before .read-line .result) (c .enum-told2 .given .0 .0) (c .before .before .before .read-line .ensures) (c .enum-told2 .given .1)
 
 pub read-again-spec : {M : Type 1} → statement M
 read-again-spec =
@@ -48,9 +48,9 @@ read-again-spec =
     (tie.spec
     read-line-requires
     enum-known-finish
-    array-read-t14
-    array-read-t17
-    array-read-t20
+    array-read-t16
+    array-read-t19
+    array-read-t22
     enum-told
     enum-told-2
     returns

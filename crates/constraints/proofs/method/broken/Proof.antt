@@ -3,7 +3,7 @@ use Rattle.parts.proofs.Letters.{numbered-O, numbered-B, numbered-F, numbered-W
 use Rattle.constraints.proofs.method.broken.Statement.{statement}
 use Rattle.constraints.proofs.method.broken.Tie as tie
 use Rattle.rules.specs.Constraint.{brokenAt}
-use mathlib.Core.Path.{_≡_, sym, ap}
+use mathlib.Core.Path.{sym, ap}
 
 returns : tie.Need-returns
 unfolding brokenAt

@@ -5,7 +5,7 @@ use Rattle.constraints.specs.Ready.{namesMethod}
 use borrow.Author.Tests.{eq-eqb, ne-eqb}
 use lib.Dec.{eqb}
 use mathlib.Core.Bool.{Bool, _||_}
-use mathlib.Core.Path.{_≡_, sym, ap}
+use mathlib.Core.Path.{sym, ap}
 
 returns : tie.Need-returns
 unfolding namesMethod

@@ -4,7 +4,7 @@ use Rattle.parts.proofs.spans.span_at.Tie as tie
 use Rattle.parts.specs.Spans.{rowSpan, RowInside}
 use Rattle.tree.specs.Layout.{rowsFrom}
 use borrow.Author.Needs.{needs}
-use mathlib.Core.Path.{_≡_, refl}
+use mathlib.Core.Path.{refl}
 use native.Mathlib.Omega.{arith}
 
 mul-at : tie.Need-mul-at

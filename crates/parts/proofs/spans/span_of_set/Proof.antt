@@ -1,12 +1,12 @@
 -- `span_of_set`: the hull of all members is that of what is joined so far and of the members that remain (Joining). Assumes nothing.
-use Prim.Native.Nat.{ℕ, suc, _-_}
+use Prim.Native.Nat.{ℕ, _-_}
+use Rattle.index.specs.Spans.{spanOf}
 use Rattle.parts.proofs.Parts.{Joining, whole-task, lowest-inside, joining-starts, next-inside, joining-goes-on, joining-ends}
 use Rattle.parts.proofs.spans.span_of_set.Statement.{statement}
 use Rattle.parts.proofs.spans.span_of_set.Tie as tie
 use Rattle.parts.specs.Spans.{subtaskSpan, SubtaskInside, spansIn}
-use Rattle.index.specs.Spans.{spanOf}
 use borrow.Author.Needs.{needs}
-use mathlib.Core.Path.{_≡_, refl, sym, ap, subst, _∙_}
+use mathlib.Core.Path.{sym, ap, subst, _∙_}
 use native.Mathlib.Omega.{arith}
 
 abbrev Inv-loop : tie.InvT-loop
@@ -45,7 +45,7 @@ lowest-requires-2 c κs = search needs
 subtask-span-requires-2 : tie.Need-subtask-span-requires-2 Inv-loop μ-loop
 subtask-span-requires-2 c κs =
     let a = c .before .before .before .before .before .before .before .before .before .args in let l = c .before .before .loop in
-    (c .before .before .before .before .before .before .before .before .before .pre .0, subst (λ (j : ℕ). SubtaskInside (a .work .now) j) (sym (c .lowest2 .ensures)) (next-inside (a .work .now) (a .u) (spanOf (l .span)) (l .rest) (l .left) (l .inv) (c .before .loop-test .taken)))
+    (c .before .before .before .before .before .before .before .before .before .pre .0, subst (λ (j : ℕ). SubtaskInside (a .work .now) j) (sym (c .lowest2 .ensures)) (next-inside (l .inv) (omega (arith, c .before .loop-test .taken))))
 
 join-requires : tie.Need-join-requires Inv-loop μ-loop
 join-requires c κs = search needs
@@ -62,13 +62,13 @@ loop-less c = search needs
 loop-again : tie.Need-loop-again Inv-loop μ-loop
 loop-again c =
     let a = c .before .before .before .before .before .before .before .before .before .before .before .before .args in let l = c .before .before .before .before .before .loop in
-    joining-goes-on (a .work .now) (a .u) (spanOf (l .span)) (l .rest) (l .left) (l .inv) (c .before .before .before .before .loop-test .taken) (spanOf (c .before .before .subtask-span2 .result)) (spanOf (c .before .join .result)) (c .others2 .result) (l .left - 1)
+    joining-goes-on (l .inv) (omega (arith, c .before .before .before .before .loop-test .taken)) (c .others2 .result) (l .left - 1)
     (c .before .before .subtask-span2 .ensures ∙ ap (subtaskSpan (a .work .now)) (c .before .before .before .lowest2 .ensures)) (c .before .join .ensures) (c .others2 .ensures) (omega (arith, c .before .before .before .before .loop-test .taken))
 
 returns-2 : tie.Need-returns-2 Inv-loop μ-loop
 returns-2 c =
     let a = c .before .before .before .before .before .before .before .before .args in let l = c .before .loop in
-    joining-ends (a .work .now) (spanOf (a .own)) (a .u) (spanOf (l .span)) (l .rest) (l .left) (l .inv) (omega (arith, c .loop-test .left)) (c .before .before .before .before .before .before .before .before .pre .0) (search needs) (c .before .before .before .before .before .before .if1 .left)
+    joining-ends (spanOf (a .own)) (l .inv) (omega (arith, c .loop-test .left)) (c .before .before .before .before .before .before .before .before .pre .0) (search needs) (c .before .before .before .before .before .before .if1 .left)
 
 pub span-of-set-spec : {M : Type 1} → statement M
 span-of-set-spec =

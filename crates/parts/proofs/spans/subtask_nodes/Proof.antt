@@ -1,12 +1,10 @@
 -- `subtask_nodes`: what all the siblings' stores leave is what those from here on leave, after the stores so far (Placing). Assumes nothing.
-use Prim.Native.Nat.{ℕ, _-_}
+use Prim.Native.Nat.{_-_}
 use Rattle.parts.proofs.Parts.{Placing, placing-starts, row-inside, placing-goes-on, placing-ends}
 use Rattle.parts.proofs.spans.subtask_nodes.Statement.{statement}
 use Rattle.parts.proofs.spans.subtask_nodes.Tie as tie
 use Rattle.tree.specs.Layout.{subtasksFrom, planFrom}
 use borrow.Author.Needs.{needs}
-use lib.ListN.{length}
-use mathlib.Core.Path.{_≡_, refl, sym}
 use native.Mathlib.Omega.{arith}
 
 abbrev Inv-loop : tie.InvT-loop
@@ -38,8 +36,8 @@ slice-write-work c = omega (arith, c .before .before .before .pre .1 .1 .0, c .b
 after-at-requires : tie.Need-after-at-requires Inv-loop μ-loop
 unfolding subtasksFrom
 after-at-requires c κs =
-    let a = c .before .before .before .before .args in let l = c .before .before .loop in
-    row-inside (a .work .now) (a .n) (a .count) (l .work) (l .at) (l .i) (l .inv) (c .before .loop-test .taken) (c .before .before .before .before .pre .1 .0)
+    let l = c .before .before .loop in
+    row-inside (l .inv) (c .before .loop-test .taken) (c .before .before .before .before .pre .1 .0)
 
 add-i : tie.Need-add-i Inv-loop μ-loop
 add-i c = search needs
@@ -50,16 +48,16 @@ loop-less c = search needs
 loop-again : tie.Need-loop-again Inv-loop μ-loop
 unfolding subtasksFrom
 loop-again c =
-    let a = c .before .before .before .before .before .args in let l = c .before .before .before .loop in
-    placing-goes-on (a .work .now) (a .n) (a .count) (l .work) (l .at) (l .i) (l .inv) (c .before .before .loop-test .taken) (c .before .before .before .before .before .pre .1 .0) (c .after-at .result) (c .after-at .ensures)
+    let l = c .before .before .before .loop in
+    placing-goes-on (l .inv) (c .before .before .loop-test .taken) (c .before .before .before .before .before .pre .1 .0) (c .after-at .ensures)
 
 same-length : tie.Need-same-length Inv-loop μ-loop
 same-length c = c .before .loop .inv .size
 
 returns : tie.Need-returns Inv-loop μ-loop
 returns c =
-    let a = c .before .before .before .args in let l = c .before .loop in
-    placing-ends (a .work .now) (a .n) (a .count) (l .work) (l .at) (l .i) (l .inv) (omega (arith, c .loop-test .left))
+    let l = c .before .loop in
+    placing-ends (l .inv) (omega (arith, c .loop-test .left))
 
 pub subtask-nodes-spec : {M : Type 1} → statement M
 subtask-nodes-spec =

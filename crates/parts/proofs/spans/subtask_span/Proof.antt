@@ -6,7 +6,7 @@ use Rattle.parts.proofs.spans.subtask_span.Tie as tie
 use Rattle.parts.specs.Spans.{rowSpan, RowInside, subtaskSpan}
 use Rattle.tree.specs.Layout.{subtasksFrom, planFrom}
 use borrow.Author.Needs.{needs}
-use mathlib.Core.Path.{_≡_, refl, sym, ap, subst, _∙_}
+use mathlib.Core.Path.{sym, ap, subst, _∙_}
 use native.Mathlib.Omega.{arith}
 
 add-at : tie.Need-add-at

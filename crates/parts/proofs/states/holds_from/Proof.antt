@@ -1,5 +1,5 @@
 -- `holds_from`: the test of all states from the first is that of those from here on. Assumes nothing.
-use Prim.Native.Nat.{ℕ, suc, _+_, _-_, _*_, _≤_}
+use Prim.Native.Nat.{_+_, _-_, _≤_}
 use Rattle.parts.proofs.states.holds_from.Statement.{statement}
 use Rattle.parts.proofs.states.holds_from.Tie as tie
 use Rattle.parts.specs.States.{inRow}
@@ -8,7 +8,7 @@ use Rattle.rules.specs.Constraint.{holdsFrom}
 use Rattle.rules.specs.State.{wordCount, every}
 use borrow.Author.Needs.{needs}
 use borrow.Author.Tests.{not-true, not-false}
-use mathlib.Core.Path.{_≡_, refl, sym, ap, _∙_}
+use mathlib.Core.Path.{_≡_, refl, sym, _∙_}
 use native.Mathlib.Omega.{arith}
 
 abbrev Inv-loop : tie.InvT-loop

@@ -5,9 +5,8 @@ use Rattle.parts.proofs.tests.keeps.Tie as tie
 use Rattle.parts.specs.Tests.{Timed, Tested}
 use Rattle.index.specs.Spans.{spanOf}
 use Rattle.rules.specs.Case.{O, B, F, W}
-use Rattle.rules.specs.Index.{Span}
 use borrow.Author.Needs.{needs}
-use mathlib.Core.Path.{_≡_, refl, sym, ap, subst, _∙_}
+use mathlib.Core.Path.{sym, subst}
 
 subtask-span-requires : tie.Need-subtask-span-requires
 subtask-span-requires c κs =

@@ -4,7 +4,7 @@ use Rattle.parts.proofs.tests.keeps_after.Tie as tie
 use Rattle.parts.specs.States.{inRow}
 use Rattle.rules.specs.State.{wordCount}
 use borrow.Author.Needs.{needs}
-use mathlib.Core.Path.{_≡_, refl, sym, ap, _∙_}
+use mathlib.Core.Path.{ap, _∙_}
 use native.Mathlib.Omega.{arith}
 
 f-requires : tie.Need-f-requires

@@ -5,7 +5,7 @@ use Rattle.parts.proofs.tests.keeps_before.Tie as tie
 use Rattle.parts.specs.States.{inRow}
 use Rattle.rules.specs.State.{wordCount}
 use borrow.Author.Needs.{needs}
-use mathlib.Core.Path.{_≡_, refl, sym, ap, _∙_}
+use mathlib.Core.Path.{ap, _∙_}
 use native.Mathlib.Omega.{arith}
 
 c-requires : tie.Need-c-requires

@@ -5,7 +5,7 @@ use Rattle.parts.specs.States.{inRow}
 use Rattle.rules.specs.Constraint.{holdsFrom}
 use Rattle.rules.specs.State.{wordCount}
 use borrow.Author.Needs.{needs}
-use mathlib.Core.Path.{_≡_, refl, sym, ap₂, _∙_}
+use mathlib.Core.Path.{ap₂, _∙_}
 use native.Mathlib.Omega.{arith}
 
 f-requires : tie.Need-f-requires

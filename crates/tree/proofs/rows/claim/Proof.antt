@@ -73,7 +73,7 @@ taken-requires-2 c κs = let s = c .before .before .before .before in
     claim-line (a .text .now) (caseIn (a .text .now)) (a .g) (a .work .now) (s .pre .0) (a .node) (s .pre .1 .0)
 
 same-length : tie.Need-same-length
-same-length c = c .before .before .settle .kept .0 ∙ length-set (c .before .before .before .before .before .before .before .before .before .before .before .args .work .now) (3072 + (c .before .before .before .before .before .before .before .before .before .before .before .args .position - 1)) 1
+same-length c = c .before .before .settle .kept .0 ∙ simp length-set
 
 returns : tie.Need-returns
 unfolding marksFrom planFrom

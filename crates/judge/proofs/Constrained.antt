@@ -1,0 +1,132 @@
+-- From the claims to the constraints, and from there to the answer and the records. Assumes nothing.
+use mathlib.Core.Path.{_≡_, refl, sym, ap, subst, _∙_}
+use mathlib.Core.List.{List, [], _∷_, _++_, map}
+use mathlib.Core.Option.{Option, none, some}
+use Prim.Native.Nat.{ℕ, _+_, _-_, _*_, _≤_, _<_}
+use native.Mathlib.Omega.{arith}
+use lib.ListN.{length, take, drop, replicate}
+use Rattle.rules.specs.declared.Header.{Header}
+use Rattle.rules.specs.declared.Answer.{Answer}
+use Rattle.rules.specs.declared.Answer.the-variants.{Accepted}
+use Rattle.rules.specs.Case.{Case, readCase}
+use Rattle.rules.specs.Tree.{Tree, preorder, mayClaim, Walk, walkTree}
+use Rattle.rules.specs.Constraint.{holdsIn, firstBroken}
+use Rattle.rules.specs.Verdict.{Found, right, wrong, workNeed, statesOf, answerOf, statesAfter, judgeTree}
+use Rattle.rules.proofs.Judgement.Walk.{walk-shows}
+use Rattle.replay.specs.Running.{caseOf}
+use Rattle.tree.specs.Layout as Lay
+use Rattle.tree.specs.Layout.{size, rows, rowsIn}
+use Rattle.constraints.specs.Ready.{Ready, Leaves, brokenOfTree}
+use Rattle.constraints.specs.Ready as Con
+use Rattle.constraints.specs.Methods.{keptAs}
+use Rattle.constraints.specs.declared.method.Kept.{Kept}
+use Rattle.constraints.specs.declared.method.Kept.the-variants.{All, Broken}
+use Rattle.records.specs.Records.{recordsAfter, putRecords}
+use Rattle.records.specs.Reading.{NodesRead, headsFrom}
+use Rattle.judge.specs.declared.Opened.{Opened}
+use Rattle.judge.specs.Phases as P
+use Rattle.judge.proofs.Phases.{open-sound}
+use Rattle.judge.proofs.Verdicts.{constraints-refused, tree-right}
+use Rattle.judge.proofs.Finals.{nodes-read, heads-are, records-left}
+
+module _ (text : List ℕ) (o : Opened) (states work : List ℕ) (x : P.Claimed text o states work) where
+  w : P.Walked text o states work
+  w = x .walked
+
+  con-case : Con.caseIn text ≡ caseOf text
+  unfolding Con.caseIn Lay.caseOf w
+  con-case = ap Lay.caseOf (w .opens .reads)
+
+  con-tree : Con.treeIn text ≡ w .tree
+  unfolding Con.treeIn Lay.treeOf w
+  con-tree = (λ j. Lay.treeOf (walkTree (con-case j) (mayClaim (con-case j .plan)))) ∙ ap Lay.treeOf (w .walks)
+
+  pub constraints-ready : Ready (Con.caseIn text) (Con.treeIn text) text (o .past) (o .header) (o .«plan_line») (o .nodes .at) states work
+  unfolding w
+  constraints-ready =
+      subst (λ (k : Case). Ready k (Con.treeIn text) text (o .past) (o .header) (o .«plan_line») (o .nodes .at) states work) (sym con-case)
+      (subst (λ (t : Tree). Ready (caseOf text) t text (o .past) (o .header) (o .«plan_line») (o .nodes .at) states work) (sym con-tree)
+      (record {
+        reads = (w .opens .line, w .opens .place, w .opens .reads);
+        heads = w .opens .head;
+        plans = w .opens .planned;
+        initial = w .initial;
+        plan = o .plan .at;
+        finds = w .opens .finds;
+        feeds = w .opens .feeds;
+        room = w .opens .workRoom;
+        walks = (w .past, w .left, w .claimed, w .walks);
+        rowsHeld = w .rowed;
+        stateSize = length states;
+        stateRoom = w .run .stateRoom;
+        statesHeld = w .run .statesHeld;
+      }))
+
+  module _ (r : Kept) (said : r ≡ keptAs (brokenOfTree (Con.caseIn text) (Con.treeIn text))) where
+    broken : brokenOfTree (Con.caseIn text) (Con.treeIn text) ≡ firstBroken (caseOf text) (holdsIn (statesOf (caseOf text))) (caseOf text .planLine + 1) (preorder (w .tree))
+    unfolding brokenOfTree
+    broken = λ j. brokenOfTree (con-case j) (con-tree j)
+
+    pub kept-not : (a : Answer) → r ≡ Broken a → judgeTree (caseOf text) ≡ wrong a
+    unfolding w
+    kept-not a e = go (brokenOfTree (Con.caseIn text) (Con.treeIn text)) refl
+      where
+        go : (y : Option Answer) → brokenOfTree (Con.caseIn text) (Con.treeIn text) ≡ y → judgeTree (caseOf text) ≡ wrong a
+        go none q = let v : Broken a ≡ All = sym e ∙ said ∙ ap keptAs q in let z : _≡_ {A = ℕ} 0 1 = cc in absurd (omega arith)
+        go (some b) q =
+            let v : Broken a ≡ Broken b = sym e ∙ said ∙ ap keptAs q in
+            let same : b ≡ a = cc in
+            constraints-refused (caseOf text) (w .tree) (w .past) (w .left) (w .claimed) (w .walks) (x .claims) a
+            (sym broken ∙ q ∙ ap (λ (y : Answer). some y) same)
+
+    kept-all : r ≡ All → judgeTree (caseOf text) ≡ right (caseOf text) (w .tree)
+    unfolding w
+    kept-all e = go (brokenOfTree (Con.caseIn text) (Con.treeIn text)) refl
+      where
+        go : (y : Option Answer) → brokenOfTree (Con.caseIn text) (Con.treeIn text) ≡ y → judgeTree (caseOf text) ≡ right (caseOf text) (w .tree)
+        go none q = tree-right (caseOf text) (w .tree) (w .past) (w .left) (w .claimed) (w .walks) (x .claims) (sym broken ∙ q)
+        go (some b) q = let v : All ≡ Broken b = sym e ∙ said ∙ ap keptAs q in let z : _≡_ {A = ℕ} 0 1 = cc in absurd (omega arith)
+
+    -- ---- The records
+
+    module _ (v : List ℕ) (leaves : Leaves work v) where
+      pub records-ask : (o .header .nodes ≤ 3000) × (16384 ≤ length v)
+      unfolding workNeed w
+      records-ask =
+          let good = open-sound text o (w .initial) work (w .opens) .head-good in
+          let few : caseOf text .head .nodes ≤ 3000 = good .few-nodes in
+          let room = w .opens .workRoom in
+          let same = leaves .same-size in
+          (subst (λ (h : Header). h .nodes ≤ 3000) (sym (w .opens .head)) few, omega arith)
+
+      pub nodes-ask : NodesRead text (o .header) (o .nodes .at)
+      unfolding w
+      nodes-ask =
+          let f = w .opens .finds in
+          subst (λ (h : Header). NodesRead text h (o .nodes .at)) (sym (w .opens .head))
+          (nodes-read text (caseOf text) (o .nodes .at) (f .nodeLines) (f .nodesRead .0) (f .nodesRead .1) (f .nodesRead .2) (f .nodesAre))
+
+      pub records-done : r ≡ All → (u : List ℕ)
+          → u ≡ take (5 * o .header .nodes) (putRecords v 0 (headsFrom text (o .header) (o .nodes .at))) ++ replicate (length v - 5 * o .header .nodes) 0
+          → (Accepted (o .header .cues) (o .header .nodes) ≡ answerOf (judgeTree (caseOf text)))
+          × (states ≡ statesAfter (length states) (judgeTree (caseOf text))) × (u ≡ recordsAfter (length work) (judgeTree (caseOf text)))
+      unfolding statesAfter workNeed w
+      records-done e u written =
+          let k = caseOf text in
+          let accepts = kept-all e in
+          let good = open-sound text o (w .initial) work (w .opens) in
+          let f = w .opens .finds in
+          let room = w .opens .workRoom in
+          let same = leaves .same-size in
+          let lines = walk-shows k (mayClaim (k .plan)) (w .tree) (w .past) (w .left) (w .claimed) (w .walks) .1 .preordered in
+          let rowed : take (3 * size (w .tree)) (rowsIn v) ≡ rows (w .tree) 0 = ap (take (3 * size (w .tree))) (leaves .rows) ∙ w .rowed in
+          let heads = heads-are text k (o .nodes .at) (f .nodeLines) (f .nodesRead .0) (f .nodesRead .1) (f .nodesRead .2) (f .nodesAre) in
+          let here : u ≡ take (5 * k .head .nodes) (putRecords v 0 (headsFrom text (k .head) (o .nodes .at))) ++ replicate (length v - 5 * k .head .nodes) 0 =
+          written ∙ ap (λ (h : Header). take (5 * h .nodes) (putRecords v 0 (headsFrom text h (o .nodes .at))) ++ replicate (length v - 5 * h .nodes) 0) (w .opens .head) in (
+            ap (λ (h : Header). Accepted (h .cues) (h .nodes)) (w .opens .head) ∙ sym (ap answerOf accepts),
+            w .run .statesHeld ∙ sym (ap (λ (y : Found Tree). statesAfter (length states) y) accepts),
+            here
+                ∙ records-left text k (w .tree) v (headsFrom text (k .head) (o .nodes .at)) lines (good .nodes-length) (good .head-good .few-nodes) (omega arith) rowed heads
+                ∙ ap (λ (n : ℕ). recordsAfter n (right k (w .tree))) same
+                ∙ sym (ap (λ (y : Found Tree). recordsAfter (length work) y) accepts),
+          )

@@ -1,0 +1,128 @@
+-- `judge_lent`: the text reads as its case, and the run follows; or it is refused, and both lists are cleared. Assumes nothing.
+use Prim.Native.Nat.{ℕ, _≤_}
+use Rattle.judge.proofs.Phases.{refused-all, read-opens, read-refuses, unused-front, front-size}
+use Rattle.judge.proofs.Verdicts.{text-refused, text-reads}
+use Rattle.judge.proofs.judge_lent.Statement.{statement}
+use Rattle.judge.proofs.judge_lent.Tie as tie
+use Rattle.reading.specs.Directory.{directorySize}
+use Rattle.records.specs.Records.{recordsAfter}
+use Rattle.replay.specs.Running.{caseOf}
+use Rattle.rules.specs.Tree.{Tree}
+use Rattle.rules.specs.Verdict.{answerOf, statesAfter, textMost, workNeed, stateNeed, judgeText, judgeTree, Found}
+use borrow.Author.Needs.{needs}
+use lib.ListN.{length, take, drop, replicate, length-take}
+use mathlib.Core.List.{List, _++_}
+use mathlib.Core.Path.{_≡_, ap, sym, _∙_}
+use native.Mathlib.Omega.{arith}
+
+slice-relend-prefix-read-case : tie.Need-slice-relend-prefix-read-case
+unfolding workNeed
+slice-relend-prefix-read-case c = let room = c .before .before .before .pre .workRoom in omega arith
+
+slice-aggregate-read-case : tie.Need-slice-aggregate-read-case
+unfolding workNeed
+slice-aggregate-read-case c = let room = c .before .before .before .before .pre .workRoom in omega (arith, length-take 3072 (c .before .before .before .before .args .work .now))
+
+read-case-requires : tie.Need-read-case-requires
+unfolding workNeed textMost directorySize
+read-case-requires c κs = let p = c .before .before .before .before .pre in
+    let room = p .workRoom in
+    let short = p .short in
+    (omega arith, omega (arith, length-take 3072 (c .before .before .before .before .args .work .now)))
+
+enum-known-header : tie.Need-enum-known-header
+enum-known-header c = search needs
+
+past-last-feed-requires : tie.Need-past-last-feed-requires
+past-last-feed-requires c κs = search needs
+
+judge-run-requires : tie.Need-judge-run-requires
+unfolding workNeed
+judge-run-requires c κs = let a = c .before .before .before .before .before .before .before .before .before .before .before .before .before .args in
+    let p = c .before .before .before .before .before .before .before .before .before .before .before .before .before .pre in
+    let x = c .before .before .before .before .header .given in
+    let b = c .before .before .before .before .before .before .before .before .read-case in
+    let d = b .last .1 .0 in
+    let room = p .workRoom in
+    let kept : length d ≡ length (take 3072 (a .work .now)) = b .kept .1 .0 in
+    let whole : length d ≡ 3072 = omega (arith, length-take 3072 (a .work .now)) in
+    let size = front-size d (a .work .now) whole (omega arith) in
+    record {
+      opens = read-opens (a .text .now) d (drop 3072 (a .work .now)) (b .result) (b .ensures) (x .0 .0) (x .0 .1 .0) (c .before .before .past-last-feed .result) (x .0 .1 .1 .0) (x .0 .1 .1 .1 .0)
+          (x .0 .1 .1 .1 .1 .0) (x .1) (p .short) whole (omega arith) (c .before .before .past-last-feed .ensures .0);
+      stateRoom = p .stateRoom;
+      statesZero = p .statesZero;
+      unused = unused-front d (a .work .now) whole (omega arith) (p .workZero);
+    }
+
+enum-known-answer : tie.Need-enum-known-answer
+enum-known-answer c = search needs
+
+refuse-requires : tie.Need-refuse-requires
+refuse-requires c κs = search needs
+
+same-length : tie.Need-same-length
+same-length c = search needs
+
+same-length-2 : tie.Need-same-length-2
+same-length-2 c = search needs
+
+returns : tie.Need-returns
+unfolding workNeed
+returns c = let a = c .before .before .before .before .before .before .before .before .before .before .before .before .before .before .before .before .before .before .args in
+    let p = c .before .before .before .before .before .before .before .before .before .before .before .before .before .before .before .before .before .before .pre in
+    let x = c .before .before .before .before .before .before .before .before .before .header .given in
+    let b = c .before .before .before .before .before .before .before .before .before .before .before .before .before .read-case in
+    let z = c .before .before .before .before .judge-run in
+    let d = b .last .1 .0 in
+    let room = p .workRoom in
+    let kept : length d ≡ length (take 3072 (a .work .now)) = b .kept .1 .0 in
+    let whole : length d ≡ 3072 = omega (arith, length-take 3072 (a .work .now)) in
+    let size = front-size d (a .work .now) whole (omega arith) in
+    let o = read-opens (a .text .now) d (drop 3072 (a .work .now)) (b .result) (b .ensures) (x .0 .0) (x .0 .1 .0) (c .before .before .before .before .before .before .before .past-last-feed .result) (x .0 .1 .1 .0) (x .0 .1 .1 .1 .0)
+    (x .0 .1 .1 .1 .1 .0) (x .1) (p .short) whole (omega arith) (c .before .before .before .before .before .before .before .past-last-feed .ensures .0) in
+    let same = text-reads judgeTree (a .text .now) (caseOf (a .text .now)) (o .line) (o .place) (p .short) (o .reads) in (
+      z .ensures .0 ∙ ap answerOf (sym same),
+      (z .ensures .1 .0 ∙ ap (λ (f : Found Tree). statesAfter (length (a .states .now)) f) (sym same), z .ensures .1 .1 ∙ (λ j. recordsAfter (size j) (sym same j))),
+    )
+
+same-length-3 : tie.Need-same-length-3
+same-length-3 c = search needs
+
+same-length-4 : tie.Need-same-length-4
+same-length-4 c = search needs
+
+returns-2 : tie.Need-returns-2
+unfolding workNeed
+returns-2 c = let a = c .before .before .before .before .before .before .before .before .before .before .before .before .before .before .before .before .before .args in
+    let p = c .before .before .before .before .before .before .before .before .before .before .before .before .before .before .before .before .before .pre in
+    let x = c .before .before .before .before .before .before .before .before .answer .given in
+    let b = c .before .before .before .before .before .before .before .before .before .before .before .before .read-case in
+    let z = c .before .before .before .before .refuse in
+    let d = b .last .1 .0 in
+    let room = p .workRoom in
+    let kept : length d ≡ length (take 3072 (a .work .now)) = b .kept .1 .0 in
+    let whole : length d ≡ 3072 = omega (arith, length-take 3072 (a .work .now)) in
+    let size = front-size d (a .work .now) whole (omega arith) in
+    let q = text-refused judgeTree (a .text .now) (x .0 .0) (p .short) (read-refuses (a .text .now) d (drop 3072 (a .work .now)) (b .result) (b .ensures) (x .0 .0) (x .1)) in
+    let r = refused-all (length (a .states .now)) (length (a .work .now)) (judgeText judgeTree (a .text .now)) (x .0 .0) q in
+    (z .ensures .0 ∙ r .0, (z .ensures .1 .0 ∙ r .1, z .ensures .1 .1 ∙ ap (λ (n : ℕ). replicate n 0) size ∙ r .2))
+
+pub judge-lent-spec : {M : Type 1} → statement M
+judge-lent-spec =
+    tie.close
+    (tie.spec
+    slice-relend-prefix-read-case
+    slice-aggregate-read-case
+    read-case-requires
+    enum-known-header
+    past-last-feed-requires
+    judge-run-requires
+    enum-known-answer
+    refuse-requires
+    same-length
+    same-length-2
+    returns
+    same-length-3
+    same-length-4
+    returns-2)
