@@ -1,0 +1,58 @@
+/* The calls of libcapi.a (crate capi). The caller lends every list: the calls allocate nothing and keep nothing. */
+#ifndef CUECHECK_H
+#define CUECHECK_H
+
+#include <stddef.h>
+#include <stdint.h>
+
+#ifdef __cplusplus
+extern "C" {
+#endif
+
+/* The least lengths, in elements, not bytes. A shorter list is refused with number 1, a longer one is filled to its end. */
+#define CUECHECK_STATES 4004 /* states 0 to 1,000, four words each */
+#define CUECHECK_NODES 3000
+#define CUECHECK_WORK 16384
+
+/* The greatest length of a text. A buffer one byte longer tells a text that is too long from one that fits. */
+#define CUECHECK_TEXT 65535
+
+/* Accepted: number, line and item are 0. Refused: a row of the table in README.md, and cues and nodes are 0. */
+typedef struct cuecheck_reply {
+    uint32_t number, line, item;
+    uint32_t cues, nodes; /* k and n */
+} cuecheck_reply;
+
+/* A node of the tree. */
+typedef struct cuecheck_node {
+    uint32_t letter; /* 1: D, 2: E, 3: L */
+    uint32_t label;  /* the method of D and E, the action of L */
+    uint32_t place;  /* 0 of D, the gap of E, the position of L */
+    uint32_t start;  /* start and end are doubled, so that a gap has a whole number: 2 * gap + 1, 2 * position */
+    uint32_t end;
+} cuecheck_node;
+
+/* Judges a case. The lists may hold anything, but must not overlap. Accepted, states has states 0 to k and nodes a record for each node, in the
+   tree's order, and zero after; refused, both are zero. work is zero after each call. Lend its thread 1 MiB of stack: the deepest and widest
+   tree measured needs 564 KiB. */
+cuecheck_reply cuecheck_check(const uint8_t *text, size_t text_len,
+                              uint64_t *states, size_t states_len,
+                              cuecheck_node *nodes, size_t nodes_len,
+                              uint32_t *work, size_t work_len);
+
+/* Reads a case and runs its plan (numbers 1 to 5), without judging the tree or the constraints. The lists as for cuecheck_check. */
+cuecheck_reply cuecheck_replay(const uint8_t *text, size_t text_len,
+                               uint64_t *states, size_t states_len,
+                               uint32_t *work, size_t work_len);
+
+/* Applies one action; proposition p is bit p % 64 of word p / 64. 1: the next state is written in place of state; 0: state is as it came.
+   state must not overlap the other four. */
+uint32_t cuecheck_step(uint64_t state[4],
+                       const uint64_t needed[4], const uint64_t forbidden[4],
+                       const uint64_t added[4], const uint64_t deleted[4]);
+
+#ifdef __cplusplus
+}
+#endif
+
+#endif
