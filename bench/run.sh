@@ -6,4 +6,4 @@ cd "$(dirname "$0")/.."
 rt staticlib capi >/dev/null
 touch bench/src/main.rs
 RUSTFLAGS="-L native=$PWD/target/staticlib" cargo run --quiet --release --offline --manifest-path bench/Cargo.toml \
-    --features link-replay,link-check -- "${1:-201}"
+    --features linked -- "${1:-201}"

@@ -8,5 +8,5 @@ rt staticlib capi >/dev/null
 for call in check replay; do
     touch harness/src/bin/compare_$call.rs
     RUSTFLAGS="-L native=$PWD/target/staticlib" cargo run --quiet --release --offline --manifest-path harness/Cargo.toml \
-        --features link-$call --bin compare_$call -- "${1:-20000}" "${2:-1}"
+        --features linked --bin compare_$call -- "${1:-20000}" "${2:-1}"
 done

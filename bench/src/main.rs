@@ -1,16 +1,16 @@
-//! Median times of the plain calls and, with the features link-check and link-replay (see
+//! Median times of the plain calls and, with the feature linked (see
 //! compare_check.rs for the command), of the linked ones in the same run, with the ratio.
 //!
 //! bench [ROUNDS [CASE]]
 
 use harness::gen::{extremes, Weave};
 use harness::lists::{Lengths, Lists};
-use harness::plain::{self, Answer};
+use harness::plain::{self, Reply};
 use std::hint::black_box;
 use std::time::{Duration, Instant};
 
 /// A call on a text with lists of the length asked for.
-type Call = fn(&[u8], &mut Lists) -> Answer;
+type Call = fn(&[u8], &mut Lists) -> Reply;
 
 const PLAIN: [Call; 2] = [
     |text, lists| {
@@ -23,21 +23,19 @@ const PLAIN: [Call; 2] = [
     },
 ];
 
-#[cfg(feature = "link-check")]
-const LINKED_CHECK: Option<Call> = Some(|text, lists| {
-    let (states, nodes, work) = lists.lend(Lengths::EXACT);
-    harness::linked::check(text, states, nodes, work)
-});
-#[cfg(not(feature = "link-check"))]
-const LINKED_CHECK: Option<Call> = None;
-
-#[cfg(feature = "link-replay")]
-const LINKED_REPLAY: Option<Call> = Some(|text, lists| {
-    let (states, _, work) = lists.lend(Lengths::EXACT);
-    harness::linked::replay(text, states, work)
-});
-#[cfg(not(feature = "link-replay"))]
-const LINKED_REPLAY: Option<Call> = None;
+#[cfg(feature = "linked")]
+const LINKED: [Option<Call>; 2] = [
+    Some(|text, lists| {
+        let (states, nodes, work) = lists.lend(Lengths::EXACT);
+        cuecheck::check(text, states, nodes, work)
+    }),
+    Some(|text, lists| {
+        let (states, _, work) = lists.lend(Lengths::EXACT);
+        cuecheck::replay(text, states, work)
+    }),
+];
+#[cfg(not(feature = "linked"))]
+const LINKED: [Option<Call>; 2] = [None, None];
 
 fn main() {
     let rounds = std::env::args().nth(1).map_or(201, |n| n.parse().expect("a number of rounds"));
@@ -46,8 +44,8 @@ fn main() {
     println!("{:<22}{:>7} {:>8} | {:<39} | replay", "case", "bytes", "answer", "check");
     for (name, text) in cases().into_iter().filter(|(name, _)| name.starts_with(&wanted)) {
         let answer = PLAIN[0](&text, &mut Lists::default());
-        let checks = times(&text, PLAIN[0], LINKED_CHECK, rounds);
-        let replays = times(&text, PLAIN[1], LINKED_REPLAY, rounds);
+        let checks = times(&text, PLAIN[0], LINKED[0], rounds);
+        let replays = times(&text, PLAIN[1], LINKED[1], rounds);
         println!("{name:<22}{:>7} {:>8} | {checks:<39} | {replays}", text.len(), answer.number);
     }
 }

@@ -17,7 +17,7 @@ compare() {
     # Cargo doesn't watch the archive; touching the programs makes it link them anew.
     touch src/bin/compare_replay.rs src/bin/compare_check.rs
     RUSTFLAGS="-L native=$PWD/target/staticlib" cargo build --quiet --release --offline -p harness \
-        --target-dir target/linked --features link-replay,link-check
+        --target-dir target/linked --features linked
     for call in replay check; do
         printf '%s: ' "$call"
         target/linked/release/compare_$call "$count" "$seed" | cut -c1-200 || true

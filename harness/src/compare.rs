@@ -2,10 +2,10 @@
 
 use crate::gen::Inputs;
 use crate::lists::{Dirt, Lengths, Lists};
-use crate::plain::Answer;
+use crate::plain::Reply;
 
 /// One side: a call on a text and the lists lent in these lengths.
-pub type Call = fn(&[u8], &mut Lists, Lengths) -> Answer;
+pub type Call = fn(&[u8], &mut Lists, Lengths) -> Reply;
 
 /// Runs the comparison that the arguments ask for: count, seed, and perhaps `trace`, which
 /// prints the number of each input first, to find one that brings the program down. Ends the

@@ -4,6 +4,3 @@ pub mod compare;
 pub mod gen;
 pub mod lists;
 pub mod plain;
-
-#[cfg(any(feature = "link-replay", feature = "link-check"))]
-pub mod linked;

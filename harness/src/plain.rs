@@ -5,6 +5,7 @@
 //! (`first_broken`). Replay stops after `run`. Nothing here is proved; the module is the
 //! yardstick of tests and benchmarks, so it is written for clarity first and speed second.
 
+pub use cuecheck::{Node, Refusal, Reply, Set};
 use std::ops::{Range, RangeBounds};
 
 pub const STATES_ASKED: usize = 4_004;
@@ -12,40 +13,6 @@ pub const NODES_ASKED: usize = 3_000;
 pub const WORK_ASKED: usize = 16_384;
 pub const TEXT_LIMIT: usize = 65_535;
 const LEVELS: u32 = 64;
-
-/// A set of up to 256 propositions: p is bit (p mod 64) of word (p div 64).
-pub type Set = [u64; 4];
-
-/// A node record as the check call gives it back; start and end are doubled indexes.
-#[repr(C)]
-#[derive(PartialEq, Eq, Debug, Clone, Copy, Default)]
-pub struct Node {
-    pub letter: u32,
-    pub label: u32,
-    pub place: u32,
-    pub start: u32,
-    pub end: u32,
-}
-
-/// The answer of a call. Number 0 is accepted (cues = k, nodes = n); any other number is a
-/// refusal with its line and item, and then cues and nodes are 0.
-#[repr(C)]
-#[derive(PartialEq, Eq, Debug, Clone, Copy)]
-pub struct Answer {
-    pub number: u32,
-    pub line: u32,
-    pub item: u32,
-    pub cues: u32,
-    pub nodes: u32,
-}
-
-/// Why a call refuses: a row of 01's table with its line and item.
-#[derive(Debug, Clone, Copy)]
-struct Refusal {
-    number: u32,
-    line: u32,
-    item: u32,
-}
 
 type Checked<T> = Result<T, Refusal>;
 
@@ -64,7 +31,7 @@ pub fn step(state: Set, needed: Set, forbidden: Set, added: Set, deleted: Set) -
 }
 
 /// The check call: reads, runs, walks, and tries every constraint.
-pub fn check(text: &[u8], states: &mut [u64], nodes: &mut [Node], work: &mut [u32]) -> Answer {
+pub fn check(text: &[u8], states: &mut [u64], nodes: &mut [Node], work: &mut [u32]) -> Reply {
     let asked = [(states.len() < STATES_ASKED, 1), (nodes.len() < NODES_ASKED, 2), (work.len() < WORK_ASKED, 3)];
     work.fill(0);
     match check_with(text, &asked, states, nodes) {
@@ -76,13 +43,13 @@ pub fn check(text: &[u8], states: &mut [u64], nodes: &mut [Node], work: &mut [u3
         Err(refusal) => {
             states.fill(0);
             nodes.fill(Node::default());
-            refusal.answer()
+            refused(refusal)
         }
     }
 }
 
 /// The replay call: reads and runs only.
-pub fn replay(text: &[u8], states: &mut [u64], work: &mut [u32]) -> Answer {
+pub fn replay(text: &[u8], states: &mut [u64], work: &mut [u32]) -> Reply {
     let asked = [(states.len() < STATES_ASKED, 1), (work.len() < WORK_ASKED, 3)];
     work.fill(0);
     match replay_with(text, &asked, states) {
@@ -92,7 +59,7 @@ pub fn replay(text: &[u8], states: &mut [u64], work: &mut [u32]) -> Answer {
         }
         Err(refusal) => {
             states.fill(0);
-            refusal.answer()
+            refused(refusal)
         }
     }
 }
@@ -118,10 +85,8 @@ fn check_with(text: &[u8], asked: &[(bool, u32)], states: &mut [u64], nodes: &mu
     Ok(case)
 }
 
-impl Refusal {
-    fn answer(self) -> Answer {
-        Answer { number: self.number, line: self.line, item: self.item, cues: 0, nodes: 0 }
-    }
+fn refused(Refusal { number, line, item }: Refusal) -> Reply {
+    Reply { number, line, item, cues: 0, nodes: 0 }
 }
 
 // ---------------------------------------------------------------- the case
@@ -171,8 +136,8 @@ struct Case {
 }
 
 impl Case {
-    fn accepted(&self) -> Answer {
-        Answer { number: 0, line: 0, item: 0, cues: self.plan.len() as u32, nodes: self.claims.len() as u32 }
+    fn accepted(&self) -> Reply {
+        Reply { number: 0, line: 0, item: 0, cues: self.plan.len() as u32, nodes: self.claims.len() as u32 }
     }
 
     /// The line of a node; of the one past the last node too. The tree follows the P line.

@@ -1,15 +1,15 @@
 //! The panel cases of document 01 and the settled readings, each as a text and its answer.
 
 use harness::lists::{Dirt, Lengths, Lists};
-use harness::plain::{check, replay, step, Answer};
+use harness::plain::{check, replay, step, Reply};
 
 const CASE_A: &str = "N,3,3,2,3,3,2,4\nI,1,0\nA,0,1,0,1,0,0\nA,0,0,1,1,0\nA,1,1,0,1,2,1,1\nM,3,3,4,1,2,3\nO,0,2\n\
     O,1,2\nW,1,0,4\nM,4,1,0,0\nM,4,0,1\nB,0,0\nP,1,2\nD,0\nE,2,0\nL,1,1\nL,2,2\n";
 
-fn printed(answer: Answer) -> String {
+fn printed(answer: Reply) -> String {
     match answer {
-        Answer { number: 0, line: 0, item: 0, cues, nodes } => format!("Y,{cues},{nodes}"),
-        Answer { number, line, item, cues: 0, nodes: 0 } => format!("R,{number},{line},{item}"),
+        Reply { number: 0, line: 0, item: 0, cues, nodes } => format!("Y,{cues},{nodes}"),
+        Reply { number, line, item, cues: 0, nodes: 0 } => format!("R,{number},{line},{item}"),
         odd => format!("{odd:?}"),
     }
 }

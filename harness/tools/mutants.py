@@ -112,8 +112,8 @@ MUTANTS = [
     ("constraint counted by letter", "item as u32);\n        }\n    }\n    Ok(())", "constraints[..item].iter().filter(|c| c.number() == constraints[item].number()).count() as u32);\n        }\n    }\n    Ok(())"),
     ("replay: item 2 for work", "let asked = [(states.len() < STATES_ASKED, 1), (work.len() < WORK_ASKED, 3)];", "let asked = [(states.len() < STATES_ASKED, 1), (work.len() < WORK_ASKED, 2)];", "replay"),
     ("replay: nodes not read", "    for _ in 0..header.nodes {\n        case.claims.push(read_claim(&mut reader, &header)?);\n    }\n    if", "    case.claims.resize(header.nodes as usize, Claim::Decomposed { method: 0 }); reader.rest = &[];\n    if", "replay"),
-    ("replay: dirt behind the states", "states[4 * (case.plan.len() + 1)..].fill(0);\n            case.accepted()\n        }\n        Err(refusal) => {\n            states.fill(0);\n            refusal", "states[4 * (case.plan.len() + 1)..STATES_ASKED].fill(0);\n            case.accepted()\n        }\n        Err(refusal) => {\n            states.fill(0);\n            refusal", "replay"),
-    ("replay: states left after refusal", "Err(refusal) => {\n            states.fill(0);\n            refusal.answer()", "Err(refusal) => {\n            refusal.answer()", "replay"),
+    ("replay: dirt behind the states", "states[4 * (case.plan.len() + 1)..].fill(0);\n            case.accepted()\n        }\n        Err(refusal) => {\n            states.fill(0);\n            refused(refusal)", "states[4 * (case.plan.len() + 1)..STATES_ASKED].fill(0);\n            case.accepted()\n        }\n        Err(refusal) => {\n            states.fill(0);\n            refused(refusal)", "replay"),
+    ("replay: states left after refusal", "Err(refusal) => {\n            states.fill(0);\n            refused(refusal)", "Err(refusal) => {\n            refused(refusal)", "replay"),
     ("replay: walks too", "    match replay_with(text, &asked, states) {", "    match check_with(text, &asked, states, &mut vec![Node::default(); NODES_ASKED]) {", "replay"),
     ("walk before run", "    let case = replay_with(text, asked, states)?;\n", "    let case = match replay_with(text, asked, states) { Err(r) if r.number == 5 => { let case = read(text)?; walk(&case, nodes)?; return Err(r); } other => other? };\n"),
 ]
@@ -125,14 +125,17 @@ def build(source, folder):
     (folder / "mock/src").mkdir(parents=True, exist_ok=True)
     (folder / "src/plain.rs").write_text(source)
     shutil.copy("mock/src/lib.rs", folder / "mock/src/lib.rs")
-    command = ["rustc", "-O", "--edition", "2021", "--crate-type", "staticlib", "--crate-name", "capi", "--cap-lints", "allow"]
+    command = ["rustc", "-O", "--edition", "2021", "--cap-lints", "allow"]
+    types = folder / "libcuecheck.rlib"
+    subprocess.run(command + ["--crate-type", "rlib", "--crate-name", "cuecheck", "../bindings/rust/src/lib.rs", "-o", types], check=True)
+    command += ["--crate-type", "staticlib", "--crate-name", "capi", "--extern", f"cuecheck={types}"]
     subprocess.run(command + [folder / "mock/src/lib.rs", "-o", folder / "libcapi.a"], check=True)
 
 
 def link(folder, call):
     Path(f"src/bin/compare_{call}.rs").touch()
     command = ["cargo", "build", "--quiet", "--release", "--offline", "-p", "harness", "--bin", f"compare_{call}"]
-    command += ["--features", "link-check,link-replay", "--target-dir", "target/mutants"]
+    command += ["--features", "linked", "--target-dir", "target/mutants"]
     subprocess.run(command, check=True, env=dict(os.environ, RUSTFLAGS=f"-L native={folder.absolute()}"))
 
 

@@ -11,6 +11,7 @@ ghost use Rattle.lines.specs.Reading.{inKind, readItemIn, asTaken, asIte
 use crate::range;
 use crate::range::Context;
 use state::State;
+use state::WORDS;
 use text::Cursor;
 use text::Field;
 
@@ -105,13 +106,13 @@ fn members(
     ensures { λ r. ⌜ r ≡ collected 0 empty (readMembers (now (text .entry)) (inKind x before kind) (eqb kind 11) count 0 field (c .at)) ⌝ }
 {
     let mut at = c;
-    let mut set = State::new();
+    let mut words = [0u64; WORDS];
     let mut low: u64 = 0;
     let mut i: u32 = 0;
     while i < count {
         match take_number(text, at, x, before, kind, low) {
             Taken::Number { value, next } => {
-                set = set.with(value);
+                state::insert(&mut words, value);
                 low = least_after(kind, value);
                 at = next;
                 i += 1;
@@ -134,7 +135,7 @@ fn members(
             field: field + i as usize,
             next: at,
         },
-        members: set,
+        members: State { words },
     }
 }
 

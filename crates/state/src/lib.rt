@@ -40,17 +40,15 @@ impl State {
             false
         }
     }
+}
 
-    // The set with proposition p: unchanged for a p past the last word.
-    pub fn with(self, p: u32) -> State
-        ensures { λ r. ⌜ r .words ≡ insert (self .words) p ⌝ }
-    {
-        let i = (p / 64) as usize;
-        let mut s = self;
-        if i < WORDS {
-            s.words[i] = s.words[i] | (1u64 << (p % 64));
-        }
-        s
+// Puts proposition p into a set's words, in their place: reading a set copies no words for a member. A p past the last word changes nothing.
+pub fn insert(words: &mut [u64], p: u32)
+    ensures { λ _. ⌜ now (words .exit) ≡ insert (now (words .entry)) p ⌝ }
+{
+    let i = (p / 64) as usize;
+    if i < words.len() {
+        words[i] = words[i] | (1u64 << (p % 64));
     }
 }
 

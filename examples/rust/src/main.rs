@@ -9,10 +9,6 @@ use std::io::{self, Read, Write};
 
 use cuecheck::{Node, NODES, STATES, TEXT, WORK};
 
-// This example needs only the check call.
-#[allow(dead_code)]
-mod cuecheck;
-
 fn main() -> io::Result<()> {
     let arguments: Vec<_> = std::env::args_os().skip(1).collect();
     let input: Box<dyn Read> = match arguments.first() {
@@ -27,7 +23,7 @@ fn main() -> io::Result<()> {
     let mut nodes = vec![Node::default(); NODES];
     let mut work = vec![0; WORK];
     let mut out = io::stdout().lock();
-    match cuecheck::check(&text, &mut states, &mut nodes, &mut work) {
+    match cuecheck::check(&text, &mut states, &mut nodes, &mut work).result() {
         Ok(accepted) => {
             writeln!(out, "Y,{},{}", accepted.cues, accepted.nodes)?;
             if arguments.get(1).is_some_and(|word| word == "nodes") {

@@ -4,7 +4,7 @@
 #[path = "../../src/plain.rs"]
 mod plain;
 
-use plain::{Answer, Node};
+use plain::{Reply, Node};
 use std::slice::{from_raw_parts, from_raw_parts_mut};
 
 /// # Safety
@@ -17,7 +17,7 @@ pub unsafe extern "C" fn cuecheck_replay(
     states_len: usize,
     work: *mut u32,
     work_len: usize,
-) -> Answer {
+) -> Reply {
     let (text, states, work) =
         (from_raw_parts(text, text_len), from_raw_parts_mut(states, states_len), from_raw_parts_mut(work, work_len));
     spoiled(plain::replay(text, states, work), states, work)
@@ -35,14 +35,14 @@ pub unsafe extern "C" fn cuecheck_check(
     nodes_len: usize,
     work: *mut u32,
     work_len: usize,
-) -> Answer {
+) -> Reply {
     let (text, states, work) =
         (from_raw_parts(text, text_len), from_raw_parts_mut(states, states_len), from_raw_parts_mut(work, work_len));
     spoiled(plain::check(text, states, from_raw_parts_mut(nodes, nodes_len), work), states, work)
 }
 
 /// The answer and the lists as they came, or with the bug that the features ask for.
-unsafe fn spoiled(mut answer: Answer, states: &mut [u64], work: &mut [u32]) -> Answer {
+unsafe fn spoiled(mut answer: Reply, states: &mut [u64], work: &mut [u32]) -> Reply {
     if cfg!(feature = "bug-answer") && answer.number == 3 && answer.item == 8 {
         answer.item = 7;
     }

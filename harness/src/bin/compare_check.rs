@@ -1,8 +1,8 @@
-//! RUSTFLAGS="-L native=target/staticlib" cargo run --release --offline --features link-check --bin compare_check -- COUNT SEED
+//! RUSTFLAGS="-L native=target/staticlib" cargo run --release --offline --features linked --bin compare_check -- COUNT SEED
 //!
 //! Compares the linked check call with the plain one.
 
-use harness::{compare, linked, plain};
+use harness::{compare, plain};
 
 fn main() {
     compare::run(
@@ -12,7 +12,7 @@ fn main() {
         },
         |text, lists, lengths| {
             let (states, nodes, work) = lists.lend(lengths);
-            linked::check(text, states, nodes, work)
+            cuecheck::check(text, states, nodes, work)
         },
     );
 }

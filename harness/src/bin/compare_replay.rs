@@ -1,8 +1,8 @@
-//! RUSTFLAGS="-L native=target/staticlib" cargo run --release --offline --features link-replay --bin compare_replay -- COUNT SEED
+//! RUSTFLAGS="-L native=target/staticlib" cargo run --release --offline --features linked --bin compare_replay -- COUNT SEED
 //!
 //! Compares the linked replay call with the plain one.
 
-use harness::{compare, linked, plain};
+use harness::{compare, plain};
 
 fn main() {
     compare::run(
@@ -12,7 +12,7 @@ fn main() {
         },
         |text, lists, lengths| {
             let (states, _, work) = lists.lend(lengths);
-            linked::replay(text, states, work)
+            cuecheck::replay(text, states, work)
         },
     );
 }

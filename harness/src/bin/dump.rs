@@ -8,7 +8,7 @@
 
 use harness::gen::Inputs;
 use harness::lists::{Dirt, Lengths, Lists};
-use harness::plain::{check, replay, Answer, Node};
+use harness::plain::{check, replay, Reply, Node};
 use std::io::{BufWriter, Result, Write};
 
 fn main() -> Result<()> {
@@ -48,7 +48,7 @@ fn numbers(node: Node) -> [u32; 5] {
     [node.letter, node.label, node.place, node.start, node.end]
 }
 
-fn write_answer(out: &mut impl Write, answer: Answer) -> Result<()> {
+fn write_answer(out: &mut impl Write, answer: Reply) -> Result<()> {
     for number in [answer.number, answer.line, answer.item, answer.cues, answer.nodes] {
         out.write_all(&number.to_le_bytes())?;
     }

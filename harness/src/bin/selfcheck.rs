@@ -4,7 +4,7 @@
 
 use harness::gen::{extremes, Inputs};
 use harness::lists::{Dirt, Lengths, Lists};
-use harness::plain::{check, replay, Answer};
+use harness::plain::{check, replay, Reply};
 use std::collections::BTreeMap;
 use std::path::{Path, PathBuf};
 
@@ -19,14 +19,14 @@ fn main() {
 }
 
 /// As `cuecheck` prints an answer, without the line feed.
-fn printed(answer: Answer) -> String {
+fn printed(answer: Reply) -> String {
     match answer.number {
         0 => format!("Y,{},{}", answer.cues, answer.nodes),
         number => format!("R,{number},{},{}", answer.line, answer.item),
     }
 }
 
-fn checked(text: &[u8]) -> Answer {
+fn checked(text: &[u8]) -> Reply {
     let mut lists = Lists::default();
     let (states, nodes, work) = lists.lend(Lengths::EXACT);
     check(text, states, nodes, work)
@@ -89,7 +89,7 @@ fn show_generated(count: u64, seed: u64) {
     }
 }
 
-fn row(text: &[u8], answer: Answer) -> Row {
+fn row(text: &[u8], answer: Reply) -> Row {
     let line = answer.line.checked_sub(1).and_then(|before| text.split(|&b| b == b'\n').nth(before as usize));
     let letter = match (answer.number, line.and_then(<[u8]>::first)) {
         // `.` where there is no line, or an empty one; `?` for a byte that is no letter.

@@ -1,0 +1,66 @@
+//! The calls of libcapi.a behind safe functions, and what passes to and fro. `include/cuecheck.h` has the same declarations for C.
+
+/// The least lengths of the lent lists. A shorter list is refused with number 1, a longer one is filled to its end.
+pub const STATES: usize = 4_004;
+pub const NODES: usize = 3_000;
+pub const WORK: usize = 16_384;
+
+/// The greatest length of a text.
+pub const TEXT: usize = 65_535;
+
+/// A set of propositions: p is bit p % 64 of word p / 64.
+pub type Set = [u64; 4];
+
+/// A node of the tree. Start and end are doubled, so that a gap has a whole number: 2 * gap + 1, 2 * position.
+#[repr(C)]
+#[derive(Clone, Copy, Debug, Default, PartialEq, Eq)]
+pub struct Node {
+    /// 1: D, 2: E, 3: L.
+    pub letter: u32,
+    /// The method of D and E, the action of L.
+    pub label: u32,
+    /// 0 of D, the gap of E, the position of L.
+    pub place: u32,
+    pub start: u32,
+    pub end: u32,
+}
+
+/// What a call answers: number 0 with k and n, or a row of the table in README.md with both 0.
+#[repr(C)]
+#[derive(Clone, Copy, Debug, PartialEq, Eq)]
+pub struct Reply {
+    pub number: u32,
+    pub line: u32,
+    pub item: u32,
+    pub cues: u32,
+    pub nodes: u32,
+}
+
+/// k and n.
+#[derive(Clone, Copy, Debug, PartialEq, Eq)]
+pub struct Accepted {
+    pub cues: u32,
+    pub nodes: u32,
+}
+
+/// A row of the table in README.md.
+#[derive(Clone, Copy, Debug, PartialEq, Eq)]
+pub struct Refusal {
+    pub number: u32,
+    pub line: u32,
+    pub item: u32,
+}
+
+impl Reply {
+    pub fn result(self) -> Result<Accepted, Refusal> {
+        match self.number {
+            0 => Ok(Accepted { cues: self.cues, nodes: self.nodes }),
+            number => Err(Refusal { number, line: self.line, item: self.item }),
+        }
+    }
+}
+
+#[cfg(feature = "linked")]
+mod linked;
+#[cfg(feature = "linked")]
+pub use linked::{check, replay, step};

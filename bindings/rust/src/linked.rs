@@ -1,0 +1,65 @@
+//! The calls. This is the only file with unsafe code: each passes a slice's own pointer and length, which is what the declarations ask for.
+
+use crate::{Node, Reply, Set};
+
+// Not bundled into this crate: a new archive only needs the programs to be linked again.
+#[link(name = "capi", kind = "static", modifiers = "-bundle")]
+extern "C" {
+    fn cuecheck_check(
+        text: *const u8,
+        text_len: usize,
+        states: *mut u64,
+        states_len: usize,
+        nodes: *mut Node,
+        nodes_len: usize,
+        work: *mut u32,
+        work_len: usize,
+    ) -> Reply;
+    fn cuecheck_replay(
+        text: *const u8,
+        text_len: usize,
+        states: *mut u64,
+        states_len: usize,
+        work: *mut u32,
+        work_len: usize,
+    ) -> Reply;
+    fn cuecheck_step(
+        state: *mut Set,
+        needed: *const Set,
+        forbidden: *const Set,
+        added: *const Set,
+        deleted: *const Set,
+    ) -> u32;
+}
+
+/// Judges a case. Accepted, `states` has states 0 to k and `nodes` a record for each node, in the tree's order, and zero after; refused, both
+/// are zero. `work` is zero after each call.
+pub fn check(text: &[u8], states: &mut [u64], nodes: &mut [Node], work: &mut [u32]) -> Reply {
+    // SAFETY: each slice is valid for its length, and the borrows keep them from overlapping.
+    unsafe {
+        cuecheck_check(
+            text.as_ptr(),
+            text.len(),
+            states.as_mut_ptr(),
+            states.len(),
+            nodes.as_mut_ptr(),
+            nodes.len(),
+            work.as_mut_ptr(),
+            work.len(),
+        )
+    }
+}
+
+/// Reads a case and runs its plan (numbers 1 to 5), without judging the tree or the constraints. The lists as for `check`.
+pub fn replay(text: &[u8], states: &mut [u64], work: &mut [u32]) -> Reply {
+    // SAFETY: as in `check`.
+    unsafe {
+        cuecheck_replay(text.as_ptr(), text.len(), states.as_mut_ptr(), states.len(), work.as_mut_ptr(), work.len())
+    }
+}
+
+/// Applies one action. True: `state` is the next state; false: it is as it came.
+pub fn step(state: &mut Set, needed: &Set, forbidden: &Set, added: &Set, deleted: &Set) -> bool {
+    // SAFETY: each pointer is of a live set, and the borrows keep `state` from overlapping the others.
+    unsafe { cuecheck_step(state, needed, forbidden, added, deleted) == 1 }
+}
