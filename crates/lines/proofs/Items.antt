@@ -6,7 +6,6 @@ use Prim.Native.Nat.{ℕ, zero, suc, _+_, _-_}
 use native.Mathlib.Omega.{arith}
 use lib.Dec.{leb, leb·zero}
 use lib.ListN.{length}
-use Rattle.rules.specs.State.{empty, insert, insertAll}
 use Rattle.rules.specs.Text.{number, notPlain, missing, numberAt}
 use Rattle.rules.specs.Text.{Number as FieldNumber}
 use Rattle.rules.specs.Table as T
@@ -18,8 +17,8 @@ use Rattle.text.specs.Cursor.{cursor, asField}
 use Rattle.lines.specs.declared.item.Taken.{Taken}
 use Rattle.lines.specs.declared.item.Taken.the-variants.{Number, Bad as NoNumber, Out}
 use Rattle.lines.specs.declared.item.Outcome.the-variants.{Done, Bad, Range}
-use Rattle.lines.specs.declared.item.ItemRead.{ItemRead}
-use Rattle.lines.specs.Reading.{asTaken, collected, refusedItem, stateOf}
+use Rattle.lines.specs.declared.item.Outcome.{Outcome}
+use Rattle.lines.specs.Reading.{asTaken, collected}
 
 -- What a field that was read makes of a range.
 abbrev pub takenBy : (ℕ → Bool) → Field → Taken
@@ -53,75 +52,75 @@ take-zero ok notPlain = refl
 take-zero ok missing = refl
 
 -- How reading goes on from what was taken, or which refusal ends it.
-abbrev pub onTaken : Taken → ℕ → (ℕ → Cursor → ItemRead) → ItemRead
+abbrev pub onTaken : Taken → ℕ → (ℕ → Cursor → Outcome) → Outcome
 onTaken (Number v d) field on = on v d
-onTaken NoNumber field on = refusedItem (Bad field)
-onTaken Out field on = refusedItem (Range field)
+onTaken NoNumber field on = Bad field
+onTaken Out field on = Range field
 
-follows : (n : ℕ) (s : List ℕ) (y : T.Taken) (field : ℕ) (rest : ℕ → ℕ → T.ItemRead)
-    → collected n s (followTaken y field rest) ≡ onTaken (asTaken y) field (λ v d. collected n s (rest v (d .at)))
-follows n s (T.taken v next) field rest = refl
-follows n s T.bad field rest = refl
-follows n s T.out field rest = refl
+follows : (n : ℕ) (y : T.Taken) (field : ℕ) (rest : ℕ → ℕ → T.ItemRead)
+    → collected n (followTaken y field rest) ≡ onTaken (asTaken y) field (λ v d. collected n (rest v (d .at)))
+follows n (T.taken v next) field rest = refl
+follows n T.bad field rest = refl
+follows n T.out field rest = refl
 
-pub follow-taken : (n : ℕ) (s : List ℕ) (t : Taken) (y : T.Taken) (field : ℕ) (rest : ℕ → ℕ → T.ItemRead) → t ≡ asTaken y
-    → collected n s (followTaken y field rest) ≡ onTaken t field (λ v d. collected n s (rest v (d .at)))
-follow-taken n s t y field rest e =
-    follows n s y field rest ∙ ap (λ (x : Taken). onTaken x field (λ v d. collected n s (rest v (d .at)))) (sym e)
+pub follow-taken : (n : ℕ) (t : Taken) (y : T.Taken) (field : ℕ) (rest : ℕ → ℕ → T.ItemRead) → t ≡ asTaken y
+    → collected n (followTaken y field rest) ≡ onTaken t field (λ v d. collected n (rest v (d .at)))
+follow-taken n t y field rest e =
+    follows n y field rest ∙ ap (λ (x : Taken). onTaken x field (λ v d. collected n (rest v (d .at)))) (sym e)
 
 -- The same where the code asked for at least 0.
 pub follow-any : (ok : ℕ → Bool) (x : FieldNumber) (t : Taken) (field : ℕ) (rest : ℕ → ℕ → T.ItemRead)
     → t ≡ asTaken (take (λ v. leb 0 v && ok v) x)
-    → collected 0 empty (followTaken (take ok x) field rest) ≡ onTaken t field (λ v d. collected 0 empty (rest v (d .at)))
-follow-any ok x t field rest e = follow-taken 0 empty t (take ok x) field rest (e ∙ ap asTaken (take-zero ok x))
+    → collected 0 (followTaken (take ok x) field rest) ≡ onTaken t field (λ v d. collected 0 (rest v (d .at)))
+follow-any ok x t field rest e = follow-taken 0 t (take ok x) field rest (e ∙ ap asTaken (take-zero ok x))
 
-collected-member : (n : ℕ) (s : List ℕ) (v : ℕ) (r : T.ItemRead) → collected n s (withMember v r) ≡ collected (n + 1) (insert s v) r
-collected-member n s v (item (scalar w) field next) = refl
-collected-member n s v (item (members vs) field next) =
+collected-member : (n : ℕ) (v : ℕ) (r : T.ItemRead) → collected n (withMember v r) ≡ collected (n + 1) r
+collected-member n v (item (scalar w) field next) = refl
+collected-member n v (item (members vs) field next) =
     let e : n + suc (length vs) ≡ n + 1 + length vs = omega arith in
-    ap (λ (k : ℕ). record { outcome = Done k field (cursor next); members = stateOf (insertAll (insert s v) vs) }) e
-collected-member n s v (T.ItemRead.unreadable field) = refl
-collected-member n s v (T.ItemRead.outside field) = refl
+    ap (λ (k : ℕ). Done k field (cursor next)) e
+collected-member n v (T.ItemRead.unreadable field) = refl
+collected-member n v (T.ItemRead.outside field) = refl
 
 -- One member of a list.
 module _ (text : List ℕ) (ok : ℕ → Bool) (ascending : Bool) where
-  onMember : (n : ℕ) (s : List ℕ) (left field : ℕ) (t : Taken)
-      → onTaken t field (λ v d. collected n s (withMember v (readMembers text ok ascending left (leastAfter ascending v) (field + 1) (d .at))))
-      ≡ onTaken t field (λ v d. collected (n + 1) (insert s v) (readMembers text ok ascending left (leastAfter ascending v) (field + 1) (d .at)))
-  onMember n s left field (Number v d) = collected-member n s v (readMembers text ok ascending left (leastAfter ascending v) (field + 1) (d .at))
-  onMember n s left field NoNumber = refl
-  onMember n s left field Out = refl
+  onMember : (n : ℕ) (left field : ℕ) (t : Taken)
+      → onTaken t field (λ v d. collected n (withMember v (readMembers text ok ascending left (leastAfter ascending v) (field + 1) (d .at))))
+      ≡ onTaken t field (λ v d. collected (n + 1) (readMembers text ok ascending left (leastAfter ascending v) (field + 1) (d .at)))
+  onMember n left field (Number v d) = collected-member n v (readMembers text ok ascending left (leastAfter ascending v) (field + 1) (d .at))
+  onMember n left field NoNumber = refl
+  onMember n left field Out = refl
 
-  pub members-next : (n : ℕ) (s : List ℕ) (count left low field place : ℕ) (t : Taken) → count ≡ suc left
+  pub members-next : (n : ℕ) (count left low field place : ℕ) (t : Taken) → count ≡ suc left
       → t ≡ asTaken (take (λ v. leb low v && ok v) (numberAt text place))
-      → collected n s (readMembers text ok ascending count low field place)
-      ≡ onTaken t field (λ v d. collected (n + 1) (insert s v) (readMembers text ok ascending left (leastAfter ascending v) (field + 1) (d .at)))
-  members-next n s count left low field place t e q =
-      ap (λ (c : ℕ). collected n s (readMembers text ok ascending c low field place)) e
-      ∙ follow-taken n s t (take (λ v. leb low v && ok v) (numberAt text place)) field
+      → collected n (readMembers text ok ascending count low field place)
+      ≡ onTaken t field (λ v d. collected (n + 1) (readMembers text ok ascending left (leastAfter ascending v) (field + 1) (d .at)))
+  members-next n count left low field place t e q =
+      ap (λ (c : ℕ). collected n (readMembers text ok ascending c low field place)) e
+      ∙ follow-taken n t (take (λ v. leb low v && ok v) (numberAt text place)) field
       (λ v next. withMember v (readMembers text ok ascending left (leastAfter ascending v) (field + 1) next)) q
-      ∙ onMember n s left field t
+      ∙ onMember n left field t
 
-  pub members-start : (count field place : ℕ) (s : List ℕ) → s ≡ empty
-      → collected 0 empty (readMembers text ok ascending count 0 field place)
-      ≡ collected 0 s (readMembers text ok ascending (count - 0) 0 (field + 0) place)
-  members-start count field place s e =
+  pub members-start : (count field place : ℕ)
+      → collected 0 (readMembers text ok ascending count 0 field place)
+      ≡ collected 0 (readMembers text ok ascending (count - 0) 0 (field + 0) place)
+  members-start count field place =
       let c : count ≡ count - 0 = omega arith in
       let f : field ≡ field + 0 = omega arith in
-      λ j. collected 0 (sym e j) (readMembers text ok ascending (c j) 0 (f j) place)
+      λ j. collected 0 (readMembers text ok ascending (c j) 0 (f j) place)
 
-  pub members-again : (n : ℕ) (s : List ℕ) (count left low field place v : ℕ) (d : Cursor) {s′ : List ℕ} {low′ field′ : ℕ} → count ≡ suc left
+  pub members-again : (n : ℕ) (count left low field place v : ℕ) (d : Cursor) {low′ field′ : ℕ} → count ≡ suc left
       → Number v d ≡ asTaken (take (λ w. leb low w && ok w) (numberAt text place))
-      → s′ ≡ insert s v → low′ ≡ leastAfter ascending v → field′ ≡ field + 1
-      → collected n s (readMembers text ok ascending count low field place)
-      ≡ collected (n + 1) s′ (readMembers text ok ascending left low′ field′ (d .at))
-  members-again n s count left low field place v d e q es el ef =
-      members-next n s count left low field place (Number v d) e q
-      ∙ λ j. collected (n + 1) (sym es j) (readMembers text ok ascending left (sym el j) (sym ef j) (d .at))
+      → low′ ≡ leastAfter ascending v → field′ ≡ field + 1
+      → collected n (readMembers text ok ascending count low field place)
+      ≡ collected (n + 1) (readMembers text ok ascending left low′ field′ (d .at))
+  members-again n count left low field place v d e q el ef =
+      members-next n count left low field place (Number v d) e q
+      ∙ λ j. collected (n + 1) (readMembers text ok ascending left (sym el j) (sym ef j) (d .at))
 
-  pub members-end : (n : ℕ) (s : List ℕ) (count low field : ℕ) (d : Cursor) → count ≡ 0
-      → collected n s (readMembers text ok ascending count low field (d .at)) ≡ record { outcome = Done n field d; members = stateOf s }
-  members-end n s count low field d e =
+  pub members-end : (n : ℕ) (count low field : ℕ) (d : Cursor) → count ≡ 0
+      → collected n (readMembers text ok ascending count low field (d .at)) ≡ Done n field d
+  members-end n count low field d e =
       let k : n + 0 ≡ n = omega arith in
-      ap (λ (c : ℕ). collected n s (readMembers text ok ascending c low field (d .at))) e
-      ∙ ap (λ (m : ℕ). record { outcome = Done m field d; members = stateOf s }) k
+      ap (λ (c : ℕ). collected n (readMembers text ok ascending c low field (d .at))) e
+      ∙ ap (λ (m : ℕ). Done m field d) k

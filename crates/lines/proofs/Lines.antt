@@ -14,7 +14,6 @@ use lib.Dec.{eqb, leb, ltb, lit<}
 use lib.ListN.{length, getD, take, set, length-take, List·getD-eq-default}
 use lib.Seq.{sets, getD-take, getD-set-other, take-suc-set}
 use Rattle.rules.specs.declared.Header.{Header}
-use Rattle.rules.specs.State.{empty}
 use Rattle.rules.specs.Text.{Ending, ended, surplus, numberAt}
 use Rattle.rules.specs.Table as T
 use Rattle.rules.specs.Table.{Kind, Item, one, inRange, scalar, members, numberOf, item, followTaken, readMembers, readList, readItem, followItem, withValue, readItems, withMember, leastAfter}
@@ -27,7 +26,7 @@ use Rattle.lines.specs.declared.item.Outcome.the-variants.{Done, Bad, Ra
 use Rattle.lines.specs.declared.line.Finish.the-variants.{Done as LineDone, Bad as LineBad, Range as LineRange}
 use Rattle.lines.specs.declared.line.LineRead.{LineRead}
 use Rattle.lines.specs.Shapes.{itemOf, itemsIn}
-use Rattle.lines.specs.Reading.{asItem, refusedLine, stored}
+use Rattle.lines.specs.Reading.{asOutcome, refusedLine, stored}
 
 -- ---- Going on after an item
 
@@ -43,8 +42,8 @@ stored-value i before v (T.LineRead.outside field) = refl
 
 follow-item : (i : ℕ) (before : List ℕ) (y : T.ItemRead) (rest : ℕ → ℕ → ℕ → T.LineRead)
     → stored i before (followItem y (λ v after next. withValue v (rest (numberOf v) after next)))
-    ≡ onItem (asItem y .outcome) (λ m after d. stored (suc i) (set before i m) (rest m after (d .at)))
-unfolding asItem
+    ≡ onItem (asOutcome y) (λ m after d. stored (suc i) (set before i m) (rest m after (d .at)))
+unfolding asOutcome
 follow-item i before (item (scalar v) field next) rest = stored-value i before (scalar v) (rest v field next)
 follow-item i before (item (members vs) field next) rest =
     stored-value i before (members vs) (rest (length vs) field next)
@@ -132,7 +131,7 @@ finish-read i l field values e r q = ap (finishedBy l field values) q ∙ go e
 
 module _ (text : List ℕ) (h : Header) (n l : ℕ) where
   pub items-next : (i : ℕ) (values : List ℕ) (k m rest field place : ℕ) (o : Outcome) → i < length values → Blank i values → k ≡ suc m → (rest ≡ 0 → ⊥)
-      → o ≡ asItem (readItem text h n values (itemOf (rest % 256)) field place) .outcome
+      → o ≡ asOutcome (readItem text h n values (itemOf (rest % 256)) field place)
       → stored i values (readItems text h n l (itemsIn k rest) (take i values) field place)
       ≡ onItem o (λ v after d. stored (suc i) (set values i v) (readItems text h n l (itemsIn m (rest / 256)) (take (suc i) (set values i v)) after (d .at)))
   items-next i values k m rest field place o inside blank e some q =
@@ -220,8 +219,8 @@ counts-item text h n before T.cues field place =
     counts-cues field (readMembers text (inRange h n before T.anAction) false (h .cues) 0 field place)
     (counts-members text (inRange h n before T.anAction) false (h .cues) 0 field place)
 
-counts-outcome : (field : ℕ) (y : T.ItemRead) (v after : ℕ) (d : Cursor) → Counts field y → Done v after d ≡ asItem y .outcome → after ≤ field + v + 1
-unfolding asItem
+counts-outcome : (field : ℕ) (y : T.ItemRead) (v after : ℕ) (d : Cursor) → Counts field y → Done v after d ≡ asOutcome y → after ≤ field + v + 1
+unfolding asOutcome
 counts-outcome field (item (scalar w) f next) v after d h e =
     let same : w ≡ v = cc in let last : after ≡ f = cc in omega arith
 counts-outcome field (item (members vs) f next) v after d h e =
@@ -230,6 +229,6 @@ counts-outcome field (T.ItemRead.unreadable f) v after d h e = let z : _≡_ {A 
 counts-outcome field (T.ItemRead.outside f) v after d h e = let z : _≡_ {A = ℕ} 0 1 = cc in absurd (omega arith)
 
 pub field-after : (text : List ℕ) (h : Header) (n : ℕ) (before : List ℕ) (i : Item) (field place v after : ℕ) (d : Cursor)
-    → Done v after d ≡ asItem (readItem text h n before i field place) .outcome → after ≤ field + v + 1
+    → Done v after d ≡ asOutcome (readItem text h n before i field place) → after ≤ field + v + 1
 field-after text h n before i field place v after d e =
     counts-outcome field (readItem text h n before i field place) v after d (counts-item text h n before i field place) e

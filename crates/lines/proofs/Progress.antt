@@ -15,7 +15,7 @@ use Rattle.lines.specs.declared.item.Outcome.{Outcome}
 use Rattle.lines.specs.declared.item.Outcome.the-variants.{Done, Bad, Range}
 use Rattle.lines.specs.declared.line.LineRead.{LineRead}
 use Rattle.lines.specs.Shapes.{itemOf, itemsIn, itemsOf}
-use Rattle.lines.specs.Reading.{readItemIn, asItem, noValues, stored}
+use Rattle.lines.specs.Reading.{readItemIn, asOutcome, noValues, stored}
 use Rattle.lines.proofs.Lines.{onItem, Blank, blank-next, rest-next, items-next, items-none, stored-end, field-after}
 
 -- The line's items from the start, and those from here on.
@@ -71,7 +71,7 @@ module _ (text : List ℕ) (x : Context) (l shape start : ℕ) where
     inside : i < 7
     inside = more-items i rest (p .small) some
 
-    pub goes-on : (o : Outcome) → o ≡ asItem (readItemIn text x values (itemOf (rest % 256)) field (c .at)) .outcome
+    pub goes-on : (o : Outcome) → o ≡ asOutcome (readItemIn text x values (itemOf (rest % 256)) field (c .at))
         → allItems text x l shape start ≡ onItem o (λ v after d. itemsFrom text x l (rest / 256) (i + 1) (set values i v) after (d .at))
     goes-on o q =
         p .same
@@ -81,7 +81,7 @@ module _ (text : List ℕ) (x : Context) (l shape start : ℕ) where
         (sym (add-one i))
 
     pub progress : (v after : ℕ) (d : Cursor) → v < 4294967296
-        → Done v after d ≡ asItem (readItemIn text x values (itemOf (rest % 256)) field (c .at)) .outcome
+        → Done v after d ≡ asOutcome (readItemIn text x values (itemOf (rest % 256)) field (c .at))
         → Progress text x l shape start d (set values i v) after (rest / 256) (i + 1)
     progress v after d fits q =
         let h = inside in

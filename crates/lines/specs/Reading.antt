@@ -4,10 +4,8 @@ use mathlib.Core.List.{List, [], _∷_, map}
 use Prim.Native.Nat.{ℕ, _+_}
 use lib.ListN.{length}
 use lib.Seq.{sets}
-use Rattle.rules.specs.State.{empty, insertAll}
 use Rattle.rules.specs.Table as T
 use Rattle.rules.specs.Table.{scalar, members, item}
-use Rattle.state.specs.declared.State.{State}
 use Rattle.text.specs.Cursor.{cursor}
 use Rattle.lines.specs.Shapes.{kindOf}
 use Rattle.lines.specs.declared.range.Context.{Context}
@@ -15,7 +13,6 @@ use Rattle.lines.specs.declared.item.Taken.{Taken}
 use Rattle.lines.specs.declared.item.Taken.the-variants.{Number, Bad as NoNumber, Out}
 use Rattle.lines.specs.declared.item.Outcome.{Outcome}
 use Rattle.lines.specs.declared.item.Outcome.the-variants.{Done, Bad, Range}
-use Rattle.lines.specs.declared.item.ItemRead.{ItemRead}
 use Rattle.lines.specs.declared.line.Role.{Role}
 use Rattle.lines.specs.declared.line.Role.the-variants.{Header, Initial, Action, Method, Constraint, Plan, Node}
 use Rattle.lines.specs.declared.line.Finish.{Finish}
@@ -34,21 +31,15 @@ asTaken (T.taken v next) = Number v (cursor next)
 asTaken T.bad = NoNumber
 asTaken T.out = Out
 
-abbrev pub stateOf : List ℕ → State
-stateOf ws = record { words = ws }
+-- An item that is read: its number, or n and as many as its members.
+abbrev pub collected : ℕ → T.ItemRead → Outcome
+collected n (item (scalar v) field next) = Done v field (cursor next)
+collected n (item (members vs) field next) = Done (n + length vs) field (cursor next)
+collected n (T.ItemRead.unreadable field) = Bad field
+collected n (T.ItemRead.outside field) = Range field
 
-abbrev pub refusedItem : Outcome → ItemRead
-refusedItem o = record { outcome = o; members = stateOf empty }
-
--- A list that is read after n members, which make the set s.
-abbrev pub collected : ℕ → List ℕ → T.ItemRead → ItemRead
-collected n s (item (scalar v) field next) = record { outcome = Done v field (cursor next); members = stateOf empty }
-collected n s (item (members vs) field next) = record { outcome = Done (n + length vs) field (cursor next); members = stateOf (insertAll s vs) }
-collected n s (T.ItemRead.unreadable field) = refusedItem (Bad field)
-collected n s (T.ItemRead.outside field) = refusedItem (Range field)
-
-unfoldable pub asItem : T.ItemRead → ItemRead
-asItem r = collected 0 empty r
+unfoldable pub asOutcome : T.ItemRead → Outcome
+asOutcome r = collected 0 r
 
 abbrev pub roleOf : Role → T.Role
 roleOf Header = T.header

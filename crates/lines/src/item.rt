@@ -3,15 +3,12 @@ ghost use mathlib.Core.Path.{_≡_};
 ghost use mathlib.Core.Bool.{_&&_};
 ghost use Prim.Native.Nat.{ℕ, _<_, _^_};
 ghost use lib.Dec.{leb, eqb};
-ghost use Rattle.rules.specs.State.{empty};
 ghost use Rattle.rules.specs.Text.{numberAt};
-ghost use Rattle.rules.specs.Table.{one, set, take, leastAfter, readMembers, readList};
+ghost use Rattle.rules.specs.Table.{one, take, leastAfter, readMembers, readList};
 ghost use Rattle.lines.specs.Shapes.{kindOf, itemOf};
-ghost use Rattle.lines.specs.Reading.{inKind, readItemIn, asTaken, asItem, collected, refusedItem, noValues};
+ghost use Rattle.lines.specs.Reading.{inKind, readItemIn, asTaken, asOutcome, collected};
 use crate::range;
 use crate::range::Context;
-use state::State;
-use state::WORDS;
 use text::Cursor;
 use text::Field;
 
@@ -31,12 +28,6 @@ pub enum Outcome {
     Range {
         field: usize,
     },
-}
-
-// An item, with its members as a set: empty for a single number and for a refusal.
-pub struct ItemRead {
-    pub outcome: Outcome,
-    pub members: State,
 }
 
 // A number that is due: read and in its range; missing or not plain; outside its range.
@@ -73,15 +64,6 @@ fn take_number(text: &[u8], c: Cursor, x: Context, before: [u32; 7], kind: u64, 
     }
 }
 
-fn refused(outcome: Outcome) -> ItemRead
-    ensures { λ r. ⌜ r ≡ refusedItem outcome ⌝ }
-{
-    ItemRead {
-        outcome,
-        members: State::new(),
-    }
-}
-
 // "Sets are strictly ascending": the members of a set are its propositions, and no other list ascends.
 const PROPOSITION: u64 = 11;
 
@@ -101,41 +83,36 @@ fn members(
     kind: u64,
     count: u32,
     field: usize,
-) -> ItemRead
+) -> Outcome
     requires { ⌜ field < 2 ^ 41 ⌝ }
-    ensures { λ r. ⌜ r ≡ collected 0 empty (readMembers (now (text .entry)) (inKind x before kind) (eqb kind 11) count 0 field (c .at)) ⌝ }
+    ensures { λ r. ⌜ r ≡ collected 0 (readMembers (now (text .entry)) (inKind x before kind) (eqb kind 11) count 0 field (c .at)) ⌝ }
 {
     let mut at = c;
-    let mut words = [0u64; WORDS];
     let mut low: u64 = 0;
     let mut i: u32 = 0;
     while i < count {
         match take_number(text, at, x, before, kind, low) {
             Taken::Number { value, next } => {
-                state::insert(&mut words, value);
                 low = least_after(kind, value);
                 at = next;
                 i += 1;
             }
             Taken::Bad => {
-                return refused(Outcome::Bad {
+                return Outcome::Bad {
                     field: field + i as usize,
-                });
+                };
             }
             Taken::Out => {
-                return refused(Outcome::Range {
+                return Outcome::Range {
                     field: field + i as usize,
-                });
+                };
             }
         }
     }
-    ItemRead {
-        outcome: Outcome::Done {
-            value: i,
-            field: field + i as usize,
-            next: at,
-        },
-        members: State { words },
+    Outcome::Done {
+        value: i,
+        field: field + i as usize,
+        next: at,
     }
 }
 
@@ -148,32 +125,29 @@ fn list(
     counts: u64,
     kind: u64,
     field: usize,
-) -> ItemRead
+) -> Outcome
     requires { ⌜ field < 2 ^ 40 ⌝ }
-    ensures { λ r. ⌜ r ≡ asItem (readList (now (text .entry)) (inKind x before counts) (inKind x before kind) (eqb kind 11) field (c .at)) ⌝ }
+    ensures { λ r. ⌜ r ≡ asOutcome (readList (now (text .entry)) (inKind x before counts) (inKind x before kind) (eqb kind 11) field (c .at)) ⌝ }
 {
     match take_number(text, c, x, before, counts, 0) {
         Taken::Number { value, next } => members(text, next, x, before, kind, value, field + 1),
-        Taken::Bad => refused(Outcome::Bad { field }),
-        Taken::Out => refused(Outcome::Range { field }),
+        Taken::Bad => Outcome::Bad { field },
+        Taken::Out => Outcome::Range { field },
     }
 }
 
-fn single(text: &[u8], c: Cursor, x: Context, before: [u32; 7], kind: u64, field: usize) -> ItemRead
+fn single(text: &[u8], c: Cursor, x: Context, before: [u32; 7], kind: u64, field: usize) -> Outcome
     requires { ⌜ field < 2 ^ 40 ⌝ }
-    ensures { λ r. ⌜ r ≡ asItem (readItemIn (now (text .entry)) x before (one (kindOf kind)) field (c .at)) ⌝ }
+    ensures { λ r. ⌜ r ≡ asOutcome (readItemIn (now (text .entry)) x before (one (kindOf kind)) field (c .at)) ⌝ }
 {
     match take_number(text, c, x, before, kind, 0) {
-        Taken::Number { value, next } => ItemRead {
-            outcome: Outcome::Done {
-                value,
-                field: field + 1,
-                next,
-            },
-            members: State::new(),
+        Taken::Number { value, next } => Outcome::Done {
+            value,
+            field: field + 1,
+            next,
         },
-        Taken::Bad => refused(Outcome::Bad { field }),
-        Taken::Out => refused(Outcome::Range { field }),
+        Taken::Bad => Outcome::Bad { field },
+        Taken::Out => Outcome::Range { field },
     }
 }
 
@@ -185,9 +159,9 @@ pub fn read_item(
     before: [u32; 7],
     item: u64,
     field: usize,
-) -> ItemRead
+) -> Outcome
     requires { ⌜ field < 2 ^ 40 ⌝ }
-    ensures { λ r. ⌜ r ≡ asItem (readItemIn (now (text .entry)) x before (itemOf item) field (c .at)) ⌝ }
+    ensures { λ r. ⌜ r ≡ asOutcome (readItemIn (now (text .entry)) x before (itemOf item) field (c .at)) ⌝ }
 {
     match item {
         20 => list(text, c, x, before, 18, PROPOSITION, field),
@@ -198,12 +172,4 @@ pub fn read_item(
         }
         _ => single(text, c, x, before, item, field),
     }
-}
-
-// A set of propositions whose count is the field after the cursor, field number `field`: as a State.
-pub fn read_set(text: &[u8], c: Cursor, x: Context, field: usize) -> ItemRead
-    requires { ⌜ field < 2 ^ 40 ⌝ }
-    ensures { λ r. ⌜ r ≡ asItem (readItemIn (now (text .entry)) x noValues set field (c .at)) ⌝ }
-{
-    read_item(text, c, x, [0u32; 7], 20, field)
 }

@@ -4,10 +4,6 @@ mod line;
 mod range;
 mod table;
 
-pub use item::ItemRead;
-pub use item::Outcome;
-pub use item::read_item;
-pub use item::read_set;
 pub use line::Finish;
 pub use line::LineRead;
 pub use line::Role;

@@ -3,7 +3,7 @@ use Prim.Native.Nat.{ℕ, _+_}
 use Rattle.lines.proofs.Items.{follow-any}
 use Rattle.lines.proofs.item.list.Statement.{statement}
 use Rattle.lines.proofs.item.list.Tie as tie
-use Rattle.lines.specs.Reading.{inKind, asItem}
+use Rattle.lines.specs.Reading.{inKind, asOutcome}
 use Rattle.lines.specs.declared.item.Taken.the-variants.{Number, Bad, Out}
 use Rattle.rules.specs.Table.{readList, readMembers}
 use Rattle.rules.specs.Text.{numberAt}
@@ -26,41 +26,34 @@ members-requires c κs = search needs
 enum-told : tie.Need-enum-told
 enum-told c = search needs
 
-refused-requires : tie.Need-refused-requires
-refused-requires c κs = search needs
-
 enum-told-2 : tie.Need-enum-told-2
 enum-told-2 c = search needs
 
-refused-requires-2 : tie.Need-refused-requires-2
-refused-requires-2 c κs = search needs
-
 returns : tie.Need-returns
-unfolding readList asItem
+unfolding readList asOutcome
 returns c =
     let a = c .before .before .before .before .before .before .args in
+    let v = c .before .before .value .given .0 in
     c .members .ensures
-    ∙ sym (follow-any (inKind (a .x) (a .before) (a .counts)) (numberAt (a .text .now) (a .c .at)) (Number (c .before .before .value .given .0 .0) (c .before .before .value .given .0 .1 .0)) (a .field)
+    ∙ sym (follow-any (inKind (a .x) (a .before) (a .counts)) (numberAt (a .text .now) (a .c .at)) (Number (v .0) (v .1 .0)) (a .field)
     (λ v next. readMembers (a .text .now) (inKind (a .x) (a .before) (a .kind)) (eqb (a .kind) 11) v 0 (a .field + 1) next)
     (sym (c .before .before .value .given .1) ∙ c .before .before .before .before .take-number .ensures))
 
 returns-2 : tie.Need-returns-2
-unfolding readList asItem
+unfolding readList asOutcome
 returns-2 c =
-    let a = c .before .before .before .before .before .args in
-    c .refused .ensures
-    ∙ sym (follow-any (inKind (a .x) (a .before) (a .counts)) (numberAt (a .text .now) (a .c .at)) (Bad) (a .field)
+    let a = c .before .before .before .before .args in
+    sym (follow-any (inKind (a .x) (a .before) (a .counts)) (numberAt (a .text .now) (a .c .at)) Bad (a .field)
     (λ v next. readMembers (a .text .now) (inKind (a .x) (a .before) (a .kind)) (eqb (a .kind) 11) v 0 (a .field + 1) next)
-    (sym (c .before .enum-told .given .1) ∙ c .before .before .before .take-number .ensures))
+    (sym (c .enum-told .given .1) ∙ c .before .before .take-number .ensures))
 
 returns-3 : tie.Need-returns-3
-unfolding readList asItem
+unfolding readList asOutcome
 returns-3 c =
-    let a = c .before .before .before .before .before .args in
-    c .refused2 .ensures
-    ∙ sym (follow-any (inKind (a .x) (a .before) (a .counts)) (numberAt (a .text .now) (a .c .at)) (Out) (a .field)
+    let a = c .before .before .before .before .args in
+    sym (follow-any (inKind (a .x) (a .before) (a .counts)) (numberAt (a .text .now) (a .c .at)) Out (a .field)
     (λ v next. readMembers (a .text .now) (inKind (a .x) (a .before) (a .kind)) (eqb (a .kind) 11) v 0 (a .field + 1) next)
-    (sym (c .before .enum-told2 .given .1) ∙ c .before .before .before .take-number .ensures))
+    (sym (c .enum-told2 .given .1) ∙ c .before .before .take-number .ensures))
 
 pub list-spec : {M : Type 1} → statement M
 list-spec =
@@ -71,9 +64,7 @@ list-spec =
     add-members
     members-requires
     enum-told
-    refused-requires
     enum-told-2
-    refused-requires-2
     returns
     returns-2
     returns-3)

@@ -2,7 +2,7 @@
 use Rattle.lines.proofs.Ranges.{item-other}
 use Rattle.lines.proofs.item.read_item.Statement.{statement}
 use Rattle.lines.proofs.item.read_item.Tie as tie
-use Rattle.lines.specs.Reading.{asItem}
+use Rattle.lines.specs.Reading.{asOutcome}
 use Rattle.lines.specs.Shapes.{kindOf, itemOf}
 use Rattle.rules.specs.Table.{readItem}
 use borrow.Author.Needs.{needs}
@@ -28,7 +28,7 @@ unfolding itemOf kindOf readItem
 returns-2 c = rw (c .before .match .keys2) (c .list2 .ensures)
 
 returns-3 : tie.Need-returns-3
-unfolding itemOf kindOf readItem asItem
+unfolding itemOf kindOf readItem asOutcome
 returns-3 c = rw (c .before .before .match .keys3) (c .members .ensures)
 
 returns-4 : tie.Need-returns-4

@@ -3,10 +3,9 @@ use Prim.Native.Nat.{ℕ, _-_}
 use Rattle.lines.proofs.Progress.{Progress, begins, more-items, goes-on, progress, ends}
 use Rattle.lines.proofs.line.items.Statement.{statement}
 use Rattle.lines.proofs.line.items.Tie as tie
-use Rattle.lines.specs.declared.item.ItemRead.{ItemRead}
 use Rattle.lines.specs.declared.item.Outcome.the-variants.{Bad, Range}
 use borrow.Author.Needs.{needs}
-use mathlib.Core.Path.{_≡_, refl, sym, ap, _∙_}
+use mathlib.Core.Path.{_≡_, refl, sym, _∙_}
 use native.Mathlib.Omega.{arith}
 
 abbrev Inv-loop : tie.InvT-loop
@@ -22,8 +21,8 @@ loop-holds c =
 read-item-requires : tie.Need-read-item-requires Inv-loop μ-loop
 read-item-requires c κs = let p = c .before .loop .inv in omega arith
 
-enum-known-outcome : tie.Need-enum-known-outcome Inv-loop μ-loop
-enum-known-outcome c = search needs
+enum-known-value : tie.Need-enum-known-value Inv-loop μ-loop
+enum-known-value c = search needs
 
 mul-values : tie.Need-mul-values Inv-loop μ-loop
 mul-values c = let h = more-items (c .before .before .before .before .before .loop .i) (c .before .before .before .before .before .loop .rest) (c .before .before .before .before .before .loop .inv .small) (c .before .before .before .before .loop-test .taken) in omega arith
@@ -42,11 +41,11 @@ loop-again c =
     let a = c .before .before .before .before .before .before .before .args in
     let l = c .before .before .before .before .before .loop in
     progress (a .text .now) (a .x) (a .letter) (a .shape) (a .c .at) (l .at) (l .values) (l .field) (l .rest) (l .i) (l .inv) (c .before .before .before .before .loop-test .taken)
-    (c .before .outcome .given .0 .0) (c .before .outcome .given .0 .1 .0) (c .before .outcome .given .0 .1 .1 .0) (search needs)
-    (sym (c .before .outcome .given .1) ∙ ap (λ (r : ItemRead). r .outcome) (c .before .before .before .read-item .ensures))
+    (c .before .value .given .0 .0) (c .before .value .given .0 .1 .0) (c .before .value .given .0 .1 .1 .0) (search needs)
+    (sym (c .before .value .given .1) ∙ c .before .before .before .read-item .ensures)
 
-enum-known-outcome-2 : tie.Need-enum-known-outcome-2 Inv-loop μ-loop
-enum-known-outcome-2 c = search needs
+enum-known-wrong : tie.Need-enum-known-wrong Inv-loop μ-loop
+enum-known-wrong c = search needs
 
 refused-requires : tie.Need-refused-requires Inv-loop μ-loop
 refused-requires c κs = search needs
@@ -57,10 +56,10 @@ returns c =
     let l = c .before .before .before .before .before .before .loop in
     c .refused .ensures
     ∙ sym (goes-on (a .text .now) (a .x) (a .letter) (a .shape) (a .c .at) (l .at) (l .values) (l .field) (l .rest) (l .i) (l .inv) (c .before .before .before .before .before .loop-test .taken)
-    (Bad (c .before .before .outcome2 .given .0 .0)) (sym (c .before .before .outcome2 .given .1) ∙ ap (λ (r : ItemRead). r .outcome) (c .before .before .before .before .read-item .ensures)))
+    (Bad (c .before .before .wrong .given .0 .0)) (sym (c .before .before .wrong .given .1) ∙ c .before .before .before .before .read-item .ensures))
 
-enum-known-outcome-3 : tie.Need-enum-known-outcome-3 Inv-loop μ-loop
-enum-known-outcome-3 c = search needs
+enum-known-wrong-2 : tie.Need-enum-known-wrong-2 Inv-loop μ-loop
+enum-known-wrong-2 c = search needs
 
 refused-requires-2 : tie.Need-refused-requires-2 Inv-loop μ-loop
 refused-requires-2 c κs = search needs
@@ -71,7 +70,7 @@ returns-2 c =
     let l = c .before .before .before .before .before .before .loop in
     c .refused2 .ensures
     ∙ sym (goes-on (a .text .now) (a .x) (a .letter) (a .shape) (a .c .at) (l .at) (l .values) (l .field) (l .rest) (l .i) (l .inv) (c .before .before .before .before .before .loop-test .taken)
-    (Range (c .before .before .outcome3 .given .0 .0)) (sym (c .before .before .outcome3 .given .1) ∙ ap (λ (r : ItemRead). r .outcome) (c .before .before .before .before .read-item .ensures)))
+    (Range (c .before .before .wrong2 .given .0 .0)) (sym (c .before .before .wrong2 .given .1) ∙ c .before .before .before .before .read-item .ensures))
 
 finished-requires : tie.Need-finished-requires Inv-loop μ-loop
 finished-requires c κs = search needs
@@ -91,16 +90,16 @@ items-spec =
     μ-loop
     loop-holds
     read-item-requires
-    enum-known-outcome
+    enum-known-value
     mul-values
     array-write-values
     add-i
     loop-less
     loop-again
-    enum-known-outcome-2
+    enum-known-wrong
     refused-requires
     returns
-    enum-known-outcome-3
+    enum-known-wrong-2
     refused-requires-2
     returns-2
     finished-requires
