@@ -5,3 +5,4 @@ pub mod Progress
 pub mod Places
 pub mod Parts
 pub mod First
+pub mod Rereading

@@ -1,2 +1,3 @@
+pub mod Again
 pub mod Directory
 pub mod Groups

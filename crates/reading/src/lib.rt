@@ -8,6 +8,11 @@ ghost use Rattle.rules.specs.Case.{oneLine, oneMethod, many, readBody, readCase
 ghost use Rattle.lines.specs.Reading.{roleOf};
 ghost use Rattle.reading.specs.Directory.{methodsFrom, directorySize, ReadsAs};
 ghost use Rattle.reading.specs.Groups.{wholeCase, FieldBelow, afterLine, entryOf, groupOf, headerIn, Due, Listed};
+
+mod again;
+
+pub use again::Again;
+pub use again::read_again;
 use lines::Context;
 use lines::Finish;
 use lines::Role;
