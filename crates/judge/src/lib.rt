@@ -8,7 +8,6 @@ ghost use Rattle.records.specs.Records.{recordsAfter};
 ghost use Rattle.replay.specs.Running.{caseOf};
 ghost use Rattle.judge.specs.Phases.{Cleared, Read, Ran as HasRun, Walked, Claimed};
 use constraints::Kept;
-use lines::Context;
 use reading::CaseRead;
 use replay::Ran;
 use rules::Answer;
@@ -113,11 +112,7 @@ fn judge_run(
 {
     let header = o.header;
     let plan = o.plan;
-    let x = Context {
-        header,
-        subtasks: 0,
-    };
-    let first = replay::read_initial(text, initial, x);
+    let first = replay::read_initial(text, initial);
     match replay::run(text, work, header, plan, first, states) {
         Ran::All => judge_nodes(text, o, states, work),
         Ran::Stopped { cue } => refuse(

@@ -1,4 +1,4 @@
-// Short lines that reading has let pass, read again: nothing is checked a second time.
+// Numbers and short lines that reading has let pass, read again: nothing is checked a second time.
 ghost use mathlib.Core.Path.{_≡_};
 ghost use Rattle.rules.specs.Text.{numberAt, endingAt};
 ghost use Rattle.reading.specs.Again.{numberOr, lineOr, againFrom, AgainAt};
@@ -18,13 +18,13 @@ pub struct Again {
 }
 
 // A number, and where the field after it starts.
-struct Numbered {
-    value: u32,
-    next: Cursor,
+pub struct Numbered {
+    pub value: u32,
+    pub next: Cursor,
 }
 
 // The number after the cursor; 0 where the line has no further one, and the cursor stays.
-fn number_or_none(text: &[u8], c: Cursor) -> Numbered
+pub fn number_again(text: &[u8], c: Cursor) -> Numbered
     ensures { λ r. ⌜ r ≡ numberOr c (numberAt (now (text .entry)) (c .at)) ⌝ }
 {
     match c.number(text) {
@@ -48,9 +48,9 @@ fn next_line(text: &[u8], c: Cursor) -> Cursor
 fn numbers(text: &[u8], c: Cursor, letter: u8) -> Again
     ensures { λ r. ⌜ r ≡ againFrom (now (text .entry)) letter c ⌝ }
 {
-    let first = number_or_none(text, c);
-    let second = number_or_none(text, first.next);
-    let third = number_or_none(text, second.next);
+    let first = number_again(text, c);
+    let second = number_again(text, first.next);
+    let third = number_again(text, second.next);
     Again {
         letter,
         first: first.value,

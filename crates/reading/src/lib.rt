@@ -12,6 +12,8 @@ ghost use Rattle.reading.specs.Groups.{wholeCase, FieldBelow, afterLine,
 mod again;
 
 pub use again::Again;
+pub use again::Numbered;
+pub use again::number_again;
 pub use again::read_again;
 use lines::Context;
 use lines::Finish;

@@ -1,16 +1,16 @@
 -- A line that reads as these values, read again item by item: the row of a role that has one row, then each item in turn. Assumes nothing.
 use mathlib.Core.Path.{_≡_, refl, sym, ap, subst, _∙_}
-use mathlib.Core.Bool.{Bool, true, false}
+use mathlib.Core.Bool.{Bool, true, false, _&&_}
 use mathlib.Core.List.{List, [], _∷_, _++_}
 use mathlib.Core.Option.{Option, none, some}
-use Prim.Native.Nat.{ℕ, _+_, _≤_, _<_}
+use Prim.Native.Nat.{ℕ, zero, suc, _+_, _-_}
 use native.Mathlib.Omega.{arith}
-use lib.Dec.{eqb}
+use lib.Dec.{eqb, leb}
 use Rattle.rules.specs.declared.Header.{Header}
-use Rattle.rules.specs.State.{empty, insertAll}
-use Rattle.rules.specs.Text.{Letter, letter, noLetter, letterAt, feedFollows, Number, number, notPlain, missing}
+use Rattle.rules.specs.State.{empty, insert, insertAll}
+use Rattle.rules.specs.Text.{Letter, letter, noLetter, letterAt, feedFollows, Number, number, notPlain, missing, numberAt}
 use Rattle.rules.specs.Table as T
-use Rattle.rules.specs.Table.{Role, Item, Row, Value, ItemRead, item, LineRead, line, table, roleNumber, inRange, rowIn, rowOf, numberOf, readList, readItem, followItem, withValue, readItems, readRow, readLetter, readLine}
+use Rattle.rules.specs.Table.{Role, Item, Row, Value, scalar, members, Taken, taken, out, take, ItemRead, item, LineRead, line, table, roleNumber, inRange, rowIn, rowOf, numberOf, followTaken, withMember, leastAfter, readMembers, readList, readItem, followItem, withValue, readItems, readRow, readLetter, readLine}
 use Rattle.rules.specs.Case as C
 use Rattle.rules.specs.Case.{listOf, membersAt, setAt}
 use Rattle.state.specs.declared.State.{State}
@@ -18,17 +18,11 @@ use Rattle.state.specs.Action.{actionOf}
 use Rattle.text.specs.declared.Cursor.{Cursor}
 use Rattle.text.specs.declared.Letter.{Letter as LineLetter}
 use Rattle.text.specs.declared.Letter.the-variants.{Byte, Wrong}
-use Rattle.text.specs.declared.Field.{Field}
-use Rattle.text.specs.declared.Field.the-variants.{Number as FieldNumber, NotPlain, Missing}
-use Rattle.text.specs.Cursor.{asField, asLetter}
-use Rattle.lines.specs.declared.range.Context.{Context}
-use Rattle.lines.specs.declared.item.Outcome.{Outcome}
-use Rattle.lines.specs.declared.item.Outcome.the-variants.{Done, Bad, Range}
-use Rattle.lines.specs.declared.item.ItemRead.{ItemRead as ReadItem}
-use Rattle.lines.specs.Reading.{readItemIn, asItem, noValues}
+use Rattle.text.specs.Cursor.{cursor, asLetter}
+use Rattle.reading.specs.declared.again.Numbered.{Numbered}
+use Rattle.reading.specs.Again.{numberOr}
 use Rattle.replay.specs.declared.again.SetRead.{SetRead}
-use Rattle.replay.specs.declared.again.Cue.{Cue}
-use Rattle.replay.specs.Again.{afterLetter, pastLetter, setRead, cueRead, ActionSets, InitialSet}
+use Rattle.replay.specs.Again.{afterLetter, pastLetter, setThen, numberHere, membersAgain, setAgain, ActionSets, InitialSet}
 
 unread : {l : ℕ} {vs : List Value} {next field : ℕ} → LineRead.unreadable field ≡ line l vs next → ⊥
 unread e = let z : _≡_ {A = ℕ} 0 1 = cc in omega arith
@@ -130,35 +124,92 @@ item-first text h n b i is before field place {l} {vs} {next} e = go (readItem t
 
 -- ---- Sets
 
--- A set is read alike whatever numbers stand before it.
-set-anywhere : (text : List ℕ) (h : Header) (n : ℕ) (before other : List ℕ) (field place : ℕ)
-    → readItem text h n before T.set field place ≡ readItem text h n other T.set field place
-unfolding readItem inRange
-set-anywhere text h n before other field place = refl
+no-item : {v : Value} {after next field : ℕ} → ItemRead.unreadable field ≡ item v after next → ⊥
+no-item e = let z : _≡_ {A = ℕ} 0 1 = cc in omega arith
+
+item-out : {v : Value} {after next field : ℕ} → ItemRead.outside field ≡ item v after next → ⊥
+item-out e = let z : _≡_ {A = ℕ} 0 1 = cc in omega arith
+
+-- A value that is a list of members, which the code puts into the set s.
+abbrev PutIn : List ℕ → ℕ → List ℕ → Cursor → Value → ℕ → Type 0
+PutIn text count s c v next = (vs : List ℕ) × (v ≡ members vs) × (membersAgain text count s c ≡ setThen (insertAll s vs) (cursor next))
+
+-- The member a, and those that are read after it.
+with-put : (text : List ℕ) (count a : ℕ) (s : List ℕ) (c : Cursor) (r : ItemRead) {v : Value} {after next : ℕ}
+    → ((w : Value) (f q : ℕ) → r ≡ item w f q → PutIn text count (insert s a) c w q) → withMember a r ≡ item v after next
+    → (vs : List ℕ) × (v ≡ members vs) × (membersAgain text count (insert s a) c ≡ setThen (insertAll s vs) (cursor next))
+with-put text count a s c (item (scalar x) f q) rest e =
+    let w = rest (scalar x) f q refl in
+    let z : _≡_ {A = ℕ} 0 1 = cc (w .1) in
+    absurd (omega arith)
+with-put text count a s c (item (members vs) f q) {v} {after} {next} rest e =
+    let w = rest (members vs) f q refl in
+    let same : w .0 ≡ vs = cc (w .1) in
+    let all : v ≡ members (a ∷ vs) = cc in
+    let here : q ≡ next = cc in
+    (a ∷ vs, all, w .2 ∙ λ j. setThen (insertAll (insert s a) (same j)) (cursor (here j)))
+with-put text count a s c (ItemRead.unreadable f) rest e = absurd (no-item e)
+with-put text count a s c (ItemRead.outside f) rest e = absurd (item-out e)
+
+-- What was taken where a number is due: it is the number there.
+taken-there : (ok : ℕ → Bool) (x : Number) (field : ℕ) (rest : ℕ → ℕ → ItemRead) {v : Value} {after next : ℕ}
+    → followTaken (take ok x) field rest ≡ item v after next → (a p : ℕ) × (x ≡ number a p) × (rest a p ≡ item v after next)
+taken-there ok (number a p) field rest {v} {after} {next} e = go (ok a) e
+  where
+    go : (d : Bool) → followTaken (elim d as (λ t. Taken) [ true ↦ taken a p | false ↦ out ]) field rest ≡ item v after next
+        → (b q : ℕ) × (number a p ≡ number b q) × (rest b q ≡ item v after next)
+    go true e = (a, p, refl, e)
+    go false e = absurd (item-out e)
+taken-there ok notPlain field rest e = absurd (no-item e)
+taken-there ok missing field rest e = absurd (no-item e)
+
+members-put : (text : List ℕ) (ok : ℕ → Bool) (ascending : Bool) (count low field : ℕ) (s : List ℕ) (c : Cursor) {v : Value} {after next : ℕ}
+    → readMembers text ok ascending count low field (c .at) ≡ item v after next → PutIn text count s c v next
+members-put text ok ascending zero low field s c {v} {after} {next} e =
+    let none : v ≡ members [] = cc in let here : c .at ≡ next = cc in ([], none, ap (λ (p : ℕ). setThen s (cursor p)) here)
+members-put text ok ascending (suc count) low field s c {v} {after} {next} e =
+    let t = taken-there (λ w. leb low w && ok w) (numberAt text (c .at)) field
+    (λ w p. withMember w (readMembers text ok ascending count (leastAfter ascending w) (field + 1) p)) e in
+    let a = t .0 in
+    let p = t .1 in
+    let w = with-put text count a s (cursor p) (readMembers text ok ascending count (leastAfter ascending a) (field + 1) p)
+    (λ w f q g. members-put text ok ascending count (leastAfter ascending a) (field + 1) (insert s a) (cursor p) g) (t .3) in
+    (w .0, w .1, ap (λ (x : Number). membersAgain text count (insert s (numberOr c x .value)) (numberOr c x .next)) (t .2) ∙ w .2)
+
+-- A set that reads is read again as its members.
+set-again : (text : List ℕ) (h : Header) (n : ℕ) (before : List ℕ) (field : ℕ) (c : Cursor) {v : Value} {after next : ℕ}
+    → readItem text h n before T.set field (c .at) ≡ item v after next → setAgain text c ≡ setThen (insertAll empty (listOf v)) (cursor next)
+unfolding readItem readList setAgain
+set-again text h n before field c {v} {after} {next} e =
+    let t = taken-there (inRange h n before T.memberCount) (numberAt text (c .at)) field
+    (λ count p. readMembers text (inRange h n before T.proposition) true count 0 (field + 1) p) e in
+    let w = members-put text (inRange h n before T.proposition) true (t .0) 0 (field + 1) empty (cursor (t .1)) (t .3) in
+    ap (λ (x : Number). membersAgain text (numberOr c x .value) empty (numberOr c x .next)) (t .2)
+    ∙ w .2 ∙ ap (λ (y : Value). setThen (insertAll empty (listOf y)) (cursor next)) (sym (w .1))
 
 -- What the code read for a set: the first value's members, and the other items from there.
-pub record FirstSet (text : List ℕ) (x : Context) (b : ℕ) (is : List Item) (l : ℕ) (vs : List Value) (next : ℕ) (r : SetRead) : Type 0 where
+pub record FirstSet (text : List ℕ) (h : Header) (n b : ℕ) (is : List Item) (l : ℕ) (vs : List Value) (next : ℕ) (r : SetRead) : Type 0 where
   pub value : Value
   pub others : List Value
   pub before : List ℕ
+  pub field : ℕ
   pub all : vs ≡ value ∷ others
   pub set : r .set .words ≡ insertAll empty (listOf value)
-  pub rest : readItems text (x .header) (x .subtasks) b is before (r .field) (r .next .at) ≡ line l others next
+  pub rest : readItems text h n b is before field (r .next .at) ≡ line l others next
 
-pub set-first : (text : List ℕ) (x : Context) (b : ℕ) (is : List Item) (before : List ℕ) (field : ℕ) (c : Cursor) (r : SetRead) {l : ℕ} {vs : List Value} {next : ℕ}
-    → r ≡ setRead c field (readItemIn text x noValues T.set field (c .at))
-    → readItems text (x .header) (x .subtasks) b (T.set ∷ is) before field (c .at) ≡ line l vs next → FirstSet text x b is l vs next r
-set-first text x b is before field c r {l} {vs} {next} q e =
-    let w = item-first text (x .header) (x .subtasks) b T.set is before field (c .at) e in
-    let same : r ≡ setRead c field (item (w .value) (w .after) (w .then)) =
-    q ∙ ap (setRead c field) (set-anywhere text (x .header) (x .subtasks) noValues before field (c .at) ∙ w .reads) in
+pub set-first : (text : List ℕ) (h : Header) (n b : ℕ) (is : List Item) (before : List ℕ) (field : ℕ) (c : Cursor) (r : SetRead) {l : ℕ} {vs : List Value} {next : ℕ}
+    → r ≡ setAgain text c → readItems text h n b (T.set ∷ is) before field (c .at) ≡ line l vs next → FirstSet text h n b is l vs next r
+set-first text h n b is before field c r {l} {vs} {next} q e =
+    let w = item-first text h n b T.set is before field (c .at) e in
+    let same : r ≡ setThen (insertAll empty (listOf (w .value))) (cursor (w .then)) = q ∙ set-again text h n before field c (w .reads) in
     record {
       value = w .value;
       others = w .others;
       before = before ++ (numberOf (w .value) ∷ []);
+      field = w .after;
       all = w .all;
       set = ap (λ (s : SetRead). s .set .words) same;
-      rest = ap (λ (s : SetRead). readItems text (x .header) (x .subtasks) b is (before ++ (numberOf (w .value) ∷ [])) (s .field) (s .next .at)) same ∙ w .rest;
+      rest = ap (λ (s : SetRead). readItems text h n b is (before ++ (numberOf (w .value) ∷ [])) (w .after) (s .next .at)) same ∙ w .rest;
     }
 
 -- The action of four values.
@@ -171,77 +222,60 @@ four-sets ws ws₁ ws₂ ws₃ ws₄ v₀ v₁ v₂ v₃ n f a d e₀ e₁ e₂ 
     ∙ sym (ap C.actionOf (e₀ ∙ ap (λ (l : List Value). v₀ ∷ l) (e₁ ∙ ap (λ (l : List Value). v₁ ∷ l) (e₂ ∙ ap (λ (l : List Value). v₂ ∷ l) e₃))))
 
 -- The four sets of an A line: one after the other.
-module _ (text : List ℕ) (x : Context) (n f a d : SetRead)
-    (ef : f ≡ setRead (n .next) (n .field) (readItemIn text x noValues T.set (n .field) (n .next .at)))
-    (ea : a ≡ setRead (f .next) (f .field) (readItemIn text x noValues T.set (f .field) (f .next .at)))
-    (ed : d ≡ setRead (a .next) (a .field) (readItemIn text x noValues T.set (a .field) (a .next .at)))
-    (l b : ℕ) (vs : List Value) (next : ℕ) where
-  all-four : (v₀ : FirstSet text x b (T.set ∷ T.set ∷ T.set ∷ []) l vs next n) (v₁ : FirstSet text x b (T.set ∷ T.set ∷ []) l (v₀ .others) next f)
-      (v₂ : FirstSet text x b (T.set ∷ []) l (v₁ .others) next a) (v₃ : FirstSet text x b [] l (v₂ .others) next d)
+module _ (text : List ℕ) (h : Header) (m : ℕ) (n f a d : SetRead) (ef : f ≡ setAgain text (n .next)) (ea : a ≡ setAgain text (f .next)) (ed : d ≡ setAgain text (a .next)) (l b : ℕ) (vs : List Value) (next : ℕ) where
+  all-four : (v₀ : FirstSet text h m b (T.set ∷ T.set ∷ T.set ∷ []) l vs next n) (v₁ : FirstSet text h m b (T.set ∷ T.set ∷ []) l (v₀ .others) next f)
+      (v₂ : FirstSet text h m b (T.set ∷ []) l (v₁ .others) next a) (v₃ : FirstSet text h m b [] l (v₂ .others) next d)
       → actionOf (n .set) (f .set) (a .set) (d .set) ≡ C.actionOf vs
   all-four v₀ v₁ v₂ v₃ =
       four-sets vs (v₀ .others) (v₁ .others) (v₂ .others) (v₃ .others) (v₀ .value) (v₁ .value) (v₂ .value) (v₃ .value) (n .set) (f .set) (a .set) (d .set)
       (v₀ .all) (v₁ .all) (v₂ .all) (v₃ .all) (v₀ .set) (v₁ .set) (v₂ .set) (v₃ .set)
 
-  first-three : (v₀ : FirstSet text x b (T.set ∷ T.set ∷ T.set ∷ []) l vs next n) (v₁ : FirstSet text x b (T.set ∷ T.set ∷ []) l (v₀ .others) next f)
-      (v₂ : FirstSet text x b (T.set ∷ []) l (v₁ .others) next a) → actionOf (n .set) (f .set) (a .set) (d .set) ≡ C.actionOf vs
-  first-three v₀ v₁ v₂ = all-four v₀ v₁ v₂ (set-first text x b [] (v₂ .before) (a .field) (a .next) d ed (v₂ .rest))
+  first-three : (v₀ : FirstSet text h m b (T.set ∷ T.set ∷ T.set ∷ []) l vs next n) (v₁ : FirstSet text h m b (T.set ∷ T.set ∷ []) l (v₀ .others) next f)
+      (v₂ : FirstSet text h m b (T.set ∷ []) l (v₁ .others) next a) → actionOf (n .set) (f .set) (a .set) (d .set) ≡ C.actionOf vs
+  first-three v₀ v₁ v₂ = all-four v₀ v₁ v₂ (set-first text h m b [] (v₂ .before) (v₂ .field) (a .next) d ed (v₂ .rest))
 
-  first-two : (v₀ : FirstSet text x b (T.set ∷ T.set ∷ T.set ∷ []) l vs next n) (v₁ : FirstSet text x b (T.set ∷ T.set ∷ []) l (v₀ .others) next f)
+  first-two : (v₀ : FirstSet text h m b (T.set ∷ T.set ∷ T.set ∷ []) l vs next n) (v₁ : FirstSet text h m b (T.set ∷ T.set ∷ []) l (v₀ .others) next f)
       → actionOf (n .set) (f .set) (a .set) (d .set) ≡ C.actionOf vs
-  first-two v₀ v₁ = first-three v₀ v₁ (set-first text x b (T.set ∷ []) (v₁ .before) (f .field) (f .next) a ea (v₁ .rest))
+  first-two v₀ v₁ = first-three v₀ v₁ (set-first text h m b (T.set ∷ []) (v₁ .before) (v₁ .field) (f .next) a ea (v₁ .rest))
 
-  first-one : (v₀ : FirstSet text x b (T.set ∷ T.set ∷ T.set ∷ []) l vs next n) → actionOf (n .set) (f .set) (a .set) (d .set) ≡ C.actionOf vs
-  first-one v₀ = first-two v₀ (set-first text x b (T.set ∷ T.set ∷ []) (v₀ .before) (n .field) (n .next) f ef (v₀ .rest))
+  first-one : (v₀ : FirstSet text h m b (T.set ∷ T.set ∷ T.set ∷ []) l vs next n) → actionOf (n .set) (f .set) (a .set) (d .set) ≡ C.actionOf vs
+  first-one v₀ = first-two v₀ (set-first text h m b (T.set ∷ T.set ∷ []) (v₀ .before) (v₀ .field) (n .next) f ef (v₀ .rest))
 
-pub action-read : (text : List ℕ) (x : Context) (place : ℕ) (start : Cursor) (n f a d : SetRead)
-    → start .at ≡ pastLetter text place
-    → n ≡ setRead start 2 (readItemIn text x noValues T.set 2 (start .at))
-    → f ≡ setRead (n .next) (n .field) (readItemIn text x noValues T.set (n .field) (n .next .at))
-    → a ≡ setRead (f .next) (f .field) (readItemIn text x noValues T.set (f .field) (f .next .at))
-    → d ≡ setRead (a .next) (a .field) (readItemIn text x noValues T.set (a .field) (a .next .at))
-    → ActionSets text x place (record { needed = n .set; forbidden = f .set; added = a .set; deleted = d .set })
-action-read text x place start n f a d s en ef ea ed l vs next e =
-    go (line-items text T.action (x .header) (x .subtasks) (T.set ∷ T.set ∷ T.set ∷ T.set ∷ []) place action-only e)
-  where
-    go : (b : ℕ) × (readItems text (x .header) (x .subtasks) b (T.set ∷ T.set ∷ T.set ∷ T.set ∷ []) [] 2 (pastLetter text place) ≡ line l vs next)
-        → actionOf (n .set) (f .set) (a .set) (d .set) ≡ C.actionOf vs
-    go w =
-        first-one text x n f a d ef ea ed l (w .0) vs next
-        (set-first text x (w .0) (T.set ∷ T.set ∷ T.set ∷ []) [] 2 start n en
-        (ap (λ (p : ℕ). readItems text (x .header) (x .subtasks) (w .0) (T.set ∷ T.set ∷ T.set ∷ T.set ∷ []) [] 2 p) s ∙ w .1))
+pub action-read : (text : List ℕ) (place : ℕ) (start : Cursor) (n f a d : SetRead) → start .at ≡ pastLetter text place → n ≡ setAgain text start
+    → f ≡ setAgain text (n .next) → a ≡ setAgain text (f .next) → d ≡ setAgain text (a .next)
+    → ActionSets text place (record { needed = n .set; forbidden = f .set; added = a .set; deleted = d .set })
+action-read text place start n f a d s en ef ea ed h m l vs next e =
+    let w = line-items text T.action h m (T.set ∷ T.set ∷ T.set ∷ T.set ∷ []) place action-only e in
+    first-one text h m n f a d ef ea ed l (w .0) vs next
+    (set-first text h m (w .0) (T.set ∷ T.set ∷ T.set ∷ []) [] 2 start n en
+    (ap (λ (p : ℕ). readItems text h m (w .0) (T.set ∷ T.set ∷ T.set ∷ T.set ∷ []) [] 2 p) s ∙ w .1))
 
 -- The set of the I line.
-pub initial-read : (text : List ℕ) (x : Context) (place : ℕ) (start : Cursor) (r : SetRead) → start .at ≡ pastLetter text place
-    → r ≡ setRead start 2 (readItemIn text x noValues T.set 2 (start .at)) → InitialSet text x place (r .set)
+pub initial-read : (text : List ℕ) (place : ℕ) (start : Cursor) (r : SetRead) → start .at ≡ pastLetter text place → r ≡ setAgain text start
+    → InitialSet text place (r .set)
 unfolding setAt membersAt
-initial-read text x place start r s er l vs next e =
-    let w = line-items text T.initial (x .header) (x .subtasks) (T.set ∷ []) place initial-only e in
-    let here = ap (λ (p : ℕ). readItems text (x .header) (x .subtasks) (w .0) (T.set ∷ []) [] 2 p) s ∙ w .1 in
-    let v = set-first text x (w .0) [] [] 2 start r er here in
+initial-read text place start r s er h m l vs next e =
+    let w = line-items text T.initial h m (T.set ∷ []) place initial-only e in
+    let here = ap (λ (p : ℕ). readItems text h m (w .0) (T.set ∷ []) [] 2 p) s ∙ w .1 in
+    let v = set-first text h m (w .0) [] [] 2 start r er here in
     v .set ∙ ap (λ (ws : List Value). setAt ws 0) (sym (v .all))
 
--- ---- What the code made of a set that was read
+-- ---- The loop over a set's members
 
--- The set of an outcome, and the field after it.
-abbrev pub setBy : Cursor → ℕ → State → Outcome → SetRead
-setBy c field s (Done v after d) = record { set = s; field = after; next = d }
-setBy c field s (Bad f) = record { set = s; field = field; next = c }
-setBy c field s (Range f) = record { set = s; field = field; next = c }
+pub put-start : (text : List ℕ) (count : ℕ) (s : List ℕ) (c : Cursor) → membersAgain text count s c ≡ membersAgain text (count - 0) s c
+put-start text count s c = let e : count ≡ count - 0 = omega arith in ap (λ (n : ℕ). membersAgain text n s c) e
 
-set-by : (c : Cursor) (field : ℕ) (y : ItemRead) → setBy c field (asItem y .members) (asItem y .outcome) ≡ setRead c field y
-unfolding asItem
-set-by c field (item (T.scalar v) after next) = refl
-set-by c field (item (T.members vs) after next) = refl
-set-by c field (ItemRead.unreadable f) = refl
-set-by c field (ItemRead.outside f) = refl
+pub put-next : (text : List ℕ) (count left : ℕ) (s : List ℕ) (c : Cursor) (x : Numbered) {s′ : List ℕ} → count ≡ suc left → x ≡ numberHere text c
+    → s′ ≡ insert s (x .value) → membersAgain text count s c ≡ membersAgain text left s′ (x .next)
+put-next text count left s c x {s′} e q es =
+    ap (λ (n : ℕ). membersAgain text n s c) e
+    ∙ ap (λ (y : Numbered). membersAgain text left (insert s (y .value)) (y .next)) (sym q)
+    ∙ ap (λ (ws : List ℕ). membersAgain text left ws (x .next)) (sym es)
 
-pub set-read : (c : Cursor) (field : ℕ) (y : ItemRead) (r : ReadItem) (o : Outcome) → r ≡ asItem y → r .outcome ≡ o
-    → setBy c field (r .members) o ≡ setRead c field y
-set-read c field y r o e q =
-    ap (setBy c field (r .members)) (sym q) ∙ ap (λ (z : ReadItem). setBy c field (z .members) (z .outcome)) e ∙ set-by c field y
+pub put-end : (text : List ℕ) (count : ℕ) (s : List ℕ) (c : Cursor) → count ≡ 0 → membersAgain text count s c ≡ setThen s c
+put-end text count s c e = ap (λ (n : ℕ). membersAgain text n s c) e
 
--- ---- What the code made of a letter and of a number
+-- ---- What the code made of a letter
 
 abbrev pub letterBy : Cursor → LineLetter → ℕ
 letterBy c (Byte b d) = d .at
@@ -254,16 +288,3 @@ letter-by c noLetter = refl
 pub letter-read : (text : List ℕ) (c : Cursor) (r : LineLetter) → r ≡ asLetter (letterAt text (c .at)) → letterBy c r ≡ pastLetter text (c .at)
 unfolding pastLetter
 letter-read text c r e = ap (letterBy c) e ∙ letter-by c (letterAt text (c .at))
-
-abbrev pub cueBy : Cursor → Field → Cue
-cueBy c (FieldNumber v d) = record { action = v; next = d }
-cueBy c NotPlain = record { action = 0; next = c }
-cueBy c Missing = record { action = 0; next = c }
-
-cue-by : (c : Cursor) (y : Number) → cueBy c (asField y) ≡ cueRead c y
-cue-by c (number v next) = refl
-cue-by c notPlain = refl
-cue-by c missing = refl
-
-pub cue-read : (c : Cursor) (y : Number) (r : Field) → r ≡ asField y → cueBy c r ≡ cueRead c y
-cue-read c y r e = ap (cueBy c) e ∙ cue-by c y

@@ -22,14 +22,14 @@ use Rattle.state.specs.declared.State.{State}
 use Rattle.state.specs.declared.Stepped.{Stepped}
 use Rattle.state.specs.Action.{actionOf}
 use Rattle.text.specs.declared.Cursor.{Cursor}
-use Rattle.lines.specs.declared.range.Context.{Context}
+use Rattle.reading.specs.declared.again.Numbered.{Numbered}
+use Rattle.reading.specs.Again.{numberOr}
 use Rattle.reading.specs.Directory.{LineIs, Finds, directorySize}
 use Rattle.rows.specs.Rows.{putRow, putRows}
 use Rattle.replay.specs.declared.again.Sets.{Sets}
-use Rattle.replay.specs.declared.again.Cue.{Cue}
 use Rattle.replay.specs.declared.running.Ran.{Ran}
 use Rattle.replay.specs.declared.running.Ran.the-variants.{All, Stopped}
-use Rattle.replay.specs.Again.{pastLetter, cueRead, ActionSets, InitialSet}
+use Rattle.replay.specs.Again.{pastLetter, numberHere, ActionSets, InitialSet}
 use Rattle.replay.specs.Running.{caseOf, Left, ranOf, RanAs}
 use Rattle.replay.proofs.Plan.{Cues, plan-cues}
 
@@ -60,7 +60,7 @@ module _ (text directory : List ℕ) (h : Header) (initial plan : ℕ) (left : L
       omega arith
 
   -- The action line that the directory finds, read again.
-  found : (a place : ℕ) → a < h .actions → place ≡ getD directory a 0 → (r : Sets) → ActionSets text (record { header = h; subtasks = 0 }) place r
+  found : (a place : ℕ) → a < h .actions → place ≡ getD directory a 0 → (r : Sets) → ActionSets text place r
       → actionOf (r .needed) (r .forbidden) (r .added) (r .deleted) ≡ actionAt (caseOf text .actions) a
   found a place b e r sets =
       let f = left .finds in
@@ -68,21 +68,21 @@ module _ (text directory : List ℕ) (h : Header) (initial plan : ℕ) (left : L
       let w = f .actionLine a known in
       let reads : readLine text T.action h 0 place ≡ line (w .letter) (w .values) (w .next) =
       (λ j. readLine text T.action (left .head j) 0 (e j)) ∙ w .reads in
-      sets (w .letter) (w .values) (w .next) reads ∙ f .actionSets a known
+      sets h 0 (w .letter) (w .values) (w .next) reads ∙ f .actionSets a known
 
-  pub cue-steps : (a place : ℕ) → a < h .actions → place ≡ getD directory a 0 → (r : Sets) → ActionSets text (record { header = h; subtasks = 0 }) place r
+  pub cue-steps : (a place : ℕ) → a < h .actions → place ≡ getD directory a 0 → (r : Sets) → ActionSets text place r
       → (s : List ℕ) (x : Stepped) → (x .ok, x .state .words) ≡ step s (actionOf (r .needed) (r .forbidden) (r .added) (r .deleted))
       → (x .ok, x .state .words) ≡ step s (actionAt (caseOf text .actions) a)
   cue-steps a place b e r sets s x q = q ∙ ap (step s) (found a place b e r sets)
 
   -- The I line that was found, read again.
-  pub initial-is : (s : State) → InitialSet text (record { header = h; subtasks = 0 }) initial s → s .words ≡ caseOf text .initial
+  pub initial-is : (s : State) → InitialSet text initial s → s .words ≡ caseOf text .initial
   initial-is s set =
       let f = left .finds in
       let w = f .initialLine in
       let reads : readLine text T.initial h 0 initial ≡ line (w .letter) (w .values) (w .next) =
       ap (λ (x : Header). readLine text T.initial x 0 initial) (left .head) ∙ w .reads in
-      set (w .letter) (w .values) (w .next) reads ∙ f .initialSet
+      set h 0 (w .letter) (w .values) (w .next) reads ∙ f .initialSet
 
 -- ---- One step
 
@@ -147,44 +147,44 @@ reached-none text directory h initial plan left l c s e q =
     }
 
 -- The cue that is due, and what stands after it.
-record Due (text : List ℕ) (k : Case) (cue : Cue) (i : ℕ) : Type 0 where
-  split : drop i (k .plan) ≡ cue .action ∷ drop (i + 1) (k .plan)
-  known : cue .action < k .head .actions
+record Due (text : List ℕ) (k : Case) (cue : Numbered) (i : ℕ) : Type 0 where
+  split : drop i (k .plan) ≡ cue .value ∷ drop (i + 1) (k .plan)
+  known : cue .value < k .head .actions
   later : Cues text (k .head .actions) (drop (i + 1) (k .plan)) (cue .next .at)
 
 module _ (text : List ℕ) (k : Case) (before : List ℕ) (c : Cursor) (s : State) (l : List ℕ) (i : ℕ) (w : Reached text k before c s l i) where
-  module _ (more : i < length (k .plan)) (cue : Cue) (read : cue ≡ cueRead c (numberAt text (c .at))) where
+  module _ (more : i < length (k .plan)) (cue : Numbered) (read : cue ≡ numberHere text c) where
     due : Due text k cue i
     due =
         let split : drop i (k .plan) ≡ getD (k .plan) i 0 ∷ drop (i + 1) (k .plan) =
         drop-cons (k .plan) i 0 more ∙ ap (λ (n : ℕ). getD (k .plan) i 0 ∷ drop n (k .plan)) (sym (add-one i)) in
         let all = subst (λ (plan : List ℕ). Cues text (k .head .actions) plan (c .at)) split (w .cues) in
-        let same : cue ≡ cueRead c (number (getD (k .plan) i 0) (all .0)) = read ∙ ap (cueRead c) (all .1) in
-        let named : cue .action ≡ getD (k .plan) i 0 = ap (λ (x : Cue). x .action) same in
-        let there : cue .next .at ≡ all .0 = ap (λ (x : Cue). x .next .at) same in
+        let same : cue ≡ numberOr c (number (getD (k .plan) i 0) (all .0)) = read ∙ ap (numberOr c) (all .1) in
+        let named : cue .value ≡ getD (k .plan) i 0 = ap (λ (x : Numbered). x .value) same in
+        let there : cue .next .at ≡ all .0 = ap (λ (x : Numbered). x .next .at) same in
         record {
           split = split ∙ ap (λ (a : ℕ). a ∷ drop (i + 1) (k .plan)) (sym named);
           known = subst (λ (a : ℕ). a < k .head .actions) (sym named) (all .2);
           later = subst (λ (p : ℕ). Cues text (k .head .actions) (drop (i + 1) (k .plan)) p) (sym there) (all .3);
         }
 
-    pub due-known : cue .action < k .head .actions
+    pub due-known : cue .value < k .head .actions
     due-known = due .known
 
-    module _ (x : Stepped) (steps : (x .ok, x .state .words) ≡ step (s .words) (actionAt (k .actions) (cue .action))) where
+    module _ (x : Stepped) (steps : (x .ok, x .state .words) ≡ step (s .words) (actionAt (k .actions) (cue .value))) where
       pub reached-next : (m : List ℕ) → x .ok ≡ true → length m ≡ length before → m ≡ putRow l i (s .words)
           → Reached text k before (cue .next) (x .state) m (i + 1)
       reached-next m ok size e =
           let d = due in
-          let y = step-yes (s .words) (actionAt (k .actions) (cue .action)) x steps ok in
+          let y = step-yes (s .words) (actionAt (k .actions) (cue .value)) x steps ok in
           record {
             most = omega arith;
             size = size;
             cues = d .later;
             stop = w .stop ∙ ap (λ (plan : List ℕ). firstStop (k .actions) plan (s .words) (i + 1)) (d .split)
-                ∙ stop-next (k .actions) (cue .action) (drop (i + 1) (k .plan)) (s .words) (x .state .words) (i + 1) (y .0) (y .1);
+                ∙ stop-next (k .actions) (cue .value) (drop (i + 1) (k .plan)) (s .words) (x .state .words) (i + 1) (y .0) (y .1);
             rows = w .rows ∙ ap (λ (plan : List ℕ). putRows l i (states (k .actions) plan (s .words))) (d .split)
-                ∙ rows-next (k .actions) (cue .action) (drop (i + 1) (k .plan)) (s .words) (x .state .words) l m i (y .1) e;
+                ∙ rows-next (k .actions) (cue .value) (drop (i + 1) (k .plan)) (s .words) (x .state .words) l m i (y .1) e;
           }
 
       pub reached-stop : (after : List ℕ) → x .ok ≡ false → RanAs k (Stopped (i + 1)) before after
@@ -193,8 +193,8 @@ module _ (text : List ℕ) (k : Case) (before : List ℕ) (c : Cursor) (s : Stat
           record {
             answer = sym (ap ranOf
                 (w .stop ∙ ap (λ (plan : List ℕ). firstStop (k .actions) plan (s .words) (i + 1)) (d .split)
-                ∙ stop-here (k .actions) (cue .action) (drop (i + 1) (k .plan)) (s .words) (i + 1)
-                (step-no (s .words) (actionAt (k .actions) (cue .action)) x steps fails)));
+                ∙ stop-here (k .actions) (cue .value) (drop (i + 1) (k .plan)) (s .words) (i + 1)
+                (step-no (s .words) (actionAt (k .actions) (cue .value)) x steps fails)));
             written = λ e. let z : _≡_ {A = ℕ} 0 1 = cc in absurd (omega arith);
           }
 

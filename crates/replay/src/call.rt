@@ -7,7 +7,6 @@ ghost use Rattle.replay.specs.Running.{caseOf, Left, replayRun, replayTe
 use crate::again;
 use crate::running;
 use crate::running::Ran;
-use lines::Context;
 use reading::CaseRead;
 use rules::Answer;
 use rules::Header;
@@ -31,14 +30,7 @@ fn replay_case(
     ensures { λ r. ⌜ r ≡ answerOf (replayRun (caseOf (now (text .entry)))) ⌝ }
     ensures { λ r. ⌜ now (states .exit) ≡ statesAfter (length (now (states .entry))) (replayRun (caseOf (now (text .entry)))) ⌝ }
 {
-    let first = again::read_initial(
-        text,
-        initial,
-        Context {
-            header,
-            subtasks: 0,
-        },
-    );
+    let first = again::read_initial(text, initial);
     match running::run(text, directory, header, plan, first, states) {
         Ran::All => Answer::Accepted {
             cues: header.cues,

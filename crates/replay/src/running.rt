@@ -5,7 +5,6 @@ ghost use lib.ListN.{length};
 ghost use Rattle.rules.specs.State.{wordCount, actionAt, step};
 ghost use Rattle.replay.specs.Running.{caseOf, Left, RanAs};
 use crate::again;
-use lines::Context;
 use rules::Header;
 use state::State;
 use state::Stepped;
@@ -25,14 +24,7 @@ fn take_cue(text: &[u8], directory: &[u32], header: Header, action: u32, s: Stat
 {
     let place = directory[action as usize];
     let at = Cursor { at: place as usize };
-    let a = again::read_action(
-        text,
-        at,
-        Context {
-            header,
-            subtasks: 0,
-        },
-    );
+    let a = again::read_action(text, at);
     let needed = a.needed;
     let forbidden = a.forbidden;
     let added = a.added;
@@ -60,8 +52,8 @@ pub fn run(
     let mut i: u32 = 0;
     while i < header.cues {
         rows::put_row(states, i as usize, s);
-        let cue = again::next_cue(text, at);
-        let r = take_cue(text, directory, header, cue.action, s);
+        let cue = reading::number_again(text, at);
+        let r = take_cue(text, directory, header, cue.value, s);
         if r.ok {
             s = r.state;
             at = cue.next;

@@ -1,63 +1,85 @@
--- `next_set`: by the outcome of the set; a set's count is a 32-bit number, which bounds the number of the field after it. Assumes nothing.
-use Rattle.lines.proofs.Lines.{field-after}
-use Rattle.lines.specs.Reading.{readItemIn, noValues}
-use Rattle.lines.specs.declared.item.ItemRead.{ItemRead}
-use Rattle.lines.specs.declared.item.Outcome.the-variants.{Done, Bad, Range}
-use Rattle.replay.proofs.Lines.{set-read}
+-- `next_set`: the set from its start on is what the members left make of the set so far. Assumes nothing.
+use Prim.Native.Nat.{ℕ, suc, _+_, _-_, _≤_}
+use Rattle.replay.proofs.Lines.{put-start, put-next, put-end}
 use Rattle.replay.proofs.again.next_set.Statement.{statement}
 use Rattle.replay.proofs.again.next_set.Tie as tie
-use Rattle.rules.specs.Table.{set}
+use Rattle.replay.specs.Again.{membersAgain, setAgain}
+use Rattle.reading.specs.declared.again.Numbered.{Numbered}
+use Rattle.rules.specs.State.{wordCount, empty, insert}
 use borrow.Author.Needs.{needs}
-use mathlib.Core.Path.{sym, ap, _∙_}
+use lib.ListN.{length, length-set}
+use mathlib.Core.List.{List, [], _∷_}
+use mathlib.Core.Path.{_≡_, refl, sym, ap, _∙_}
 use native.Mathlib.Omega.{arith}
 
-read-set-requires : tie.Need-read-set-requires
-read-set-requires c κs = search needs
+abbrev Inv-loop : tie.InvT-loop
+Inv-loop text count words₀ at₀ i₀ words at i =
+    (i ≤ count .value) × (length words ≡ wordCount)
+    × (membersAgain text (count .value) words₀ at₀ ≡ membersAgain text (count .value - i) words at)
 
-enum-known-outcome : tie.Need-enum-known-outcome
-enum-known-outcome c = search needs
+abbrev μ-loop : tie.MeasureT-loop
+μ-loop text count words₀ at₀ i₀ words at i = count .value - i
 
-enum-told : tie.Need-enum-told
-enum-told c = search needs
+number-again-requires : tie.Need-number-again-requires Inv-loop μ-loop
+number-again-requires c κs = search needs
 
-enum-told-2 : tie.Need-enum-told-2
-enum-told-2 c = search needs
+loop-holds : tie.Need-loop-holds Inv-loop μ-loop
+unfolding wordCount
+loop-holds c =
+    let a = c .before .before .before .args in
+    let n = c .before .number-again .result in
+    (omega arith, refl, put-start (a .text .now) (n .value) _ (n .next))
 
-returns : tie.Need-returns
+number-again-requires-2 : tie.Need-number-again-requires-2 Inv-loop μ-loop
+number-again-requires-2 c κs = search needs
+
+slice-aggregate-insert : tie.Need-slice-aggregate-insert Inv-loop μ-loop
+unfolding wordCount
+slice-aggregate-insert c = sym (c .before .before .before .before .loop .inv .1)
+
+insert-requires : tie.Need-insert-requires Inv-loop μ-loop
+insert-requires c κs = search needs
+
+add-i : tie.Need-add-i Inv-loop μ-loop
+add-i c = search needs
+
+loop-less : tie.Need-loop-less Inv-loop μ-loop
+loop-less c = search needs
+
+loop-again : tie.Need-loop-again Inv-loop μ-loop
+unfolding insert
+loop-again c =
+    let a = c .before .before .before .before .before .before .before .before .before .before .before .args in
+    let n = c .before .before .before .before .before .before .before .before .before .number-again .result in
+    let l = c .before .before .before .before .before .before .before .loop in
+    let left : n .value - l .i ≡ suc (n .value - (l .i + 1)) = omega arith in (
+      omega arith,
+      ap length (c .before .before .insert .ensures) ∙ length-set (l .words) _ _ ∙ l .inv .1,
+      l .inv .2 ∙ put-next (a .text .now) (n .value - l .i) (n .value - (l .i + 1)) (l .words) (l .at) (c .before .before .before .before .number-again2 .result) left (c .before .before .before .before .number-again2 .ensures) (c .before .before .insert .ensures),
+    )
+
+returns : tie.Need-returns Inv-loop μ-loop
+unfolding setAgain empty wordCount
 returns c =
     let a = c .before .before .before .before .before .before .args in
-    let o = c .before .outcome .given in
-    let last = field-after (a .text .now) (a .x .header) (a .x .subtasks) noValues set (a .field) (a .c .at) (o .0 .0) (o .0 .1 .0) (o .0 .1 .1 .0)
-    (sym (o .1) ∙ ap (λ (r : ItemRead). r .outcome) (c .before .before .before .before .read-set .ensures)) in (
-      set-read (a .c) (a .field) (readItemIn (a .text .now) (a .x) noValues set (a .field) (a .c .at)) (c .before .before .before .before .read-set .result)
-          (Done (o .0 .0) (o .0 .1 .0) (o .0 .1 .1 .0)) (c .before .before .before .before .read-set .ensures) (o .1),
-      omega arith,
-    )
-
-returns-2 : tie.Need-returns-2
-returns-2 c =
-    let a = c .before .before .before .before .before .args in
-    let o = c .enum-told .given in (
-      set-read (a .c) (a .field) (readItemIn (a .text .now) (a .x) noValues set (a .field) (a .c .at)) (c .before .before .before .read-set .result) (Bad (o .0 .0)) (c .before .before .before .read-set .ensures) (o .1),
-      omega arith,
-    )
-
-returns-3 : tie.Need-returns-3
-returns-3 c =
-    let a = c .before .before .before .before .before .args in
-    let o = c .enum-told2 .given in (
-      set-read (a .c) (a .field) (readItemIn (a .text .now) (a .x) noValues set (a .field) (a .c .at)) (c .before .before .before .read-set .result) (Range (o .0 .0)) (c .before .before .before .read-set .ensures) (o .1),
-      omega arith,
-    )
+    let n = c .before .before .before .before .number-again .result in
+    let l = c .before .before .loop in
+    let none : n .value - l .i ≡ 0 = omega arith in
+    sym (put-end (a .text .now) (n .value - l .i) (l .words) (l .at) none) ∙ sym (l .inv .2)
+    ∙ ap (λ (x : Numbered). membersAgain (a .text .now) (x .value) empty (x .next)) (c .before .before .before .before .number-again .ensures)
 
 pub next-set-spec : {M : Type 1} → statement M
 next-set-spec =
     tie.close
     (tie.spec
-    read-set-requires
-    enum-known-outcome
-    enum-told
-    enum-told-2
-    returns
-    returns-2
-    returns-3)
+    Inv-loop
+    μ-loop
+    number-again-requires
+    loop-holds
+    number-again-requires-2
+    slice-aggregate-insert
+    insert-requires
+    add-i
+    loop-less
+    loop-again
+    returns)

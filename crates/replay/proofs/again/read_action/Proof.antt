@@ -3,7 +3,6 @@ use Rattle.replay.proofs.Lines.{action-read}
 use Rattle.replay.proofs.again.read_action.Statement.{statement}
 use Rattle.replay.proofs.again.read_action.Tie as tie
 use borrow.Author.Needs.{needs}
-use native.Mathlib.Omega.{arith}
 
 after-letter-requires : tie.Need-after-letter-requires
 after-letter-requires c κs = search needs
@@ -12,19 +11,19 @@ next-set-requires : tie.Need-next-set-requires
 next-set-requires c κs = search needs
 
 next-set-requires-2 : tie.Need-next-set-requires-2
-next-set-requires-2 c κs = omega (arith, c .before .next-set .ensures .1)
+next-set-requires-2 c κs = search needs
 
 next-set-requires-3 : tie.Need-next-set-requires-3
-next-set-requires-3 c κs = omega (arith, c .before .before .before .next-set .ensures .1, c .before .next-set2 .ensures .1)
+next-set-requires-3 c κs = search needs
 
 next-set-requires-4 : tie.Need-next-set-requires-4
-next-set-requires-4 c κs = omega (arith, c .before .before .before .before .before .next-set .ensures .1, c .before .before .before .next-set2 .ensures .1, c .before .next-set3 .ensures .1)
+next-set-requires-4 c κs = search needs
 
 returns : tie.Need-returns
 returns c =
-    let a = c .before .before .before .before .before .before .before .before .before .before .before .before .before .args in
-    action-read (a .text .now) (a .x) (a .c .at) (c .before .before .before .before .before .before .before .before .before .before .before .after-letter .result) (c .before .before .before .before .before .before .before .before .before .before .next-set .result) (c .before .before .before .before .before .before .before .before .next-set2 .result) (c .before .before .before .before .before .before .next-set3 .result) (c .before .before .before .before .next-set4 .result)
-    (c .before .before .before .before .before .before .before .before .before .before .before .after-letter .ensures) (c .before .before .before .before .before .before .before .before .before .before .next-set .ensures .0) (c .before .before .before .before .before .before .before .before .next-set2 .ensures .0) (c .before .before .before .before .before .before .next-set3 .ensures .0) (c .before .before .before .before .next-set4 .ensures .0)
+    let a = c .before .before .before .before .before .before .before .before .before .before .args in
+    action-read (a .text .now) (a .c .at) (c .before .before .before .before .before .before .before .before .after-letter .result) (c .before .before .before .before .before .before .before .next-set .result) (c .before .before .before .before .before .before .next-set2 .result) (c .before .before .before .before .before .next-set3 .result) (c .before .before .before .before .next-set4 .result)
+    (c .before .before .before .before .before .before .before .before .after-letter .ensures) (c .before .before .before .before .before .before .before .next-set .ensures) (c .before .before .before .before .before .before .next-set2 .ensures) (c .before .before .before .before .before .next-set3 .ensures) (c .before .before .before .before .next-set4 .ensures)
 
 pub read-action-spec : {M : Type 1} → statement M
 read-action-spec =

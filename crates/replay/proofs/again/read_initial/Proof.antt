@@ -13,7 +13,7 @@ next-set-requires c κs = search needs
 returns : tie.Need-returns
 returns c =
     let a = c .before .before .before .before .args in
-    initial-read (a .text .now) (a .x) (a .c .at) (c .before .before .after-letter .result) (c .before .next-set .result) (c .before .before .after-letter .ensures) (c .before .next-set .ensures .0)
+    initial-read (a .text .now) (a .c .at) (c .before .before .after-letter .result) (c .before .next-set .result) (c .before .before .after-letter .ensures) (c .before .next-set .ensures)
 
 pub read-initial-spec : {M : Type 1} → statement M
 read-initial-spec = tie.close (tie.spec after-letter-requires next-set-requires returns)

@@ -37,8 +37,8 @@ put-row-requires c κs =
     let more = c .before .if1 .taken in
     omega arith
 
-next-cue-requires : tie.Need-next-cue-requires Inv-loop μ-loop
-next-cue-requires c κs = search needs
+number-again-requires : tie.Need-number-again-requires Inv-loop μ-loop
+number-again-requires c κs = search needs
 
 take-cue-requires : tie.Need-take-cue-requires Inv-loop μ-loop
 take-cue-requires c κs =
@@ -48,8 +48,8 @@ take-cue-requires c κs =
     let long = plan-long (a .text .now) (a .directory .now) (a .header) (p .0 .0) (a .plan .at) (p .0 .1) in
     let more : l .i < length (caseOf (a .text .now) .plan) = omega (arith, c .before .before .before .before .before .if1 .taken) in (
       (p .0 .0, a .plan .at, p .0 .1),
-      cue-known (a .text .now) (a .directory .now) (a .header) (p .0 .0) (a .plan .at) (p .0 .1) (c .next-cue .result .action)
-          (due-known (a .text .now) (caseOf (a .text .now)) (a .states .now) (l .at) (l .s) (l .states) (l .i) (l .inv) more (c .next-cue .result) (c .next-cue .ensures)),
+      cue-known (a .text .now) (a .directory .now) (a .header) (p .0 .0) (a .plan .at) (p .0 .1) (c .number-again .result .value)
+          (due-known (a .text .now) (caseOf (a .text .now)) (a .states .now) (l .at) (l .s) (l .states) (l .i) (l .inv) more (c .number-again .result) (c .number-again .ensures)),
     )
 
 add-i : tie.Need-add-i Inv-loop μ-loop
@@ -65,7 +65,7 @@ loop-again c =
     let l = c .before .before .before .before .before .before .before .before .before .before .before .loop in
     let long = plan-long (a .text .now) (a .directory .now) (a .header) (p .0 .0) (a .plan .at) (p .0 .1) in
     let more : l .i < length (caseOf (a .text .now) .plan) = omega (arith, c .before .before .before .before .before .before .before .before .before .if1 .taken) in
-    reached-next (a .text .now) (caseOf (a .text .now)) (a .states .now) (l .at) (l .s) (l .states) (l .i) (l .inv) more (c .before .before .before .before .next-cue .result) (c .before .before .before .before .next-cue .ensures)
+    reached-next (a .text .now) (caseOf (a .text .now)) (a .states .now) (l .at) (l .s) (l .states) (l .i) (l .inv) more (c .before .before .before .before .number-again .result) (c .before .before .before .before .number-again .ensures)
     (c .before .before .before .take-cue .result) (c .before .before .before .take-cue .ensures) (c .before .before .before .before .before .before .before .put-row .last .0) (c .before .before .if2 .taken) (c .before .before .before .before .before .before .before .put-row .kept .0 ∙ l .inv .size) (c .before .before .before .before .before .before .before .put-row .ensures)
 
 add-t17 : tie.Need-add-t17 Inv-loop μ-loop
@@ -81,7 +81,7 @@ returns c =
     let l = c .before .before .before .before .before .before .before .before .before .loop in
     let long = plan-long (a .text .now) (a .directory .now) (a .header) (p .0 .0) (a .plan .at) (p .0 .1) in
     let more : l .i < length (caseOf (a .text .now) .plan) = omega (arith, c .before .before .before .before .before .before .before .if1 .taken) in
-    reached-stop (a .text .now) (caseOf (a .text .now)) (a .states .now) (l .at) (l .s) (l .states) (l .i) (l .inv) more (c .before .before .next-cue .result) (c .before .before .next-cue .ensures)
+    reached-stop (a .text .now) (caseOf (a .text .now)) (a .states .now) (l .at) (l .s) (l .states) (l .i) (l .inv) more (c .before .before .number-again .result) (c .before .before .number-again .ensures)
     (c .before .take-cue .result) (c .before .take-cue .ensures) (c .before .before .before .before .before .put-row .last .0) (c .if2 .left)
 
 cast-put-row-2 : tie.Need-cast-put-row-2 Inv-loop μ-loop
@@ -126,7 +126,7 @@ run-spec =
     loop-holds
     cast-put-row
     put-row-requires
-    next-cue-requires
+    number-again-requires
     take-cue-requires
     add-i
     loop-less

@@ -3,8 +3,8 @@ use Rattle.reading.proofs.Rereading.{numbered-of}
 use Rattle.rules.specs.Text.{numberAt}
 use mathlib.Core.Path.{sym, _∙_}
 use borrow.Author.Needs.{needs}
-use Rattle.reading.proofs.again.number_or_none.Statement.{statement}
-use Rattle.reading.proofs.again.number_or_none.Tie as tie
+use Rattle.reading.proofs.again.number_again.Statement.{statement}
+use Rattle.reading.proofs.again.number_again.Tie as tie
 
 number-requires : tie.Need-number-requires
 number-requires c κs = search needs
@@ -33,7 +33,7 @@ returns-3 c =
     let a = c .before .before .before .before .args in
     numbered-of (a .c) (numberAt (a .text .now) (a .c .at)) (sym (c .enum-told2 .given .1) ∙ c .before .before .number .ensures)
 
-pub number-or-none-spec : {M : Type 1} → statement M
-number-or-none-spec =
+pub number-again-spec : {M : Type 1} → statement M
+number-again-spec =
     tie.close
     (tie.spec number-requires enum-known-value enum-told enum-told-2 returns returns-2 returns-3)
