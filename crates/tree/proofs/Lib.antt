@@ -7,5 +7,6 @@ pub mod Preorder
 mod Judging
 mod Steps
 mod Passing
+mod Siblings
 pub mod Within
 mod Whole

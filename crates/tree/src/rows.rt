@@ -107,15 +107,15 @@ pub fn note(work: &mut [u32], node: u32, walked: Walked)
     }
 }
 
-// The span of one subtask joined to that of those after it: "the least start and [..] the greatest end of its subtasks, empty ones
-// counted".
+// The span of the subtasks so far joined to that of the last one walked: "the least start and [..] the greatest end of its subtasks, empty
+// ones counted".
 pub fn join(span: Span, walked: Walked) -> Walked
     ensures { λ r. ⌜ r ≡ joined (spanOf span) walked ⌝ }
 {
     match walked {
-        Walked::Next { next, span: others } => Walked::Next {
+        Walked::Next { next, span: last } => Walked::Next {
             next,
-            span: span.join(others),
+            span: span.join(last),
         },
         Walked::Refused { answer } => Walked::Refused { answer },
     }

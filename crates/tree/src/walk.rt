@@ -65,7 +65,8 @@ fn walk_node(text: &[u8], g: Given, work: &mut [u32], p: Place, task: u32, level
     }
 }
 
-// The subtasks of a node at `level`, one at least: "walking each node among them in turn", the first of them here.
+// The subtasks of a node at `level`, one at least: "walking each node among them in turn", the first of them here. A loop: the stack grows
+// with the levels, and not with the siblings.
 fn walk_subtasks(
     text: &[u8],
     g: Given,
@@ -79,18 +80,19 @@ fn walk_subtasks(
     ensures { λ r. ⌜ WalksList (now (text .entry)) (caseIn (now (text .entry))) (64 - level) (numbersAt (now (text .entry)) (subtasks .count) (subtasks .at .at)) (p .node) (now (work .entry)) r (now (work .exit)) ⌝ }
 {
     let first = first_of(text, subtasks);
-    let rest = first.rest;
-    let one = walk_node(text, g, work, p, first.task, level + 1);
-    match one {
-        Walked::Next { next, span } => {
-            if rest.count == 0 {
-                return one;
+    let mut rest = first.rest;
+    let mut walked = walk_node(text, g, work, p, first.task, level + 1);
+    while 0 < rest.count {
+        match walked {
+            Walked::Next { next, span } => {
+                let one = first_of(text, rest);
+                walked = rows::join(span, walk_node(text, g, work, next, one.task, level + 1));
+                rest = one.rest;
             }
-            let others = walk_subtasks(text, g, work, next, rest, level);
-            rows::join(span, others)
+            Walked::Refused { answer } => return Walked::Refused { answer },
         }
-        Walked::Refused { answer } => Walked::Refused { answer },
     }
+    walked
 }
 
 // How the walk of the whole tree ended.

@@ -1,11 +1,12 @@
 -- The proof of the cycle of calls {walk_node, walk_subtasks}. "Nodes left and level give the falling number": a node hands its subtasks one
--- node less, the subtasks hand each node one level less, and go on behind a node that passed some. Assumes nothing.
+-- node less, and the subtasks hand each node one level less. Assumes nothing.
 use Prim.Native.Nat.{ℕ, _+_, _-_, _<_}
 use Rattle.tree.proofs.walk.+walk_node+walk_subtasks.Lts-walk_node as walk-node-lts
 use Rattle.tree.proofs.walk.+walk_node+walk_subtasks.Lts-walk_subtasks as walk-subtasks-lts
 use Rattle.tree.proofs.walk.+walk_node+walk_subtasks.Tie.{close}
 use Rattle.tree.proofs.walk.+walk_node+walk_subtasks.{statement}
-use Rattle.tree.proofs.Passing.{refuses, inside, rests, claims, opens, others, last-one, stops, moves}
+use Rattle.tree.proofs.Passing.{refuses, inside, rests, claims, opens}
+use Rattle.tree.proofs.Siblings.{fewer, Begun, begins, goes-on, moves, ends, stops}
 use Rattle.tree.proofs.Steps.{nodes-few, cues-few, claim-low}
 use Rattle.tree.proofs.fit.judge.Reads as judge-reads
 use Rattle.tree.proofs.rows.claim.Reads as claim-reads
@@ -17,13 +18,13 @@ use Rattle.tree.proofs.walk.walk_node.Kinds as walk-node-kinds
 use Rattle.tree.proofs.walk.walk_node.Reads as walk-node
 use Rattle.tree.proofs.walk.walk_subtasks.Kinds as walk-subtasks-kinds
 use Rattle.tree.proofs.walk.walk_subtasks.Reads as walk-subtasks
-use Rattle.tree.specs.Numbers.{caseIn}
+use Rattle.tree.specs.Numbers.{numbersAt, caseIn}
 use Rattle.tree.specs.Standing.{Judged}
-use Rattle.tree.specs.declared.rows.Walked.the-variants.{Next, Refused}
 use borrow.Author.Needs.{needs}
 use borrow.Fn.Kinds.{In}
 use borrow.Fn.PlainCycle.{Measures, is, falls, and}
-use mathlib.Core.Path.{refl, subst, _∙_}
+use mathlib.Core.List.{List}
+use mathlib.Core.Path.{subst, _∙_}
 use native.Mathlib.Omega.{arith}
 
 -- Nodes left plus levels left: parameter 1 is what is given, 3 the place and 5 the level.
@@ -67,8 +68,6 @@ walk-subtasks-calls t = (
   first-of-reads.Learnt,
   walk-node-below t,
   walk-node.Post,
-  walk-subtasks-below t,
-  walk-subtasks.Post,
   join-reads.Asked,
   join-reads.Learnt,
 )
@@ -174,64 +173,84 @@ walk-node-returns-4 t c =
 
 -- ---- walk_subtasks
 
-walk-subtasks-first-of-requires : (t : ℕ) → walk-subtasks-lts.Need-first-of-requires (walk-subtasks-calls t) (walk-subtasks-at t) walk-subtasks.Post
+-- What was begun as the loop was reached is begun now, with the subtasks that are left.
+abbrev walk-subtasks-Inv-loop : walk-subtasks-lts.InvT-loop
+walk-subtasks-Inv-loop text g work₀ level rest₀ walked₀ work rest walked =
+    (all : List ℕ) (n : ℕ) (w : List ℕ) → Begun text (caseIn text) level all rest₀ n w walked₀ work₀ → Begun text (caseIn text) level all rest n w walked work
+
+abbrev walk-subtasks-μ-loop : walk-subtasks-lts.MeasureT-loop
+walk-subtasks-μ-loop text g work₀ level rest₀ walked₀ work rest walked = rest .count
+
+walk-subtasks-first-of-requires : (t : ℕ) → walk-subtasks-lts.Need-first-of-requires (walk-subtasks-calls t) (walk-subtasks-at t) walk-subtasks.Post walk-subtasks-Inv-loop walk-subtasks-μ-loop
 walk-subtasks-first-of-requires t c κs = c .before .before .pre .1 .1 .1
 
-walk-subtasks-add-walk-node : (t : ℕ) → walk-subtasks-lts.Need-add-walk-node (walk-subtasks-calls t) (walk-subtasks-at t) walk-subtasks.Post
+walk-subtasks-add-walk-node : (t : ℕ) → walk-subtasks-lts.Need-add-walk-node (walk-subtasks-calls t) (walk-subtasks-at t) walk-subtasks.Post walk-subtasks-Inv-loop walk-subtasks-μ-loop
 walk-subtasks-add-walk-node t c = omega (arith, c .before .before .before .before .before .pre .1 .1 .0)
 
-walk-subtasks-walk-node-requires : (t : ℕ) → walk-subtasks-lts.Need-walk-node-requires (walk-subtasks-calls t) (walk-subtasks-at t) walk-subtasks.Post
+walk-subtasks-walk-node-requires : (t : ℕ) → walk-subtasks-lts.Need-walk-node-requires (walk-subtasks-calls t) (walk-subtasks-at t) walk-subtasks.Post walk-subtasks-Inv-loop walk-subtasks-μ-loop
 walk-subtasks-walk-node-requires t c κs =
     let s = c .before .before .before .before .before in
     (omega (arith, s .pre .0, s .pre .1 .1 .0), (s .pre .1 .0, omega (arith, s .pre .1 .1 .0)))
 
-walk-subtasks-enum-known-one : (t : ℕ) → walk-subtasks-lts.Need-enum-known-one (walk-subtasks-calls t) (walk-subtasks-at t) walk-subtasks.Post
-walk-subtasks-enum-known-one t c = search needs
+walk-subtasks-loop-holds : (t : ℕ) → walk-subtasks-lts.Need-loop-holds (walk-subtasks-calls t) (walk-subtasks-at t) walk-subtasks.Post walk-subtasks-Inv-loop walk-subtasks-μ-loop
+walk-subtasks-loop-holds t c = λ all n w b. b
 
-walk-subtasks-same-length : (t : ℕ) → walk-subtasks-lts.Need-same-length (walk-subtasks-calls t) (walk-subtasks-at t) walk-subtasks.Post
-walk-subtasks-same-length t c = c .before .before .before .before .before .before .before .walk-node .kept .1 .1 .0
-
-walk-subtasks-returns : (t : ℕ) → walk-subtasks-lts.Need-returns (walk-subtasks-calls t) (walk-subtasks-at t) walk-subtasks.Post
-walk-subtasks-returns t c =
-    let s = c .before .before .before .before .before .before .before .before .before .before .before .before .before in
+-- At the loop the first of the call's subtasks are walked.
+walk-subtasks-begun : (t : ℕ) (c : walk-subtasks-lts.At-loop (walk-subtasks-calls t) (walk-subtasks-at t) walk-subtasks.Post walk-subtasks-Inv-loop walk-subtasks-μ-loop)
+    → let a = c .before .before .before .before .before .before .before .before .before .args in Begun (a .text .now) (caseIn (a .text .now)) (a .level) (numbersAt (a .text .now) (a .subtasks .count) (a .subtasks .at .at)) (c .loop .rest) (a .p .node) (a .work .now) (c .loop .walked) (c .loop .work)
+walk-subtasks-begun t c =
+    let s = c .before .before .before .before .before .before .before .before .before in
     let a = s .args in
-    let k = caseIn (a .text .now) in
-    last-one (a .text .now) k (a .level) (a .p) (a .subtasks) (s .pre .1 .1 .1) (c .before .before .before .before .before .before .before .before .before .before .first-of .result) (c .before .before .before .before .before .before .before .before .before .before .first-of .ensures) (a .work .now) (c .before .before .before .before .before .before .before .walk-node .result) (c .before .before .before .before .before .before .before .walk-node .last .1 .1 .0) (c .before .before .before .before .before .before .before .walk-node .ensures) (Next (c .before .before .before .one .given .0 .0) (c .before .before .before .one .given .0 .1 .0)) (c .before .before .before .one .given .0 .0) (c .before .before .before .one .given .0 .1 .0) (c .if1 .taken) (c .before .before .before .one .given .1) refl
+    c .loop .inv (numbersAt (a .text .now) (a .subtasks .count) (a .subtasks .at .at)) (a .p .node) (a .work .now)
+    (begins (a .text .now) (caseIn (a .text .now)) (a .level) (a .subtasks) (c .before .before .before .before .before .before .first-of .result) (a .p .node) (a .work .now) (c .before .before .before .walk-node .result) (c .before .before .before .walk-node .last .1 .1 .0) (s .pre .1 .1 .1) (c .before .before .before .before .before .before .first-of .ensures) (c .before .before .before .walk-node .ensures) (c .before .before .before .walk-node .kept .1 .1 .0))
 
-walk-subtasks-walk-subtasks-requires : (t : ℕ) → walk-subtasks-lts.Need-walk-subtasks-requires (walk-subtasks-calls t) (walk-subtasks-at t) walk-subtasks.Post
-walk-subtasks-walk-subtasks-requires t c κs =
-    let s = c .before .before .before .before .before .before .before .before .before .before .before .before .before .before in
+walk-subtasks-enum-known-walked : (t : ℕ) → walk-subtasks-lts.Need-enum-known-walked (walk-subtasks-calls t) (walk-subtasks-at t) walk-subtasks.Post walk-subtasks-Inv-loop walk-subtasks-μ-loop
+walk-subtasks-enum-known-walked t c = search needs
+
+walk-subtasks-first-of-requires-2 : (t : ℕ) → walk-subtasks-lts.Need-first-of-requires-2 (walk-subtasks-calls t) (walk-subtasks-at t) walk-subtasks.Post walk-subtasks-Inv-loop walk-subtasks-μ-loop
+walk-subtasks-first-of-requires-2 t c κs = c .before .before .before .if1 .taken
+
+walk-subtasks-add-walk-node-2 : (t : ℕ) → walk-subtasks-lts.Need-add-walk-node-2 (walk-subtasks-calls t) (walk-subtasks-at t) walk-subtasks.Post walk-subtasks-Inv-loop walk-subtasks-μ-loop
+walk-subtasks-add-walk-node-2 t c = omega (arith, c .before .before .before .before .before .before .before .before .before .before .before .before .before .before .before .before .pre .1 .1 .0)
+
+walk-subtasks-walk-node-requires-2 : (t : ℕ) → walk-subtasks-lts.Need-walk-node-requires-2 (walk-subtasks-calls t) (walk-subtasks-at t) walk-subtasks.Post walk-subtasks-Inv-loop walk-subtasks-μ-loop
+walk-subtasks-walk-node-requires-2 t c κs =
+    let s = c .before .before .before .before .before .before .before .before .before .before .before .before .before .before .before .before in
     let a = s .args in
-    let k = caseIn (a .text .now) in
-    let m = moves (a .text .now) k (a .level) (a .p) (a .subtasks) (s .pre .1 .1 .1) (c .before .before .before .before .before .before .before .before .before .before .before .first-of .result) (c .before .before .before .before .before .before .before .before .before .before .before .first-of .ensures) (a .work .now) (c .before .before .before .before .before .before .before .before .walk-node .result) (c .before .before .before .before .before .before .before .before .walk-node .last .1 .1 .0) (c .before .before .before .before .before .before .before .before .walk-node .ensures) (a .g) (c .before .before .before .before .one .given .0 .0) (c .before .before .before .before .one .given .0 .1 .0) (s .pre .1 .0 .0) (c .before .before .before .before .before .before .before .before .walk-node .kept .1 .1 .0) (c .before .before .before .before .one .given .1) in
-    (omega (arith, m .2, m .3, s .pre .0), ((m .0, m .1), (s .pre .1 .1 .0, omega (arith, c .before .if1 .left))))
+    let m = moves (a .text .now) (caseIn (a .text .now)) (a .level) (walk-subtasks-begun t (c .before .before .before .before .before .before .before)) (a .g) (c .before .before .before .walked .given .0 .0) (c .before .before .before .walked .given .0 .1 .0) (s .pre .1 .0 .0) (c .before .before .before .walked .given .1) in
+    (omega (arith, m .2, s .pre .0, s .pre .1 .1 .0), ((m .0, m .1), omega (arith, s .pre .1 .1 .0)))
 
-walk-subtasks-join-requires : (t : ℕ) → walk-subtasks-lts.Need-join-requires (walk-subtasks-calls t) (walk-subtasks-at t) walk-subtasks.Post
+walk-subtasks-join-requires : (t : ℕ) → walk-subtasks-lts.Need-join-requires (walk-subtasks-calls t) (walk-subtasks-at t) walk-subtasks.Post walk-subtasks-Inv-loop walk-subtasks-μ-loop
 walk-subtasks-join-requires t c κs = search needs
 
-walk-subtasks-enum-known-one-2 : (t : ℕ) → walk-subtasks-lts.Need-enum-known-one-2 (walk-subtasks-calls t) (walk-subtasks-at t) walk-subtasks.Post
-walk-subtasks-enum-known-one-2 t c = search needs
+walk-subtasks-loop-less : (t : ℕ) → walk-subtasks-lts.Need-loop-less (walk-subtasks-calls t) (walk-subtasks-at t) walk-subtasks.Post walk-subtasks-Inv-loop walk-subtasks-μ-loop
+walk-subtasks-loop-less t c = fewer (c .before .before .before .before .before .before .before .before .before .before .before .before .before .before .before .before .before .before .before .before .before .args .text .now) (c .before .before .before .before .before .before .before .before .before .before .before .before .loop .rest) (c .before .before .before .before .before .before .first-of2 .result) (c .before .before .before .before .before .before .before .before .before .before .if1 .taken) (c .before .before .before .before .before .before .first-of2 .ensures)
 
-walk-subtasks-same-length-2 : (t : ℕ) → walk-subtasks-lts.Need-same-length-2 (walk-subtasks-calls t) (walk-subtasks-at t) walk-subtasks.Post
-walk-subtasks-same-length-2 t c = c .before .before .before .walk-subtasks .kept .1 .1 .0 ∙ c .before .before .before .before .before .before .before .before .before .before .before .before .walk-node .kept .1 .1 .0
+walk-subtasks-loop-again : (t : ℕ) → walk-subtasks-lts.Need-loop-again (walk-subtasks-calls t) (walk-subtasks-at t) walk-subtasks.Post walk-subtasks-Inv-loop walk-subtasks-μ-loop
+walk-subtasks-loop-again t c =
+    let a = c .before .before .before .before .before .before .before .before .before .before .before .before .before .before .before .before .before .before .before .before .before .args in
+    λ all n w b.
+    goes-on (a .text .now) (caseIn (a .text .now)) (a .level) (c .before .before .before .before .before .before .before .before .before .before .before .before .loop .inv all n w b) (c .before .before .before .before .before .before .first-of2 .result) (c .before .before .before .before .before .before .before .before .walked .given .0 .0) (c .before .before .before .before .before .before .before .before .walked .given .0 .1 .0) (c .before .before .before .before .walk-node2 .result) (c .before .join .result) (c .before .before .before .before .walk-node2 .last .1 .1 .0)
+    (c .before .before .before .before .before .before .before .before .before .before .if1 .taken) (c .before .before .before .before .before .before .first-of2 .ensures) (c .before .before .before .before .before .before .before .before .walked .given .1) (c .before .before .before .before .walk-node2 .ensures) (c .before .before .before .before .walk-node2 .kept .1 .1 .0) (c .before .join .ensures)
 
-walk-subtasks-returns-2 : (t : ℕ) → walk-subtasks-lts.Need-returns-2 (walk-subtasks-calls t) (walk-subtasks-at t) walk-subtasks.Post
+walk-subtasks-enum-known-walked-2 : (t : ℕ) → walk-subtasks-lts.Need-enum-known-walked-2 (walk-subtasks-calls t) (walk-subtasks-at t) walk-subtasks.Post walk-subtasks-Inv-loop walk-subtasks-μ-loop
+walk-subtasks-enum-known-walked-2 t c = search needs
+
+walk-subtasks-same-length : (t : ℕ) → walk-subtasks-lts.Need-same-length (walk-subtasks-calls t) (walk-subtasks-at t) walk-subtasks.Post walk-subtasks-Inv-loop walk-subtasks-μ-loop
+walk-subtasks-same-length t c = walk-subtasks-begun t (c .before .before .before .before .before) .kept
+
+walk-subtasks-returns : (t : ℕ) → walk-subtasks-lts.Need-returns (walk-subtasks-calls t) (walk-subtasks-at t) walk-subtasks.Post walk-subtasks-Inv-loop walk-subtasks-μ-loop
+walk-subtasks-returns t c =
+    let a = c .before .before .before .before .before .before .before .before .before .before .before .before .before .before .args in
+    stops (a .text .now) (caseIn (a .text .now)) (a .level) (walk-subtasks-begun t (c .before .before .before .before .before)) (c .before .walked2 .given .0 .0) (c .before .walked2 .given .1)
+
+walk-subtasks-same-length-2 : (t : ℕ) → walk-subtasks-lts.Need-same-length-2 (walk-subtasks-calls t) (walk-subtasks-at t) walk-subtasks.Post walk-subtasks-Inv-loop walk-subtasks-μ-loop
+walk-subtasks-same-length-2 t c = walk-subtasks-begun t (c .before .before) .kept
+
+walk-subtasks-returns-2 : (t : ℕ) → walk-subtasks-lts.Need-returns-2 (walk-subtasks-calls t) (walk-subtasks-at t) walk-subtasks.Post walk-subtasks-Inv-loop walk-subtasks-μ-loop
 walk-subtasks-returns-2 t c =
-    let s = c .before .before .before .before .before .before .before .before .before .before .before .before .before .before .before .before .before .before in
-    let a = s .args in
-    let k = caseIn (a .text .now) in
-    others (a .text .now) k (a .level) (a .p) (a .subtasks) (s .pre .1 .1 .1) (c .before .before .before .before .before .before .before .before .before .before .before .before .before .before .before .first-of .result) (c .before .before .before .before .before .before .before .before .before .before .before .before .before .before .before .first-of .ensures) (a .work .now) (c .before .before .before .before .before .before .before .before .before .before .before .before .walk-node .result) (c .before .before .before .before .before .before .before .before .before .before .before .before .walk-node .last .1 .1 .0) (c .before .before .before .before .before .before .before .before .before .before .before .before .walk-node .ensures) (c .before .before .before .before .before .before .before .before .one .given .0 .0) (c .before .before .before .before .before .before .before .before .one .given .0 .1 .0) (c .before .before .before .walk-subtasks .result) (c .join .result) (c .before .before .before .walk-subtasks .last .1 .1 .0)
-    (c .before .before .before .before .before .before .before .before .one .given .1) (c .before .before .before .walk-subtasks .ensures) (c .join .ensures)
-
-walk-subtasks-same-length-3 : (t : ℕ) → walk-subtasks-lts.Need-same-length-3 (walk-subtasks-calls t) (walk-subtasks-at t) walk-subtasks.Post
-walk-subtasks-same-length-3 t c = c .before .before .before .before .before .walk-node .kept .1 .1 .0
-
-walk-subtasks-returns-3 : (t : ℕ) → walk-subtasks-lts.Need-returns-3 (walk-subtasks-calls t) (walk-subtasks-at t) walk-subtasks.Post
-walk-subtasks-returns-3 t c =
-    let s = c .before .before .before .before .before .before .before .before .before .before .before in
-    let a = s .args in
-    let k = caseIn (a .text .now) in
-    stops (a .text .now) k (a .level) (a .p) (a .subtasks) (s .pre .1 .1 .1) (c .before .before .before .before .before .before .before .before .first-of .result) (c .before .before .before .before .before .before .before .before .first-of .ensures) (a .work .now) (c .before .before .before .before .before .walk-node .result) (c .before .before .before .before .before .walk-node .last .1 .1 .0) (c .before .before .before .before .before .walk-node .ensures) (c .before .one2 .given .0 .0) (c .before .one2 .given .1)
+    let a = c .before .before .before .before .before .before .before .before .before .before .before .args in
+    ends (a .text .now) (caseIn (a .text .now)) (a .level) (walk-subtasks-begun t (c .before .before)) (c .if1 .left)
 
 pub +walk-node+walk-subtasks-spec : {M : Type 1} → statement M
 +walk-node+walk-subtasks-spec =
@@ -254,17 +273,20 @@ pub +walk-node+walk-subtasks-spec : {M : Type 1} → statement M
     (walk-node-returns-3 t)
     (walk-node-same-length-4 t)
     (walk-node-returns-4 t))
-    (λ t. walk-subtasks-lts.spec (walk-subtasks-calls t) (walk-subtasks-at t) walk-subtasks.Post
+    (λ t. walk-subtasks-lts.spec (walk-subtasks-calls t) (walk-subtasks-at t) walk-subtasks.Post walk-subtasks-Inv-loop walk-subtasks-μ-loop
     (walk-subtasks-first-of-requires t)
     (walk-subtasks-add-walk-node t)
     (walk-subtasks-walk-node-requires t)
-    (walk-subtasks-enum-known-one t)
+    (walk-subtasks-loop-holds t)
+    (walk-subtasks-enum-known-walked t)
+    (walk-subtasks-first-of-requires-2 t)
+    (walk-subtasks-add-walk-node-2 t)
+    (walk-subtasks-walk-node-requires-2 t)
+    (walk-subtasks-join-requires t)
+    (walk-subtasks-loop-less t)
+    (walk-subtasks-loop-again t)
+    (walk-subtasks-enum-known-walked-2 t)
     (walk-subtasks-same-length t)
     (walk-subtasks-returns t)
-    (walk-subtasks-walk-subtasks-requires t)
-    (walk-subtasks-join-requires t)
-    (walk-subtasks-enum-known-one-2 t)
     (walk-subtasks-same-length-2 t)
-    (walk-subtasks-returns-2 t)
-    (walk-subtasks-same-length-3 t)
-    (walk-subtasks-returns-3 t))
+    (walk-subtasks-returns-2 t))
