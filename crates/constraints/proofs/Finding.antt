@@ -15,10 +15,11 @@ use Rattle.rules.specs.Table.{readLine, table, roleNumber, inRange}
 use Rattle.rules.specs.Case.{Constraint, Method, NodeLine, D, E, L, Case, Valued, scalarAt, membersAt, constraintOf, nodeOf, methodOf, Read, read, refused, follow, readOf, oneLine, many, oneMethod}
 use Rattle.rules.proofs.Judgement.Reading.{ForLine, ReadSays, one-line-says}
 use Rattle.tree.specs.Layout.{NodesFrom}
-use Rattle.constraints.specs.declared.again.Again.{Again}
-use Rattle.constraints.specs.declared.again.Again.the-variants.{Line, Nothing}
-use Rattle.constraints.specs.Again.{asAgain}
-use Rattle.constraints.specs.Methods.{followTest, testsAt}
+use Rattle.text.specs.declared.Cursor.{Cursor}
+use Rattle.reading.specs.declared.again.Again.{Again}
+use Rattle.reading.specs.Again.{AgainAt}
+use Rattle.constraints.specs.declared.method.MethodLine.{MethodLine}
+use Rattle.constraints.specs.Methods.{asMethodLine, followTest, testsAt, thenRead, TestsRead}
 use Rattle.constraints.specs.Ready.{namesMethod, Labels}
 
 -- ---- a method's constraints
@@ -27,35 +28,41 @@ module _ (text : List ℕ) (h : Header) (s : ℕ) where
   abbrev constraintLines : ℕ → ℕ → ℕ → Read (List Valued)
   constraintLines count n place = many (oneLine text h T.constraint s) count n place
 
+  -- The lines all read, as the constraints of these.
+  abbrev Tests : ℕ → ℕ → List Valued → Type 0
+  Tests count place cs = TestsRead text h s count place × (testsAt text h s count place ≡ map constraintOf cs)
+
   module _ (count n n′ next : ℕ) (cs : List Valued)
-      (on : (nx a b : ℕ) (xs : List Valued) → constraintLines count (n + 1) nx ≡ read xs a b → testsAt text h s count nx ≡ map constraintOf xs) where
+      (on : (nx a b : ℕ) (xs : List Valued) → constraintLines count (n + 1) nx ≡ read xs a b → Tests count nx xs) where
     tests-rest : (x : Valued) (nx : ℕ) (r : Read (List Valued)) → constraintLines count (n + 1) nx ≡ r
-        → follow r (λ xs n″ p″. read (x ∷ xs) n″ p″) ≡ read cs n′ next → constraintOf x ∷ testsAt text h s count nx ≡ map constraintOf cs
+        → follow r (λ xs n″ p″. read (x ∷ xs) n″ p″) ≡ read cs n′ next
+        → TestsRead text h s count nx × (constraintOf x ∷ testsAt text h s count nx ≡ map constraintOf cs)
     tests-rest x nx (read xs a b) q f =
         let same : x ∷ xs ≡ cs = cc in
-        ap (λ (ds : List Constraint). constraintOf x ∷ ds) (on nx a b xs q) ∙ ap (map constraintOf) same
+        let rest = on nx a b xs q in
+        (rest .0, ap (λ (ds : List Constraint). constraintOf x ∷ ds) (rest .1) ∙ ap (map constraintOf) same)
     tests-rest x nx (refused r) q f = let z : _≡_ {A = ℕ} 0 1 = cc in absurd (omega arith)
 
     tests-line : (y : T.LineRead)
         → follow (readOf n y) (λ x n₁ p₁. follow (constraintLines count n₁ p₁) (λ xs n₂ p₂. read (x ∷ xs) n₂ p₂)) ≡ read cs n′ next
-        → followTest y (λ nx. testsAt text h s count nx) ≡ map constraintOf cs
+        → thenRead y (λ nx. TestsRead text h s count nx) × (followTest y (λ nx. testsAt text h s count nx) ≡ map constraintOf cs)
     tests-line (T.line l vs nx) f = tests-rest (l, vs) nx (constraintLines count (n + 1) nx) refl f
     tests-line (T.LineRead.unreadable field) f = let z : _≡_ {A = ℕ} 0 1 = cc in absurd (omega arith)
     tests-line (T.LineRead.outside field) f = let z : _≡_ {A = ℕ} 0 1 = cc in absurd (omega arith)
 
-  many-tests : (count n place : ℕ) (cs : List Valued) (n′ next : ℕ) → constraintLines count n place ≡ read cs n′ next
-      → testsAt text h s count place ≡ map constraintOf cs
+  many-tests : (count n place : ℕ) (cs : List Valued) (n′ next : ℕ) → constraintLines count n place ≡ read cs n′ next → Tests count place cs
   unfolding oneLine
-  many-tests zero n place cs n′ next e = let same : [] ≡ cs = cc in ap (map constraintOf) same
+  many-tests zero n place cs n′ next e = let same : [] ≡ cs = cc in (tt, ap (map constraintOf) same)
   many-tests (suc count) n place cs n′ next e =
       tests-line count n n′ next cs (λ nx a b xs q. many-tests count (n + 1) nx xs a b q) (readLine text T.constraint h s place) e
 
 -- ---- a method's line
 
--- The M line's second number is how many subtasks there are, and its third how many constraints follow.
-abbrev pub MethodIs : List ℕ → Header → Method → Again → Type 0
-MethodIs text h m (Line l first second third d) = (second ≡ length (m .subtasks)) × (testsAt text h second third (d .at) ≡ m .constraints)
-MethodIs text h m Nothing = ⊥
+-- An M line's second number is how many subtasks there are, and its third how many constraints follow: these.
+pub record MethodIs (text : List ℕ) (h : Header) (m : Method) (y : MethodLine) : Type 0 where
+  pub counts : y .subtasks ≡ length (m .subtasks)
+  pub reads : TestsRead text h (y .subtasks) (y .count) (y .next .at)
+  pub tests : testsAt text h (y .subtasks) (y .count) (y .next .at) ≡ m .constraints
 
 abbrev Counted : ℕ → List T.Value → Type 0
 Counted l vs = scalarAt vs 1 ≡ length (membersAt vs 1)
@@ -64,39 +71,42 @@ counts-subtasks : (h : Header) → ForLine h 0 T.method Counted
 unfolding ForLine table roleNumber inRange scalarAt membersAt
 counts-subtasks h = (λ t ht vs n hs c hc. refl, tt)
 
-module _ (text : List ℕ) (h : Header) (n place : ℕ) (m : Method) (n′ next : ℕ) (e : oneMethod text h n place ≡ read m n′ next) where
-  found-rest : (vs : List T.Value) (cs : List Valued) (nx a b : ℕ) → scalarAt vs 1 ≡ length (membersAt vs 1)
+module _ (text : List ℕ) (h : Header) (n : ℕ) (c : Cursor) (m : Method) (n′ next : ℕ) (e : oneMethod text h n (c .at) ≡ read m n′ next) where
+  found-rest : (l : ℕ) (vs : List T.Value) (cs : List Valued) (nx a b : ℕ) → scalarAt vs 1 ≡ length (membersAt vs 1)
       → many (oneLine text h T.constraint (scalarAt vs 1)) (scalarAt vs 2) (n + 1) nx ≡ read cs a b → methodOf vs cs ≡ m
-      → (scalarAt vs 1 ≡ length (m .subtasks)) × (testsAt text h (scalarAt vs 1) (scalarAt vs 2) nx ≡ m .constraints)
+      → MethodIs text h m (asMethodLine c (T.line l vs nx))
   unfolding methodOf
-  found-rest vs cs nx a b c q same = (
-    c ∙ ap (λ (x : Method). length (x .subtasks)) same,
-    many-tests text h (scalarAt vs 1) (scalarAt vs 2) (n + 1) nx cs a b q ∙ ap (λ (x : Method). x .constraints) same,
-  )
+  found-rest l vs cs nx a b d q same =
+      let t = many-tests text h (scalarAt vs 1) (scalarAt vs 2) (n + 1) nx cs a b q in
+      record {
+        counts = d ∙ ap (λ (x : Method). length (x .subtasks)) same;
+        reads = t .0;
+        tests = t .1 ∙ ap (λ (x : Method). x .constraints) same;
+      }
 
-  found-follow : (vs : List T.Value) (nx : ℕ) (r : Read (List Valued)) → scalarAt vs 1 ≡ length (membersAt vs 1)
+  found-follow : (l : ℕ) (vs : List T.Value) (nx : ℕ) (r : Read (List Valued)) → scalarAt vs 1 ≡ length (membersAt vs 1)
       → many (oneLine text h T.constraint (scalarAt vs 1)) (scalarAt vs 2) (n + 1) nx ≡ r
-      → follow r (λ cs n₂ p₂. read (methodOf vs cs) n₂ p₂) ≡ read m n′ next
-      → (scalarAt vs 1 ≡ length (m .subtasks)) × (testsAt text h (scalarAt vs 1) (scalarAt vs 2) nx ≡ m .constraints)
-  found-follow vs nx (read cs a b) c q f = let same : methodOf vs cs ≡ m = cc in found-rest vs cs nx a b c q same
-  found-follow vs nx (refused r) c q f = let z : _≡_ {A = ℕ} 0 1 = cc in absurd (omega arith)
+      → follow r (λ cs n₂ p₂. read (methodOf vs cs) n₂ p₂) ≡ read m n′ next → MethodIs text h m (asMethodLine c (T.line l vs nx))
+  found-follow l vs nx (read cs a b) d q f = let same : methodOf vs cs ≡ m = cc in found-rest l vs cs nx a b d q same
+  found-follow l vs nx (refused r) d q f = let z : _≡_ {A = ℕ} 0 1 = cc in absurd (omega arith)
 
   abbrev onMethod : T.LineRead → Read Method
   onMethod y =
       follow (readOf n y) (λ x n₁ p₁. follow (many (oneLine text h T.constraint (scalarAt (x .1) 1)) (scalarAt (x .1) 2) n₁ p₁)
       (λ cs n₂ p₂. read (methodOf (x .1) cs) n₂ p₂))
 
-  found-line : (y : T.LineRead) → ReadSays {A = Valued} (λ x. Counted (x .0) (x .1)) (readOf n y) → onMethod y ≡ read m n′ next → MethodIs text h m (asAgain y)
-  found-line (T.line l vs nx) c f =
-      found-follow vs nx (many (oneLine text h T.constraint (scalarAt vs 1)) (scalarAt vs 2) (n + 1) nx) c refl f
-  found-line (T.LineRead.unreadable field) c f = let z : _≡_ {A = ℕ} 0 1 = cc in absurd (omega arith)
-  found-line (T.LineRead.outside field) c f = let z : _≡_ {A = ℕ} 0 1 = cc in absurd (omega arith)
+  found-line : (y : T.LineRead) → ReadSays {A = Valued} (λ x. Counted (x .0) (x .1)) (readOf n y) → onMethod y ≡ read m n′ next
+      → MethodIs text h m (asMethodLine c y)
+  found-line (T.line l vs nx) d f =
+      found-follow l vs nx (many (oneLine text h T.constraint (scalarAt vs 1)) (scalarAt vs 2) (n + 1) nx) d refl f
+  found-line (T.LineRead.unreadable field) d f = let z : _≡_ {A = ℕ} 0 1 = cc in absurd (omega arith)
+  found-line (T.LineRead.outside field) d f = let z : _≡_ {A = ℕ} 0 1 = cc in absurd (omega arith)
 
-  pub method-found : (y : Again) → y ≡ asAgain (readLine text T.method h 0 place) → MethodIs text h m y
+  pub method-found : (y : MethodLine) → y ≡ asMethodLine c (readLine text T.method h 0 (c .at)) → MethodIs text h m y
   unfolding oneMethod oneLine
   method-found y q =
       subst (MethodIs text h m) (sym q)
-      (found-line (readLine text T.method h 0 place) (one-line-says text h T.method 0 n place Counted (counts-subtasks h)) e)
+      (found-line (readLine text T.method h 0 (c .at)) (one-line-says text h T.method 0 n (c .at) Counted (counts-subtasks h)) e)
 
 -- ---- a node's line
 
@@ -115,8 +125,7 @@ labels-of l vs = go (eqb l 68) (eqb l 69) refl refl
     go false false p q = ap₂ (λ (x y : Bool). x || y) p q
 
 abbrev pub NodeIs : List ℕ → Case → ℕ → NodeLine → Again → Type 0
-NodeIs text k n x (Line l first second third d) = Labels l first x × NodesFrom text k (n + 1) (d .at)
-NodeIs text k n x Nothing = ⊥
+NodeIs text k n x a = Labels (a .letter) (a .first) x × NodesFrom text k (n + 1) (a .next .at)
 
 module _ (text : List ℕ) (k : Case) (n place : ℕ) (w : NodesFrom text k n place) (x : NodeLine) (below : n < length (k .nodes)) (few : n < k .head .nodes) where
   left : ℕ
@@ -148,16 +157,19 @@ module _ (text : List ℕ) (k : Case) (n place : ℕ) (w : NodesFrom text k n pl
   node-follow l vs nx (read xs a b) q f = let same : (l, vs) ∷ xs ≡ w .lines = cc in next-node l vs nx xs a b q same
   node-follow l vs nx (refused r) q f = let z : _≡_ {A = ℕ} 0 1 = cc in absurd (omega arith)
 
-  node-line : (y : T.LineRead) → follow (readOf (w .number) y) (λ v n₁ p₁. follow (readMore left n₁ p₁) (λ xs n₂ p₂. read (v ∷ xs) n₂ p₂)) ≡ read (w .lines) (w .past) (w .next)
-      → NodeIs text k n (getD (k .nodes) n x) (asAgain y)
-  node-line (T.line l vs nx) f = node-follow l vs nx (readMore left (w .number + 1) nx) refl f
-  node-line (T.LineRead.unreadable field) f = let z : _≡_ {A = ℕ} 0 1 = cc in absurd (omega arith)
-  node-line (T.LineRead.outside field) f = let z : _≡_ {A = ℕ} 0 1 = cc in absurd (omega arith)
+  module _ (y : Again) (again : AgainAt text place y) where
+    node-line : (r : T.LineRead) → readLine text T.node (k .head) 0 place ≡ r
+        → follow (readOf (w .number) r) (λ v n₁ p₁. follow (readMore left n₁ p₁) (λ xs n₂ p₂. read (v ∷ xs) n₂ p₂)) ≡ read (w .lines) (w .past) (w .next)
+        → NodeIs text k n (getD (k .nodes) n x) y
+    unfolding AgainAt
+    node-line (T.line l vs nx) e f =
+        subst (NodeIs text k n (getD (k .nodes) n x)) (sym (again T.node refl (k .head) 0 l vs nx e))
+        (node-follow l vs nx (readMore left (w .number + 1) nx) refl f)
+    node-line (T.LineRead.unreadable field) e f = let z : _≡_ {A = ℕ} 0 1 = cc in absurd (omega arith)
+    node-line (T.LineRead.outside field) e f = let z : _≡_ {A = ℕ} 0 1 = cc in absurd (omega arith)
 
-  pub node-found : (y : Again) → y ≡ asAgain (readLine text T.node (k .head) 0 place) → NodeIs text k n (getD (k .nodes) n x) y
-  unfolding oneLine left
-  node-found y q =
-      let more : k .head .nodes - n ≡ suc (k .head .nodes - (n + 1)) = omega arith in
-      subst (NodeIs text k n (getD (k .nodes) n x)) (sym q)
-      (node-line (readLine text T.node (k .head) 0 place)
-      (ap (λ (c : ℕ). readMore c (w .number) place) (sym more) ∙ w .reads))
+    pub node-found : NodeIs text k n (getD (k .nodes) n x) y
+    unfolding oneLine left
+    node-found =
+        let more : k .head .nodes - n ≡ suc (k .head .nodes - (n + 1)) = omega arith in
+        node-line (readLine text T.node (k .head) 0 place) refl (ap (λ (c : ℕ). readMore c (w .number) place) (sym more) ∙ w .reads)

@@ -14,7 +14,7 @@ use Rattle.rules.specs.declared.Answer.{Answer}
 use Rattle.rules.specs.Index.{Span, spanOfPart}
 use Rattle.rules.specs.Table as T
 use Rattle.rules.specs.Table.{readLine}
-use Rattle.rules.specs.Case.{Constraint, Method, methodAt, NodeLine, L, Case, oneLine, many}
+use Rattle.rules.specs.Case.{Constraint, Method, methodAt, NodeLine, L, Case, oneLine, many, oneMethod}
 use Rattle.rules.specs.Tree.{Tree, leaf, preorder, rootLine, span, subtaskSpans}
 use Rattle.rules.specs.Constraint.{holdsIn, constraintsOf, partsOf, firstBrokenOf, orElse, firstBroken}
 use Rattle.rules.specs.Verdict.{workNeed, statesOf}
@@ -23,14 +23,15 @@ use Rattle.rules.proofs.Judgement.Sound.{GoodConstraint}
 use Rattle.reading.specs.Directory.{methodsFrom}
 use Rattle.tree.specs.Layout.{planFrom, subtasksFrom, size, NodesFrom}
 use Rattle.text.specs.declared.Cursor.{Cursor}
-use Rattle.constraints.specs.declared.again.Again.{Again}
+use Rattle.reading.specs.declared.again.Again.{Again}
+use Rattle.reading.specs.Again.{AgainAt}
+use Rattle.constraints.specs.declared.method.MethodLine.{MethodLine}
 use Rattle.constraints.specs.declared.method.Kept.{Kept}
 use Rattle.constraints.specs.declared.method.Kept.the-variants.{All, Broken}
 use Rattle.parts.specs.States.{inRow}
 use Rattle.parts.specs.Spans.{rowSpan, RowInside, siblings, spansIn}
 use Rattle.parts.specs.Tests.{Tested}
-use Rattle.constraints.specs.Again.{asAgain}
-use Rattle.constraints.specs.Methods.{keptAs, testsAt}
+use Rattle.constraints.specs.Methods.{asMethodLine, keptAs, testsAt}
 use Rattle.constraints.specs.Ready.{Ready, Leaves, namesMethod, Labels, nodeOfTree, brokenOfNode, brokenOfTree}
 use Rattle.constraints.proofs.Held.{countOf, subtreesOf, subtrees-spans, spans-length, preorder-length}
 use Rattle.constraints.proofs.Judging.{good-tested, broken-same}
@@ -87,36 +88,39 @@ module _ {k : Case} {t : Tree} {text : List ℕ} {past : ℕ} {header : Header} 
       let f = is-sound r .head-good .few-nodes in
       let e = size-is r in omega arith
 
-  pub method-read : (place : ℕ) (y : Again) → place ≡ getD work (1024 + label) 0 → y ≡ asAgain (readLine text T.method header 0 place)
+  pub method-read : (c : Cursor) (y : MethodLine) → c .at ≡ getD work (1024 + label) 0 → y ≡ asMethodLine c (readLine text T.method header 0 (c .at))
       → MethodIs text (k .head) method y
   unfolding methodsFrom
-  method-read place y e q =
+  method-read c y e q =
       let f = r .finds .methodLine label (node-is .below) in
-      method-found text (k .head) (f .0) (getD work (methodsFrom + label) 0) method (f .1) (f .2) (f .3) y
-      (q ∙ λ j. asAgain (readLine text T.method (r .heads j) 0 (e j)))
+      method-found text (k .head) (f .0) c method (f .1) (f .2)
+      (ap (λ (p : ℕ). oneMethod text (k .head) (f .0) p) e ∙ f .3) y (q ∙ λ j. asMethodLine c (readLine text T.method (r .heads j) 0 (c .at)))
 
-  module _ (second third : ℕ) (d : Cursor) (counts : second ≡ length (method .subtasks)) (tests : testsAt text (k .head) second third (d .at) ≡ method .constraints) where
+  module _ (m : MethodLine) (found : MethodIs text (k .head) method m) where
+    abbrev tests : List Constraint
+    tests = testsAt text (k .head) (m .subtasks) (m .count) (m .next .at)
+
     -- None follow the M line.
-    pub none-follow : (line : ℕ) → third ≡ 0 → All ≡ keptAs (brokenOfNode k t line n)
+    pub none-follow : (line : ℕ) → m .count ≡ 0 → All ≡ keptAs (brokenOfNode k t line n)
     none-follow line e =
-        none-of k t line n (node-is .brings ∙ sym tests ∙ ap (λ (c : ℕ). testsAt text (k .head) second c (d .at)) e)
+        none-of k t line n (node-is .brings ∙ sym (found .tests) ∙ ap (λ (c : ℕ). testsAt text (k .head) (m .subtasks) c (m .next .at)) e)
 
-    counted : second ≡ countOf (subtreesOf (nodeOfTree t n))
-    counted = counts ∙ sym (node-is .count)
+    counted : m .subtasks ≡ countOf (subtreesOf (nodeOfTree t n))
+    counted = found .counts ∙ sym (node-is .count)
 
-    pub few-second : second ≤ 32
+    pub few-second : m .subtasks ≤ 32
     few-second = let e = counted in let f = few-subtrees r n h label node-is in omega arith
 
     pub room-before : planFrom ≤ length work
     unfolding planFrom workNeed
     room-before = let f = r .room in omega arith
 
-    pub nodes-inside : Each (RowInside work) (siblings work (n + 1) second)
+    pub nodes-inside : Each (RowInside work) (siblings work (n + 1) (m .subtasks))
     nodes-inside =
         subst (λ (c : ℕ). Each (RowInside work) (siblings work (n + 1) c)) (sym counted)
         (subtrees-inside r n h label node-is)
 
-    module _ (new : List ℕ) (stores : new ≡ sets work subtasksFrom (siblings work (n + 1) second)) where
+    module _ (new : List ℕ) (stores : new ≡ sets work subtasksFrom (siblings work (n + 1) (m .subtasks))) where
       is-after : new ≡ sets work subtasksFrom (siblings work (n + 1) (countOf (subtreesOf (nodeOfTree t n))))
       is-after = stores ∙ ap (λ (c : ℕ). sets work subtasksFrom (siblings work (n + 1) c)) counted
 
@@ -142,26 +146,25 @@ module _ {k : Case} {t : Tree} {text : List ℕ} {past : ℕ} {header : Header} 
         own-is =
             owns ∙ ap (λ (l : List ℕ). rowSpan l n) is-after ∙ own-span r n h label node-is
 
-        pub new-tested : Each (Tested new states own) (testsAt text header second third (d .at))
+        pub new-tested : Each (Tested new states own) tests
         new-tested =
-            subst (λ (ds : List Constraint). Each (Tested new states own) ds) (sym (ap (λ (x : Header). testsAt text x second third (d .at)) (r .heads) ∙ tests))
-            (λ x m.
+            subst (λ (ds : List Constraint). Each (Tested new states own) ds) (sym (found .tests))
+            (λ x i.
             subst (λ (l : List ℕ). Tested l states own x) (sym is-after)
             (subst (λ (s : Span). Tested (sets work subtasksFrom (siblings work (n + 1) (countOf (subtreesOf (nodeOfTree t n))))) states s x) (sym own-is)
             (good-tested (k .head) (k .head .cues) (span (nodeOfTree t n)) (subtaskSpans (nodeOfTree t n))
             (sets work subtasksFrom (siblings work (n + 1) (countOf (subtreesOf (nodeOfTree t n))))) states (holdsIn (statesOf k))
-            (placed r n h label node-is) x (good x m))))
+            (placed r n h label node-is) x (good x i))))
 
         pub new-kept : (line : ℕ) (kept : Kept)
-            → kept ≡ keptAs (firstBrokenOf (inRow states) (spanOfPart own (spansIn new)) line 0 (testsAt text header second third (d .at)))
+            → kept ≡ keptAs (firstBrokenOf (inRow states) (spanOfPart own (spansIn new)) line 0 tests)
             → kept ≡ keptAs (brokenOfNode k t line n)
         unfolding brokenOfNode partsOf
         new-kept line kept e =
             let x = nodeOfTree t n in
-            let ds : testsAt text header second third (d .at) ≡ constraintsOf k x =
-            ap (λ (y : Header). testsAt text y second third (d .at)) (r .heads) ∙ tests ∙ sym (node-is .brings) in
+            let ds : tests ≡ constraintsOf k x = found .tests ∙ sym (node-is .brings) in
             e
-            ∙ ap (λ (l : List ℕ). keptAs (firstBrokenOf (inRow states) (spanOfPart own (spansIn l)) line 0 (testsAt text header second third (d .at)))) is-after
+            ∙ ap (λ (l : List ℕ). keptAs (firstBrokenOf (inRow states) (spanOfPart own (spansIn l)) line 0 tests)) is-after
             ∙ ap₂ (λ (s : Span) (cs : List Constraint). keptAs (firstBrokenOf (inRow states) (spanOfPart s (spansIn (sets work subtasksFrom (siblings work (n + 1) (countOf (subtreesOf x)))))) line 0 cs)) own-is ds
             ∙ ap keptAs (broken-same (k .head) (k .head .cues) (span x) (subtaskSpans x)
             (sets work subtasksFrom (siblings work (n + 1) (countOf (subtreesOf x)))) states (holdsIn (statesOf k))
@@ -217,9 +220,9 @@ module _ {k : Case} {t : Tree} {text : List ℕ} {past : ℕ} {header : Header} 
       pub below : n < size t
       below = let e = all-nodes in omega arith
 
-      pub going-line : (y : Again) → y ≡ asAgain (readLine text T.node header 0 place) → NodeIs text k n (rootLine (nodeOfTree t n)) y
+      pub going-line : (y : Again) → AgainAt text place y → NodeIs text k n (rootLine (nodeOfTree t n)) y
       unfolding nodeOfTree rootLine
-      going-line y q =
+      going-line y again =
           let s = is-sound (g .ready) in
           let e = all-nodes in
           let z = size-is (g .ready) in
@@ -227,7 +230,7 @@ module _ {k : Case} {t : Tree} {text : List ℕ} {past : ℕ} {header : Header} 
           subst (λ (x : NodeLine). NodeIs text k n x y)
           (ap (λ (l : List NodeLine). getD l n (L 0 0)) (sym (tree-is (g .ready) .preordered))
           ∙ List·getD-map rootLine (preorder t) n (leaf 0 0))
-          (node-found text k n place (g .lines) (L 0 0) (omega arith) (omega arith) y (q ∙ ap (λ (x : Header). asAgain (readLine text T.node x 0 place)) (g .ready .heads)))
+          (node-found text k n place (g .lines) (L 0 0) (omega arith) (omega arith) y again)
 
       this-node : broken-from k t n ≡ orElse (brokenOfNode k t (k .planLine + 1 + n) n) (broken-from k t (n + 1))
       unfolding brokenOfNode broken-from firstBroken nodeOfTree

@@ -1,3 +1,2 @@
-pub mod Again
-pub mod Methods
 pub mod Ready
+pub mod Methods

@@ -17,7 +17,6 @@ use Rattle.rules.proofs.Judgement.Reading.{AlsoIf}
 use Rattle.text.specs.declared.Cursor.{Cursor}
 use Rattle.text.specs.declared.Field.{Field}
 use Rattle.text.specs.declared.Field.the-variants.{Number as ReadNumber, NotPlain, Missing}
-use Rattle.text.specs.declared.Letter.{Letter as ReadLetter}
 use Rattle.text.specs.declared.Letter.the-variants.{Byte, Wrong}
 use Rattle.text.specs.declared.Ending.{Ending as ReadEnding}
 use Rattle.text.specs.declared.Ending.the-variants.{Line, Surplus}

@@ -1,44 +1,42 @@
 -- `first_broken_of`: the first broken constraint from the start on is that from here on (Testing). Assumes nothing.
 use Prim.Native.Nat.{_-_}
-use Rattle.constraints.proofs.Testing.{Testing, testing-starts, testing-stops, tested-here, testing-breaks, testing-goes-on, testing-ends}
-use Rattle.constraints.proofs.method.first_broken_of.Statement.{statement}
-use Rattle.constraints.proofs.method.first_broken_of.Tie as tie
+use Rattle.constraints.proofs.Testing.{Testing, testing-starts, tested-here, testing-breaks, testing-goes-on, testing-ends}
+use Rattle.constraints.specs.Ready.{caseIn}
 use Rattle.index.specs.Spans.{spanOf}
 use borrow.Author.Needs.{needs}
 use borrow.Author.Tests.{not-true, not-false}
-use mathlib.Core.Path.{sym, _∙_}
 use native.Mathlib.Omega.{arith}
+use Rattle.constraints.proofs.method.first_broken_of.Statement.{statement}
+use Rattle.constraints.proofs.method.first_broken_of.Tie as tie
 
 abbrev Inv-loop : tie.InvT-loop
-Inv-loop text past header subtasks count line own states work at₀ number₀ at number = Testing text header subtasks count line (spanOf own) states work (at₀ .at) (at .at) number
+Inv-loop text m line own states work at₀ number₀ at number = Testing text (caseIn text .head) (m .subtasks) (m .count) line (spanOf own) states work (at₀ .at) (at .at) number
 
 abbrev μ-loop : tie.MeasureT-loop
-μ-loop text past header subtasks count line own states work at₀ number₀ at number = count - number
+μ-loop text m line own states work at₀ number₀ at number = m .count - number
 
 loop-holds : tie.Need-loop-holds Inv-loop μ-loop
-loop-holds c = testing-starts (c .before .before .before .args .line) (c .before .before .before .pre .1 .1)
+loop-holds c =
+    let s = c .before .before .before .before in
+    testing-starts (s .args .line) (s .pre .1 .0) (s .pre .1 .1)
 
 read-again-requires : tie.Need-read-again-requires Inv-loop μ-loop
-read-again-requires c κs = c .before .before .before .before .before .pre .0
-
-enum-known-letter : tie.Need-enum-known-letter Inv-loop μ-loop
-enum-known-letter c = search needs
+read-again-requires c κs = search needs
 
 keeps-requires : tie.Need-keeps-requires Inv-loop μ-loop
 keeps-requires c κs =
-    let l = c .before .before .before .before .before .loop in
-    let g = c .before .letter .given in
-    (c .before .before .before .before .before .before .before .before .before .pre .1 .0, tested-here (l .inv) (c .before .before .before .before .loop-test .taken) (sym (g .1) ∙ c .before .before .before .read-again .ensures))
+    let g = c .read-again in
+    (c .before .before .before .before .before .before .before .before .pre .0, tested-here (c .before .before .before .loop .inv) (c .before .if1 .taken) (g .result) (g .ensures))
 
 broken-requires : tie.Need-broken-requires Inv-loop μ-loop
 broken-requires c κs = search needs
 
 returns : tie.Need-returns Inv-loop μ-loop
 returns c =
-    let l = c .before .before .before .before .before .before .before .before .loop in
-    let g = c .before .before .before .before .letter .given in
-    testing-breaks (l .inv) (c .before .before .before .before .before .before .before .loop-test .taken) (sym (g .1) ∙ c .before .before .before .before .before .before .read-again .ensures) (c .before .before .keeps .ensures) (not-true (c .before .before .keeps .result) (c .before .if1 .taken))
-    (c .broken .ensures (g .0 .1 .0) (g .0 .1 .1 .0) (g .0 .1 .1 .1 .0))
+    let g = c .before .before .before .read-again in
+    let k = c .before .before .keeps in
+    testing-breaks (c .before .before .before .before .before .before .loop .inv) (c .before .before .before .before .if1 .taken) (g .result) (g .ensures) (k .ensures) (not-true (k .result) (c .before .if2 .taken))
+    (c .broken .ensures (g .result .first) (g .result .second) (g .result .third))
 
 add-number : tie.Need-add-number Inv-loop μ-loop
 add-number c = search needs
@@ -48,18 +46,13 @@ loop-less c = search needs
 
 loop-again : tie.Need-loop-again Inv-loop μ-loop
 loop-again c =
-    let l = c .before .before .before .before .before .before .before .loop in
-    let g = c .before .before .before .letter .given in
-    testing-goes-on (l .inv) (c .before .before .before .before .before .before .loop-test .taken) (sym (g .1) ∙ c .before .before .before .before .before .read-again .ensures) (c .before .keeps .ensures) (not-false (c .before .keeps .result) (c .if1 .left))
-
-enum-told : tie.Need-enum-told Inv-loop μ-loop
-enum-told c = search needs
+    let g = c .before .before .before .read-again in
+    let k = c .before .before .keeps in
+    testing-goes-on (c .before .before .before .before .before .before .loop .inv) (c .before .before .before .before .if1 .taken) (g .result) (g .ensures) (k .ensures) (not-false (k .result) (c .before .if2 .left))
 
 returns-2 : tie.Need-returns-2 Inv-loop μ-loop
-returns-2 c = testing-stops (c .before .before .before .before .loop .inv) (c .before .before .before .loop-test .taken) (sym (c .enum-told .given .1) ∙ c .before .before .read-again .ensures)
-
-returns-3 : tie.Need-returns-3 Inv-loop μ-loop
-returns-3 c = testing-ends (c .before .loop .inv) (omega (arith, c .loop-test .left))
+returns-2 c =
+    testing-ends (c .before .before .loop .inv) (omega (arith, c .if1 .left))
 
 pub first-broken-of-spec : {M : Type 1} → statement M
 first-broken-of-spec =
@@ -69,13 +62,10 @@ first-broken-of-spec =
     μ-loop
     loop-holds
     read-again-requires
-    enum-known-letter
     keeps-requires
     broken-requires
     returns
     add-number
     loop-less
     loop-again
-    enum-told
-    returns-2
-    returns-3)
+    returns-2)
