@@ -1,21 +1,21 @@
 -- The node lines in turn: each reads as its head, and the records from the start are those from here on. Assumes nothing.
 use mathlib.Core.Path.{_≡_, refl, sym, ap, subst, _∙_}
 use mathlib.Core.List.{List, [], _∷_, map}
-use Prim.Native.Nat.{ℕ, zero, suc, _+_, _-_, _*_, _≤_, _<_}
+use Prim.Native.Nat.{ℕ, suc, _+_, _-_, _*_, _≤_, _<_}
 use native.Mathlib.Omega.{arith}
 use lib.ListN.{length, getD}
-use lib.Seq.{sets, length-sets}
+use lib.Seq.{length-sets}
 use Rattle.rules.specs.declared.Header.{Header}
 use Rattle.rules.specs.Table as T
-use Rattle.rules.specs.Table.{Value, scalar, numberOf, readLine, table, roleNumber}
+use Rattle.rules.specs.Table.{Value, readLine, table, roleNumber}
 use Rattle.rules.specs.Case.{Valued, Read, read, refused, follow, readOf, nodeOf, scalarAt, oneLine, many}
 use Rattle.rules.proofs.Judgement.Reading.{ForLine, ReadSays, one-line-says}
 use Rattle.text.specs.declared.Cursor.{Cursor}
-use Rattle.lines.specs.declared.line.LineRead.{LineRead}
-use Rattle.lines.specs.Reading.{asLine, noValues}
+use Rattle.reading.specs.declared.again.Again.{Again}
+use Rattle.reading.specs.Again.{AgainAt}
 use Rattle.tree.specs.Layout.{rowsFrom}
 use Rattle.records.specs.Records.{Head, headOf, letterCode, putRecord, putRecords}
-use Rattle.records.specs.Reading.{cursorAfter, headFrom, nodesAt, NodesRead, IsRead, linesOf, headsFrom}
+use Rattle.records.specs.Reading.{headFrom, nodesAt, NodesRead, IsRead, linesOf, headsFrom}
 
 -- The first of so many, and the others.
 pub record First {A : Type 0} (one : ℕ → ℕ → Read A) (count n place : ℕ) (xs : List A) (past next : ℕ) : Type 0 where
@@ -48,10 +48,9 @@ many-first {A} one count n place xs past next e = go (one n place) refl
         let f : refused r ≡ read xs past next = sym (ap (λ (s : Read A). follow s (λ y m p. follow (many one count m p) (λ ys n″ place″. read (y ∷ ys) n″ place″))) q) ∙ e in
         let z : _≡_ {A = ℕ} 0 1 = cc in absurd (omega arith)
 
--- What the line reader gives of a node line is its head.
+-- A node line's letter and first two numbers are its head.
 abbrev HeadIs : ℕ → List Value → Type 0
-HeadIs l vs =
-    headFrom (letterCode l) (getD (sets noValues 0 (map numberOf vs)) 0 0) (getD (sets noValues 0 (map numberOf vs)) 1 0) ≡ headOf (nodeOf (l, vs))
+HeadIs l vs = headFrom (letterCode l) (scalarAt vs 0) (scalarAt vs 1) ≡ headOf (nodeOf (l, vs))
 
 heads : (h : Header) → ForLine h 0 T.node HeadIs
 unfolding ForLine table roleNumber letterCode headOf nodeOf scalarAt
@@ -63,21 +62,19 @@ line-read n (T.line l vs next) x n′ place′ e =
 line-read n (T.LineRead.unreadable f) x n′ place′ e = let z : _≡_ {A = ℕ} 0 1 = cc in absurd (omega arith)
 line-read n (T.LineRead.outside f) x n′ place′ e = let z : _≡_ {A = ℕ} 0 1 = cc in absurd (omega arith)
 
--- A node line that reads: its head, and where the next one starts.
-pub record LineIs (text : List ℕ) (h : Header) (place : ℕ) (x : Valued) (place′ : ℕ) : Type 0 where
-  pub head : headFrom (letterCode (asLine (readLine text T.node h 0 place) .letter)) (getD (asLine (readLine text T.node h 0 place) .values) 0 0)
-      (getD (asLine (readLine text T.node h 0 place) .values) 1 0) ≡ headOf (nodeOf x)
-  pub ends : (c : Cursor) → cursorAfter (asLine (readLine text T.node h 0 place) .finish) c .at ≡ place′
+-- A node line that reads, read again: its head, and where the next one starts.
+pub record LineIs (a : Again) (x : Valued) (place′ : ℕ) : Type 0 where
+  pub head : headFrom (letterCode (a .letter)) (a .first) (a .second) ≡ headOf (nodeOf x)
+  pub ends : a .next .at ≡ place′
 
-line-is : (text : List ℕ) (h : Header) (n place : ℕ) (x : Valued) (n′ place′ : ℕ) → oneLine text h T.node 0 n place ≡ read x n′ place′ → LineIs text h place x place′
-unfolding oneLine asLine
-line-is text h n place x n′ place′ e =
+line-is : (text : List ℕ) (h : Header) (n place : ℕ) (x : Valued) (n′ place′ : ℕ) → oneLine text h T.node 0 n place ≡ read x n′ place′
+    → (a : Again) → AgainAt text place a → LineIs a x place′
+unfolding oneLine AgainAt
+line-is text h n place x n′ place′ e a again =
     let r = line-read n (readLine text T.node h 0 place) x n′ place′ e in
+    let same = again T.node refl h 0 (x .0) (x .1) place′ r in
     let says = subst (λ (s : Read Valued). ReadSays (λ (y : Valued). HeadIs (y .0) (y .1)) s) e (one-line-says text h T.node 0 n place HeadIs (heads h)) in
-    record {
-      head = subst (λ (s : T.LineRead). headFrom (letterCode (asLine s .letter)) (getD (asLine s .values) 0 0) (getD (asLine s .values) 1 0) ≡ headOf (nodeOf x)) (sym r) says;
-      ends = λ c. ap (λ (s : T.LineRead). cursorAfter (asLine s .finish) c .at) r;
-    }
+    record { head = ap (λ (y : Again). headFrom (letterCode (y .letter)) (y .first) (y .second)) same ∙ says; ends = ap (λ (y : Again). y .next .at) same }
 
 pub length-put : (work : List ℕ) (i : ℕ) (x : Head) → length (putRecord work i x) ≡ length work
 unfolding putRecord
@@ -115,24 +112,20 @@ going-starts text h c work = go (nodesAt text h (c .at)) refl
     go (refused r) e t = absurd t
 
 pub going-on : (text : List ℕ) (h : Header) (place : ℕ) (start : List ℕ) (c : Cursor) (work : List ℕ) (i : ℕ) → Going text h place start c work i
-    → i < h .nodes → (r : LineRead) (work′ : List ℕ) (c′ : Cursor) → r ≡ asLine (readLine text T.node h 0 (c .at))
-    → work′ ≡ putRecord work i (headFrom (letterCode (r .letter)) (getD (r .values) 0 0) (getD (r .values) 1 0)) → c′ ≡ cursorAfter (r .finish) c
-    → Going text h place start c′ work′ (i + 1)
-going-on text h place start c work i g inside r work′ c′ er ew ec =
+    → i < h .nodes → (a : Again) → AgainAt text (c .at) a → (work′ : List ℕ)
+    → work′ ≡ putRecord work i (headFrom (letterCode (a .letter)) (a .first) (a .second)) → Going text h place start (a .next) work′ (i + 1)
+going-on text h place start c work i g inside a again work′ ew =
     let left : h .nodes - i ≡ suc (h .nodes - (i + 1)) = omega arith in
     let f = many-first (oneLine text h T.node 0) (h .nodes - (i + 1)) (g .n) (c .at) (g .lines) (g .past) (g .next)
     (ap (λ (k : ℕ). many (oneLine text h T.node 0) k (g .n) (c .at)) (sym left) ∙ g .reads) in
-    let l = line-is text h (g .n) (c .at) (f .x) (f .n′) (f .place′) (f .reads) in
-    let at : c′ .at ≡ f .place′ = ap (λ (d : Cursor). d .at) ec ∙ ap (λ (s : LineRead). cursorAfter (s .finish) c .at) er ∙ l .ends c in
-    let head : headFrom (letterCode (r .letter)) (getD (r .values) 0 0) (getD (r .values) 1 0) ≡ headOf (nodeOf (f .x)) =
-    ap (λ (s : LineRead). headFrom (letterCode (s .letter)) (getD (s .values) 0 0) (getD (s .values) 1 0)) er ∙ l .head in
-    let put : work′ ≡ putRecord work i (headOf (nodeOf (f .x))) = ew ∙ ap (putRecord work i) head in
+    let l = line-is text h (g .n) (c .at) (f .x) (f .n′) (f .place′) (f .reads) a again in
+    let put : work′ ≡ putRecord work i (headOf (nodeOf (f .x))) = ew ∙ ap (putRecord work i) (l .head) in
     record {
       lines = f .others;
       n = f .n′;
       past = g .past;
       next = g .next;
-      reads = ap (λ (p : ℕ). many (oneLine text h T.node 0) (h .nodes - (i + 1)) (f .n′) p) at ∙ f .rest;
+      reads = ap (λ (p : ℕ). many (oneLine text h T.node 0) (h .nodes - (i + 1)) (f .n′) p) (l .ends) ∙ f .rest;
       most = omega arith;
       size = ap length put ∙ length-put work i (headOf (nodeOf (f .x))) ∙ g .size;
       same = g .same

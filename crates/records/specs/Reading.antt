@@ -1,19 +1,10 @@
--- The heads of the node lines as the line reader gives them. Assumes nothing.
-use mathlib.Core.Path.{_≡_}
+-- The heads of the node lines, as they are read. Assumes nothing.
 use mathlib.Core.List.{List, [], map}
 use Prim.Native.Nat.{ℕ}
 use Rattle.rules.specs.declared.Header.{Header}
 use Rattle.rules.specs.Table as T
 use Rattle.rules.specs.Case.{Valued, Read, read, refused, nodeOf, oneLine, many}
-use Rattle.text.specs.declared.Cursor.{Cursor}
-use Rattle.lines.specs.declared.line.Finish.{Finish}
-use Rattle.lines.specs.declared.line.Finish.the-variants.{Done, Bad, Range}
 use Rattle.records.specs.Records.{Head, headOf}
-
-abbrev pub cursorAfter : Finish → Cursor → Cursor
-cursorAfter (Done next) c = next
-cursorAfter (Bad field) c = c
-cursorAfter (Range field) c = c
 
 abbrev pub headFrom : ℕ → ℕ → ℕ → Head
 headFrom code label place = record { code = code; label = label; place = place }

@@ -6,10 +6,8 @@ ghost use lib.Dec.{ltb};
 ghost use lib.ListN.{length, take, replicate};
 ghost use Rattle.rules.specs.Text.{feedFollows};
 ghost use Rattle.records.specs.Records.{letterCode, putRecord, putRecords};
-ghost use Rattle.records.specs.Reading.{NodesRead, cursorAfter, headFrom, headsFrom};
-use lines::Context;
-use lines::Finish;
-use lines::Role;
+ghost use Rattle.records.specs.Reading.{NodesRead, headFrom, headsFrom};
+use reading::read_again;
 use rules::Header;
 use text::Cursor;
 
@@ -23,17 +21,6 @@ fn letter_code(letter: u8) -> u32
         68 => 1,
         69 => 2,
         _ => 3,
-    }
-}
-
-// Where the next line starts: for a line that was not read, where it is.
-fn after(finish: Finish, c: Cursor) -> Cursor
-    ensures { λ r. ⌜ r ≡ cursorAfter finish c ⌝ }
-{
-    match finish {
-        Finish::Done { next } => next,
-        Finish::Bad { field: _ } => c,
-        Finish::Range { field: _ } => c,
     }
 }
 
@@ -54,23 +41,17 @@ fn put_record(work: &mut [u32], i: usize, code: u32, label: u32, place: u32)
 }
 
 // Writes a record for each node line, in order: node i's row is read before the records reach it.
-fn put_records(text: &[u8], past: usize, header: Header, nodes: Cursor, work: &mut [u32])
-    requires { ⌜ ((p : ℕ) → feedFollows (now text) p ≡ ltb p past) ⌝ }
+fn put_records(text: &[u8], header: Header, nodes: Cursor, work: &mut [u32])
     requires { ⌜ (header .nodes ≤ 3000) × (16384 ≤ length (now work)) ⌝ }
     requires { ⌜ NodesRead (now text) header (nodes .at) ⌝ }
     ensures { λ _. ⌜ now (work .exit) ≡ putRecords (now (work .entry)) 0 (headsFrom (now (text .entry)) header (nodes .at)) ⌝ }
 {
-    let n = header.nodes as usize;
     let mut c = nodes;
     let mut i: usize = 0;
-    while i < n {
-        let x = Context {
-            header,
-            subtasks: 0,
-        };
-        let r = lines::read_line(text, past, c, Role::Node, x);
-        put_record(work, i, letter_code(r.letter), r.values[0], r.values[1]);
-        c = after(r.finish, c);
+    while i < header.nodes as usize {
+        let a = read_again(text, c);
+        put_record(work, i, letter_code(a.letter), a.first, a.second);
+        c = a.next;
         i += 1;
     }
 }
@@ -82,7 +63,7 @@ pub fn write_records(text: &[u8], past: usize, header: Header, nodes: Cursor, wo
     requires { ⌜ NodesRead (now text) header (nodes .at) ⌝ }
     ensures { λ _. ⌜ now (work .exit) ≡ take (5 * header .nodes) (putRecords (now (work .entry)) 0 (headsFrom (now (text .entry)) header (nodes .at))) ++ replicate (length (now (work .entry)) - 5 * header .nodes) 0 ⌝ }
 {
-    put_records(text, past, header, nodes, work);
+    put_records(text, header, nodes, work);
     let from = 5 * header.nodes as usize;
     rows::clear_work(&mut work[from..]);
 }

@@ -1,45 +1,40 @@
 -- `put_records`: the records from the start are those from here on, over the work space as it is (Going). Assumes nothing.
 use Prim.Native.Nat.{ℕ, _-_}
 use Rattle.records.proofs.Turns.{Going, going-starts, going-on, going-ends}
-use Rattle.records.proofs.put_records.Statement.{statement}
-use Rattle.records.proofs.put_records.Tie as tie
 use Rattle.records.specs.Reading.{headFrom}
 use Rattle.records.specs.Records.{putRecord}
 use borrow.Author.Needs.{needs}
-use lib.ListN.{getD}
-use mathlib.Core.Path.{_≡_, refl, sym, ap, _∙_}
+use mathlib.Core.Path.{ap, _∙_}
 use native.Mathlib.Omega.{arith}
+use Rattle.records.proofs.put_records.Statement.{statement}
+use Rattle.records.proofs.put_records.Tie as tie
 
 abbrev Inv-loop : tie.InvT-loop
-Inv-loop text past header work₀ n c₀ i₀ work c i = Going text header (c₀ .at) work₀ c work i
+Inv-loop text header work₀ c₀ i₀ work c i = Going text header (c₀ .at) work₀ c work i
 
 abbrev μ-loop : tie.MeasureT-loop
-μ-loop text past header work₀ n c₀ i₀ work c i = n - i
-
-cast-n : tie.Need-cast-n Inv-loop μ-loop
-cast-n c = search needs
+μ-loop text header work₀ c₀ i₀ work c i = header .nodes - i
 
 loop-holds : tie.Need-loop-holds Inv-loop μ-loop
 loop-holds c =
-    let a = c .before .before .before .args in going-starts (a .text .now) (a .header) (a .nodes) (a .work .now) (c .before .before .before .pre .1 .1)
+    let s = c .before .before in
+    let a = s .args in
+    going-starts (a .text .now) (a .header) (a .nodes) (a .work .now) (s .pre .1)
 
-read-line-requires : tie.Need-read-line-requires Inv-loop μ-loop
-read-line-requires c κs = c .before .before .before .before .before .pre .0
+cast-if1 : tie.Need-cast-if1 Inv-loop μ-loop
+cast-if1 c = search needs
+
+read-again-requires : tie.Need-read-again-requires Inv-loop μ-loop
+read-again-requires c κs = search needs
 
 letter-code-requires : tie.Need-letter-code-requires Inv-loop μ-loop
 letter-code-requires c κs = search needs
 
-element-copy-out-put-record : tie.Need-element-copy-out-put-record Inv-loop μ-loop
-element-copy-out-put-record c = search needs
-
-element-copy-out-put-record-2 : tie.Need-element-copy-out-put-record-2 Inv-loop μ-loop
-element-copy-out-put-record-2 c = search needs
-
 put-record-requires : tie.Need-put-record-requires Inv-loop μ-loop
-put-record-requires c κs = let g = c .before .before .before .before .before .before .loop .inv in let s = g .size in let p = c .before .before .before .before .before .before .before .before .before .before .pre .1 .0 in omega arith
-
-after-requires : tie.Need-after-requires Inv-loop μ-loop
-after-requires c κs = search needs
+put-record-requires c κs =
+    let e = c .before .before .before .before .before .loop .inv .size in
+    let p = c .before .before .before .before .before .before .before .before .pre .0 in
+    let t = c .before .before .before .if1 .taken in omega arith
 
 add-i : tie.Need-add-i Inv-loop μ-loop
 add-i c = search needs
@@ -49,21 +44,21 @@ loop-less c = search needs
 
 loop-again : tie.Need-loop-again Inv-loop μ-loop
 loop-again c =
-    let a = c .before .before .before .before .before .before .before .before .before .before .before .before .before .before .args in
-    let l = c .before .before .before .before .before .before .before .before .before .before .loop in
-    let r = c .before .before .before .before .before .before .before .before .read-line .result in
-    going-on (a .text .now) (a .header) (a .nodes .at) (a .work .now) (l .c) (l .work) (l .i) (l .inv) (c .before .before .before .before .before .before .before .before .before .loop-test .taken) r
-    (c .before .before .before .put-record .last .0) (c .after .result) (c .before .before .before .before .before .before .before .before .read-line .ensures)
-    (c .before .before .before .put-record .ensures ∙ ap (λ (k : ℕ). putRecord (l .work) (l .i) (headFrom k (getD (r .values) 0 0) (getD (r .values) 1 0))) (c .before .before .before .before .before .before .letter-code .ensures))
-    (c .after .ensures)
+    let a = c .before .before .before .before .before .before .before .before .before .before .before .before .args in
+    let l = c .before .before .before .before .before .before .before .before .before .loop in
+    let g = c .before .before .before .before .before .before .read-again in
+    going-on (a .text .now) (a .header) (a .nodes .at) (a .work .now) (l .c) (l .work) (l .i) (l .inv) (c .before .before .before .before .before .before .before .if1 .taken) (g .result) (g .ensures) (c .before .before .before .put-record .last .0)
+    (c .before .before .before .put-record .ensures ∙ ap (λ (k : ℕ). putRecord (l .work) (l .i) (headFrom k (g .result .first) (g .result .second))) (c .before .before .before .before .letter-code .ensures))
 
 same-length : tie.Need-same-length Inv-loop μ-loop
-same-length c = c .before .loop .inv .size
+same-length c =
+    c .before .before .loop .inv .size
 
 returns : tie.Need-returns Inv-loop μ-loop
 returns c =
     let a = c .before .before .before .before .before .args in
-    going-ends (a .text .now) (a .header) (a .nodes .at) (a .work .now) (c .before .loop .c) (c .before .loop .work) (c .before .loop .i) (c .before .loop .inv) (c .loop-test .left)
+    let l = c .before .before .loop in
+    going-ends (a .text .now) (a .header) (a .nodes .at) (a .work .now) (l .c) (l .work) (l .i) (l .inv) (c .if1 .left)
 
 pub put-records-spec : {M : Type 1} → statement M
 put-records-spec =
@@ -71,14 +66,11 @@ put-records-spec =
     (tie.spec
     Inv-loop
     μ-loop
-    cast-n
     loop-holds
-    read-line-requires
+    cast-if1
+    read-again-requires
     letter-code-requires
-    element-copy-out-put-record
-    element-copy-out-put-record-2
     put-record-requires
-    after-requires
     add-i
     loop-less
     loop-again

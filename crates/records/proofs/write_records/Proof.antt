@@ -4,8 +4,8 @@ use Rattle.records.proofs.Codes.{part-cleared, length-part}
 use Rattle.records.proofs.write_records.Statement.{statement}
 use Rattle.records.proofs.write_records.Tie as tie
 use borrow.Author.Needs.{needs}
-use lib.ListN.{length, drop, replicate, length-take, length-drop}
-use mathlib.Core.Path.{_≡_, refl, sym, ap, _∙_}
+use lib.ListN.{length, replicate}
+use mathlib.Core.Path.{_≡_, ap, _∙_}
 use native.Mathlib.Omega.{arith}
 
 put-records-requires : tie.Need-put-records-requires
@@ -38,8 +38,8 @@ same-length c = search needs
 returns : tie.Need-returns
 returns c =
     let h = c .before .before .before .before .before .before .before .before .before .before .before .args .header in
-    let w = c .before .before .before .before .before .before .before .put-records .last .1 .1 .1 .1 .0 in
-    let size : length w ≡ length (c .before .before .before .before .before .before .before .before .before .before .before .args .work .now) = c .before .before .before .before .before .before .before .put-records .kept .1 .1 .1 .1 .0 in
+    let w = c .before .before .before .before .before .before .before .put-records .last .1 .1 .1 .0 in
+    let size : length w ≡ length (c .before .before .before .before .before .before .before .before .before .before .before .args .work .now) = c .before .before .before .before .before .before .before .put-records .kept .1 .1 .1 .0 in
     part-cleared (5 * h .nodes) (length (c .before .before .before .before .before .before .before .before .before .before .before .args .work .now)) w _ (c .before .before .clear-work .last .0) (c .before .before .before .before .before .before .before .put-records .ensures) size
     (let p = c .before .before .before .before .before .before .before .before .before .before .before .pre .1 .0 in omega arith)
     (c .before .before .clear-work .ensures ∙ ap (λ (m : ℕ). replicate m 0) (length-part w (5 * h .nodes)))
