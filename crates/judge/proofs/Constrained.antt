@@ -13,7 +13,7 @@ use Rattle.rules.specs.Tree.{Tree, preorder, mayClaim, Walk, walkTree}
 use Rattle.rules.specs.Constraint.{holdsIn, firstBroken}
 use Rattle.rules.specs.Verdict.{Found, right, wrong, workNeed, statesOf, answerOf, statesAfter, judgeTree}
 use Rattle.rules.proofs.Judgement.Walk.{walk-shows}
-use Rattle.replay.specs.Running.{caseOf}
+use Rattle.reading.specs.TheCase.{caseOf}
 use Rattle.tree.specs.Layout as Lay
 use Rattle.tree.specs.Layout.{size, rows, rowsIn}
 use Rattle.constraints.specs.Ready.{Ready, Leaves, brokenOfTree}

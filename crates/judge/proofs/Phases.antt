@@ -23,7 +23,8 @@ use Rattle.reading.specs.declared.CaseRead.{CaseRead}
 use Rattle.reading.specs.declared.CaseRead.the-variants.{Case as CaseIs, Refused as CaseRefused}
 use Rattle.rows.specs.Rows.{putRows}
 use Rattle.rows.proofs.Written.{rows-fill}
-use Rattle.replay.specs.Running.{caseIn, caseOf, Left, ranOf, RanAs}
+use Rattle.reading.specs.TheCase.{caseIn, caseOf}
+use Rattle.replay.specs.Running.{Left, ranOf, RanAs}
 use Rattle.replay.specs.declared.running.Ran.{Ran}
 use Rattle.replay.specs.declared.running.Ran.the-variants.{All, Stopped}
 use Rattle.replay.proofs.Calls.{left-worded}

@@ -12,7 +12,7 @@ use Rattle.rules.specs.Case.{Case, NodeLine, readCase}
 use Rattle.rules.specs.Tree.{Tree, mayClaim, Walk, walkTree, leastUnclaimed}
 use Rattle.rules.specs.Verdict.{stateNeed, workNeed, textMost, statesOf, filled}
 use Rattle.reading.specs.Directory.{Finds, directorySize}
-use Rattle.replay.specs.Running.{caseOf}
+use Rattle.reading.specs.TheCase.{caseOf}
 use Rattle.tree.specs.Layout.{size, rows, marksOf, marksIn, rowsIn}
 use Rattle.judge.specs.declared.Opened.{Opened}
 

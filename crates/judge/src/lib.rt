@@ -5,13 +5,18 @@ ghost use Prim.Native.Nat.{ℕ, _≤_};
 ghost use lib.ListN.{length, replicate};
 ghost use Rattle.rules.specs.Verdict.{stateNeed, workNeed, textMost, check, checkLists, answerOf, statesAfter, judgeText, judgeRun, judgeTree};
 ghost use Rattle.records.specs.Records.{recordsAfter};
-ghost use Rattle.replay.specs.Running.{caseOf};
+ghost use Rattle.reading.specs.TheCase.{caseOf};
 ghost use Rattle.judge.specs.Phases.{Cleared, Read, Ran as HasRun, Walked, Claimed};
 use constraints::Kept;
 use reading::CaseRead;
+use reading::DIRECTORY;
 use replay::Ran;
 use rules::Answer;
 use rules::Header;
+use rules::NODES;
+use rules::STATES;
+use rules::TEXT;
+use rules::WORK;
 use state::WORDS;
 use text::Cursor;
 use tree::TreeWalk;
@@ -133,7 +138,7 @@ fn judge_lent(text: &[u8], states: &mut [u64], work: &mut [u32]) -> Answer
     ensures states { λ r. ⌜ now (states .exit) ≡ statesAfter (length (now (states .entry))) (judgeText judgeTree (now (text .entry))) ⌝ }
     ensures work { λ r. ⌜ now (work .exit) ≡ recordsAfter (length (now (work .entry))) (judgeText judgeTree (now (text .entry))) ⌝ }
 {
-    match reading::read_case(text, &mut work[..3072]) {
+    match reading::read_case(text, &mut work[..DIRECTORY]) {
         CaseRead::Case {
             header,
             plan_line,
@@ -162,16 +167,16 @@ pub fn judge(text: &[u8], states: &mut [u64], work: &mut [u32], node_room: usize
 {
     rows::clear(states);
     rows::clear_work(work);
-    if states.len() < 1001 * WORDS {
+    if states.len() < STATES * WORDS {
         return Answer::ShortList { list: 1 };
     }
-    if node_room < 3000 {
+    if node_room < NODES {
         return Answer::ShortList { list: 2 };
     }
-    if work.len() < 16384 {
+    if work.len() < WORK {
         return Answer::ShortList { list: 3 };
     }
-    if 65535 < text.len() {
+    if TEXT < text.len() {
         return Answer::LongText;
     }
     judge_lent(text, states, work)

@@ -11,11 +11,8 @@ ghost use Rattle.tree.specs.Layout.{subtasksFrom, planFrom};
 ghost use Rattle.parts.specs.Spans.{rowSpan, nodeAfter, RowInside, siblings, spansIn, subtaskSpan, SubtaskInside};
 use index::Doubled;
 use index::Span;
-
-// Where the nodes of the subtasks and the rows of the nodes lie in the work space.
-const SUBTASKS: usize = 4072;
-
-const ROWS: usize = 7168;
+use tree::ROWS;
+use tree::SUBTASKS;
 
 // The span in the row of node n.
 pub fn span_at(work: &[u32], n: u32) -> Span

@@ -6,3 +6,4 @@ pub mod Places
 pub mod Parts
 pub mod First
 pub mod Rereading
+pub mod TheCase

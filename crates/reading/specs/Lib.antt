@@ -1,3 +1,4 @@
 pub mod Again
 pub mod Directory
 pub mod Groups
+pub mod TheCase

@@ -186,7 +186,10 @@ fn actions(text: &[u8], past: usize, from: Spot, header: Header, directory: &mut
 }
 
 // Where the places of the M lines start in the directory, after those of at most 1,024 A lines.
-const METHODS_FROM: usize = 1024;
+pub const METHODS_FROM: usize = 1024;
+
+// How many places the directory has.
+pub const DIRECTORY: usize = 3072;
 
 // The methods, whose M lines' places go to the directory after those of the A lines.
 fn methods(text: &[u8], past: usize, from: Spot, header: Header, directory: &mut [u32]) -> Group

@@ -10,9 +10,7 @@ ghost use Rattle.records.specs.Reading.{NodesRead, headFrom, headsFrom};
 use reading::read_again;
 use rules::Header;
 use text::Cursor;
-
-// Where the rows of doubled start, doubled end and next node stand in the work space.
-const ROWS: usize = 7168;
+use tree::ROWS;
 
 fn letter_code(letter: u8) -> u32
     ensures { λ r. ⌜ r ≡ letterCode letter ⌝ }

@@ -26,7 +26,8 @@ use Rattle.rows.specs.Rows.{putRows}
 use Rattle.rows.proofs.Written.{Worded, rows-fill}
 use Rattle.replay.specs.declared.running.Ran.{Ran}
 use Rattle.replay.specs.declared.running.Ran.the-variants.{All, Stopped}
-use Rattle.replay.specs.Running.{caseIn, caseOf, Left, ranOf, RanAs, replayRun, replayText}
+use Rattle.reading.specs.TheCase.{caseIn, caseOf}
+use Rattle.replay.specs.Running.{Left, ranOf, RanAs, replayRun, replayText}
 
 -- ---- Every state has the words of a state
 

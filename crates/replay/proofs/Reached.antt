@@ -30,7 +30,8 @@ use Rattle.replay.specs.declared.again.Sets.{Sets}
 use Rattle.replay.specs.declared.running.Ran.{Ran}
 use Rattle.replay.specs.declared.running.Ran.the-variants.{All, Stopped}
 use Rattle.replay.specs.Again.{pastLetter, numberHere, ActionSets, InitialSet}
-use Rattle.replay.specs.Running.{caseOf, Left, ranOf, RanAs}
+use Rattle.reading.specs.TheCase.{caseOf}
+use Rattle.replay.specs.Running.{Left, ranOf, RanAs}
 use Rattle.replay.proofs.Plan.{Cues, plan-cues}
 
 -- ---- What reading left

@@ -1,28 +1,18 @@
 -- Running the plan of a case that was read. Assumes nothing.
 use mathlib.Core.Path.{_≡_}
-use mathlib.Core.List.{List, []}
+use mathlib.Core.List.{List}
 use mathlib.Core.Option.{Option, none, some}
 use Prim.Native.Nat.{ℕ, _≤_}
 use lib.ListN.{length}
 use Rattle.rules.specs.declared.Header.{Header}
-use Rattle.rules.specs.State.{empty, firstStop}
-use Rattle.rules.specs.Case.{Case, Read, read, refused, noHeader, readCase}
+use Rattle.rules.specs.State.{firstStop}
+use Rattle.rules.specs.Case.{Case, read, readCase}
 use Rattle.rules.specs.Verdict.{Found, right, statesOf, judgeRun, judgeText}
 use Rattle.reading.specs.Directory.{Finds, directorySize}
+use Rattle.reading.specs.TheCase.{caseOf}
 use Rattle.rows.specs.Rows.{putRows}
 use Rattle.replay.specs.declared.running.Ran.{Ran}
 use Rattle.replay.specs.declared.running.Ran.the-variants.{All, Stopped}
-
-unfoldable pub noCase : Case
-noCase = record { head = noHeader; initial = empty; actions = []; methods = []; plan = []; nodes = []; planLine = 0 }
-
-abbrev pub caseIn : Read Case → Case
-caseIn (read k n place) = k
-caseIn (refused r) = noCase
-
--- The case of a text: none in particular where the text is refused.
-unfoldable pub caseOf : List ℕ → Case
-caseOf text = caseIn (readCase text)
 
 -- What reading left: the text reads as its case, whose header is h, and the directory finds its lines.
 pub record Left (text directory : List ℕ) (h : Header) (initial plan : ℕ) : Type 0 where

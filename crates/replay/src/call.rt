@@ -3,13 +3,17 @@ ghost use mathlib.Core.Path.{_≡_};
 ghost use Prim.Native.Nat.{ℕ, _≤_};
 ghost use lib.ListN.{length, replicate};
 ghost use Rattle.rules.specs.Verdict.{stateNeed, workNeed, textMost, replayLists, replay, answerOf, statesAfter, workAfter};
-ghost use Rattle.replay.specs.Running.{caseOf, Left, replayRun, replayText};
+ghost use Rattle.reading.specs.TheCase.{caseOf};
+ghost use Rattle.replay.specs.Running.{Left, replayRun, replayText};
 use crate::again;
 use crate::running;
 use crate::running::Ran;
 use reading::CaseRead;
 use rules::Answer;
 use rules::Header;
+use rules::STATES;
+use rules::TEXT;
+use rules::WORK;
 use state::WORDS;
 use text::Cursor;
 
@@ -75,13 +79,13 @@ pub fn replay(text: &[u8], states: &mut [u64], work: &mut [u32]) -> Answer
 {
     rows::clear(states);
     rows::clear_work(work);
-    if states.len() < 1001 * WORDS {
+    if states.len() < STATES * WORDS {
         return Answer::ShortList { list: 1 };
     }
-    if work.len() < 16384 {
+    if work.len() < WORK {
         return Answer::ShortList { list: 3 };
     }
-    if 65535 < text.len() {
+    if TEXT < text.len() {
         return Answer::LongText;
     }
     let r = replay_lent(text, states, work);

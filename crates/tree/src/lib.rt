@@ -1,10 +1,13 @@
 // Walking the claimed tree (01, "The tree" and rows 6 to 9 of its table) over the text and the lent work space.
 mod fit;
+mod layout;
 mod marks;
 mod number;
 mod rows;
 mod walk;
 
+pub use layout::ROWS;
+pub use layout::SUBTASKS;
 pub use marks::Unclaimed;
 pub use marks::least_unclaimed;
 pub use number::store_plan;

@@ -4,6 +4,7 @@ ghost use Prim.Native.Nat.{ℕ, _≤_};
 ghost use lib.ListN.{length};
 ghost use Rattle.tree.specs.Layout.{marksIn};
 ghost use Rattle.tree.specs.Marks.{asUnclaimed, leastUnmarked};
+use crate::layout::MARKS;
 
 // "after the walk: least position unclaimed"
 pub enum Unclaimed {
@@ -17,7 +18,7 @@ pub fn least_unclaimed(work: &[u32], cues: u32) -> Unclaimed
 {
     let mut i: u32 = 0;
     while i < cues {
-        let mark = 3072 + i as usize;
+        let mark = MARKS + i as usize;
         if work[mark] == 0 {
             return Unclaimed::At { position: i + 1 };
         }

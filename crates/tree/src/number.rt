@@ -6,6 +6,7 @@ ghost use Rattle.rules.specs.Text.{letterAt, numberAt};
 ghost use Rattle.rules.specs.Case.{Case};
 ghost use Rattle.tree.specs.Layout.{planFrom};
 ghost use Rattle.tree.specs.Numbers.{numbered, afterLetter, caseIn, PlanAt};
+use crate::layout::PLAN;
 use text::Cursor;
 use text::Field;
 use text::Letter;
@@ -51,7 +52,7 @@ pub fn store_plan(text: &[u8], plan: Cursor, cues: u32, work: &mut [u32])
     let mut i: u32 = 0;
     while i < cues {
         let n = number_at(text, c);
-        let place = 4104 + i as usize;
+        let place = PLAN + i as usize;
         work[place] = n.value;
         c = n.next;
         i += 1;

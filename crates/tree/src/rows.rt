@@ -11,6 +11,9 @@ ghost use Rattle.tree.specs.Standing.{putRow, settled, noted, joined, St
 use crate::fit;
 use crate::fit::Given;
 use crate::fit::Place;
+use crate::layout::MARKS;
+use crate::layout::PLAN;
+use crate::layout::ROWS;
 use index::Doubled;
 use index::Span;
 use rules::Answer;
@@ -26,7 +29,7 @@ fn put_row(work: &mut [u32], node: u32, span: Span, after: u32)
     requires { ⌜ (node < 3000) × (16384 ≤ length (now work)) ⌝ }
     ensures { λ _. ⌜ now (work .exit) ≡ putRow node (spanOf span) after (now (work .entry)) ⌝ }
 {
-    let i = 7168 + 3 * node as usize;
+    let i = ROWS + 3 * node as usize;
     let start = span.start;
     let end = span.end;
     work[i] = start.0;
@@ -82,8 +85,8 @@ pub fn claim(
     ensures { λ r. ⌜ Claims (caseIn (now (text .entry))) node action position next (now (work .entry)) r (now (work .exit)) ⌝ }
 {
     let i = position as usize - 1;
-    let planned = 4104 + i;
-    let mark = 3072 + i;
+    let planned = PLAN + i;
+    let mark = MARKS + i;
     if work[planned] == action {
         if work[mark] == 0 {
             work[mark] = 1;

@@ -4,7 +4,7 @@ use Rattle.judge.proofs.Phases.{refused-all, open-sound, claims-all, cl
 use Rattle.judge.proofs.Verdicts.{claims-refused}
 use Rattle.judge.proofs.judge_claims.Statement.{statement}
 use Rattle.judge.proofs.judge_claims.Tie as tie
-use Rattle.replay.specs.Running.{caseOf}
+use Rattle.reading.specs.TheCase.{caseOf}
 use Rattle.rules.specs.Verdict.{workNeed, judgeTree}
 use Rattle.rules.specs.declared.Answer.the-variants.{Unclaimed}
 use Rattle.rules.specs.declared.Header.{Header}

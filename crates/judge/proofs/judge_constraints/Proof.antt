@@ -4,7 +4,7 @@ use Rattle.judge.proofs.Constrained.{constraints-ready, kept-not, recor
 use Rattle.judge.proofs.Phases.{refused-all}
 use Rattle.judge.proofs.judge_constraints.Statement.{statement}
 use Rattle.judge.proofs.judge_constraints.Tie as tie
-use Rattle.replay.specs.Running.{caseOf}
+use Rattle.reading.specs.TheCase.{caseOf}
 use Rattle.rules.specs.Verdict.{judgeTree}
 use borrow.Author.Needs.{needs}
 use lib.ListN.{length, replicate}

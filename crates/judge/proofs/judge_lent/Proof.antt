@@ -6,7 +6,7 @@ use Rattle.judge.proofs.judge_lent.Statement.{statement}
 use Rattle.judge.proofs.judge_lent.Tie as tie
 use Rattle.reading.specs.Directory.{directorySize}
 use Rattle.records.specs.Records.{recordsAfter}
-use Rattle.replay.specs.Running.{caseOf}
+use Rattle.reading.specs.TheCase.{caseOf}
 use Rattle.rules.specs.Tree.{Tree}
 use Rattle.rules.specs.Verdict.{answerOf, statesAfter, textMost, workNeed, stateNeed, judgeText, judgeTree, Found}
 use borrow.Author.Needs.{needs}

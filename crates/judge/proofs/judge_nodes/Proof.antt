@@ -5,7 +5,7 @@ use Rattle.judge.proofs.Verdicts.{tree-refused}
 use Rattle.judge.proofs.judge_nodes.Statement.{statement}
 use Rattle.judge.proofs.judge_nodes.Tie as tie
 use Rattle.records.specs.Records.{recordsAfter}
-use Rattle.replay.specs.Running.{caseOf}
+use Rattle.reading.specs.TheCase.{caseOf}
 use Rattle.rules.specs.Verdict.{statesAfter, judgeTree}
 use borrow.Author.Needs.{needs}
 use lib.ListN.{length, replicate}

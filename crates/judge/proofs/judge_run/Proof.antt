@@ -6,7 +6,7 @@ use Rattle.judge.proofs.judge_run.Statement.{statement}
 use Rattle.judge.proofs.judge_run.Tie as tie
 use Rattle.records.specs.Records.{recordsAfter}
 use Rattle.replay.proofs.Reached.{initial-is, few-cues}
-use Rattle.replay.specs.Running.{caseOf}
+use Rattle.reading.specs.TheCase.{caseOf}
 use Rattle.rules.specs.State.{wordCount}
 use Rattle.rules.specs.Tree.{Tree}
 use Rattle.rules.specs.Verdict.{answerOf, statesAfter, stateNeed, judgeRun, judgeTree, Found}

@@ -4,7 +4,8 @@ use Rattle.replay.proofs.Calls.{left-worded, refuses, run-passes, run-s
 use Rattle.replay.proofs.Reached.{few-cues, initial-is}
 use Rattle.replay.proofs.call.replay_case.Statement.{statement}
 use Rattle.replay.proofs.call.replay_case.Tie as tie
-use Rattle.replay.specs.Running.{caseOf, replayRun}
+use Rattle.reading.specs.TheCase.{caseOf}
+use Rattle.replay.specs.Running.{replayRun}
 use Rattle.rules.specs.State.{wordCount}
 use Rattle.rules.specs.Verdict.{stateNeed}
 use Rattle.rules.specs.declared.Answer.the-variants.{Inapplicable}

@@ -3,7 +3,7 @@ use Prim.Native.Nat.{_-_, _<_, _≤_}
 use Rattle.replay.proofs.Reached.{plan-long, few-cues, cue-known, Reached, reached-none, due-known, reached-next, reached-stop, reached-all}
 use Rattle.replay.proofs.running.run.Statement.{statement}
 use Rattle.replay.proofs.running.run.Tie as tie
-use Rattle.replay.specs.Running.{caseOf}
+use Rattle.reading.specs.TheCase.{caseOf}
 use Rattle.rules.specs.State.{wordCount}
 use borrow.Author.Needs.{needs}
 use lib.ListN.{length}
