@@ -5,83 +5,59 @@ use mathlib.Core.Bool.{Bool, true, false, _&&_, not, and-false}
 use mathlib.Core.List.{List, [], _∷_, map}
 use Prim.Native.Nat.{ℕ, zero, suc, _+_, _-_, _≤_, _<_}
 use native.Mathlib.Omega.{arith}
-use borrow.Author.Tests.{lt-ltb, le-leb, eq-eqb, ltb-true, ltb-false, eqb-true, eqb-false, not-true}
+use borrow.Author.Tests.{lt-ltb, le-leb, ltb-true, ltb-false, eqb-true, eqb-false, not-true}
 use lib.Dec.{eqb, leb, ltb}
-use lib.ListN.{length, getD, set, drop, drop-of-length-le}
-use lib.Seq.{sets, drop-drop, drop-cons, getD-take, getD-set-other}
+use lib.ListN.{length, getD, drop, drop-of-length-le}
+use lib.Seq.{drop-drop, drop-cons, getD-take}
 use Rattle.rules.specs.declared.Answer.{Answer}
 use Rattle.rules.specs.declared.Answer.the-variants.{WrongNode, TooDeep}
-use Rattle.rules.specs.declared.Header.{Header}
 use Rattle.rules.specs.Table as T
-use Rattle.rules.specs.Table.{Value, scalar, members, numberOf, LineRead, line, readLine}
-use Rattle.rules.specs.Case.{Method, NodeLine, D, E, L, Case, methodAt, noMethod, scalarAt, Valued, nodeOf, Read, read, readCase, oneLine, many}
-use Rattle.rules.specs.Tree.{Tree, empty, Walk, Walks, asTask, walkSubtasks, noSubtasks, isMethodOf, fits, ClaimTest, mayClaim, walkFitting, walkNode}
-use Rattle.rules.proofs.Judgement.Each.{Each, each-at, both-true}
-use Rattle.rules.proofs.Judgement.Sound.{Sound, GoodHeader, GoodMethod, GoodNode, sound}
-use Rattle.lines.specs.Reading.{asLine, noValues}
-use Rattle.reading.specs.Directory.{methodsFrom, directorySize}
-use Rattle.tree.specs.declared.fit.Given.{Given}
+use Rattle.rules.specs.Table.{Value, line}
+use Rattle.rules.specs.Case.{NodeLine, D, E, L, Case, methodAt, noMethod, scalarAt, nodeOf, oneLine, many}
+use Rattle.rules.specs.Tree.{Tree, empty, Walk, asTask, walkSubtasks, noSubtasks, isMethodOf, fits, ClaimTest, mayClaim, walkFitting, walkNode}
+use Rattle.rules.proofs.Judgement.Each.{each-at, both-true}
+use Rattle.rules.proofs.Judgement.Sound.{Sound, GoodMethod, GoodNode}
+use Rattle.reading.specs.declared.again.Again.{Again}
+use Rattle.reading.specs.Again.{asAgain, AgainAt}
+use Rattle.reading.specs.Directory.{methodsFrom}
 use Rattle.tree.specs.declared.fit.Place.{Place}
-use Rattle.tree.specs.declared.fit.Subtasks.{Subtasks}
 use Rattle.tree.specs.declared.fit.Entry.{Entry}
 use Rattle.tree.specs.declared.fit.Entry.the-variants.{Task, Empty, Leaf}
-use Rattle.tree.specs.declared.fit.EntryRead.{EntryRead}
 use Rattle.tree.specs.declared.fit.Fit.{Fit}
 use Rattle.tree.specs.declared.fit.Fit.the-variants.{Refused, Open, Empty as EmptyFit, Leaf as LeafFit}
 use Rattle.tree.specs.Layout.{marksFrom, directoryOf, NodesFrom}
-use Rattle.tree.specs.Numbers.{numbersAt}
-use Rattle.tree.specs.Fits.{lineAt, Follows, pickEntry, entryOf, entryRead, entryLine, WithMethod, methodHead, headIn, pickFit, fitOf, deepFit, atLevel}
-use Rattle.tree.specs.Standing.{MethodsAt, Steady, nodeFrom, listFrom, claimFrom, Beyond, Judged}
+use Rattle.tree.specs.Fits.{lineAt, pickEntry, entryOf, entryLine, headIn, pickFit, fitOf, deepFit, atLevel}
+use Rattle.tree.specs.Standing.{MethodsAt, nodeFrom, Beyond, Judged}
 use Rattle.tree.proofs.Numbers.{length-numbers, line-read, many-first, HeadIs, method-head}
 
 -- ---- The node's line
 
-sets-keeps : (vs l : List ℕ) (i j : ℕ) → j < i → getD (sets l i vs) j 0 ≡ getD l j 0
-sets-keeps [] l i j h = refl
-sets-keeps (v ∷ vs) l i j h = sets-keeps vs (set l i v) (suc i) j (omega arith) ∙ getD-set-other l i j v 0 (λ e. omega arith)
-
--- The numbers of a line, as the line reader hands them over.
-abbrev valuesOf : List Value → List ℕ
-valuesOf vs = sets noValues 0 (map numberOf vs)
-
-value-0 : (vs : List Value) → getD (valuesOf vs) 0 0 ≡ scalarAt vs 0
-unfolding scalarAt
-value-0 [] = refl
-value-0 (v ∷ vs) = sets-keeps (map numberOf vs) (set noValues 0 (numberOf v)) 1 0 (omega arith)
-
-value-1 : (vs : List Value) → getD (valuesOf vs) 1 0 ≡ scalarAt vs 1
-unfolding scalarAt
-value-1 [] = refl
-value-1 (v ∷ []) = refl
-value-1 (v ∷ u ∷ vs) = sets-keeps (map numberOf vs) (set (set noValues 0 (numberOf v)) 1 (numberOf u)) 2 1 (omega arith)
-
-entry-line : (l : ℕ) (vs : List Value) → entryLine (entryOf l (valuesOf vs)) ≡ nodeOf (l, vs)
+entry-line : (l : ℕ) (vs : List Value) (next : ℕ) → entryLine (entryOf (asAgain l vs next)) ≡ nodeOf (l, vs)
 unfolding entryOf nodeOf
-entry-line l vs = go (eqb l 68) (eqb l 69)
+entry-line l vs next = go (eqb l 68) (eqb l 69)
   where
     go : (d e : Bool)
-        → entryLine (pickEntry d (Task (getD (valuesOf vs) 0 0))
-        (pickEntry e (Empty (getD (valuesOf vs) 0 0) (getD (valuesOf vs) 1 0)) (Leaf (getD (valuesOf vs) 0 0) (getD (valuesOf vs) 1 0))))
+        → entryLine (pickEntry d (Task (scalarAt vs 0)) (pickEntry e (Empty (scalarAt vs 0) (scalarAt vs 1)) (Leaf (scalarAt vs 0) (scalarAt vs 1))))
         ≡ elim d as (λ x. NodeLine) [
           | true ↦ D (scalarAt vs 0)
           | false ↦ elim e as (λ x. NodeLine) [ true ↦ E (scalarAt vs 0) (scalarAt vs 1) | false ↦ L (scalarAt vs 0) (scalarAt vs 1) ]
         ]
-    go true e = ap D (value-0 vs)
-    go false true = ap₂ E (value-0 vs) (value-1 vs)
-    go false false = ap₂ L (value-0 vs) (value-1 vs)
+    go true e = refl
+    go false true = refl
+    go false false = refl
 
 drop-tail : {A : Type 0} (n : ℕ) (l : List A) (x : A) (xs : List A) → drop n l ≡ x ∷ xs → drop (n + 1) l ≡ xs
 drop-tail n l x xs e = sym (drop-drop 1 n l) ∙ ap (drop 1) e
 
--- The node lines from node n on: its own entry, and those after it.
-pub record EntryHere (text : List ℕ) (k : Case) (n : ℕ) (r : EntryRead) : Type 0 where
-  pub here : drop n (k .nodes) ≡ entryLine (r .entry) ∷ drop (n + 1) (k .nodes)
-  pub rest : NodesFrom text k (n + 1) (r .next .at)
+-- The node lines from node n on: its own, read again, and those after it.
+pub record EntryHere (text : List ℕ) (k : Case) (n : ℕ) (a : Again) : Type 0 where
+  pub here : drop n (k .nodes) ≡ entryLine (entryOf a) ∷ drop (n + 1) (k .nodes)
+  pub rest : NodesFrom text k (n + 1) (a .next .at)
 
-pub entry-here : (text : List ℕ) (k : Case) (n place : ℕ) → NodesFrom text k n place → n < k .head .nodes
-    → EntryHere text k n (entryRead (asLine (readLine text T.node (k .head) 0 place)))
-unfolding asLine
-entry-here text k n place f h =
+pub entry-here : (text : List ℕ) (k : Case) (n place : ℕ) → NodesFrom text k n place → n < k .head .nodes → (a : Again) → AgainAt text place a
+    → EntryHere text k n a
+unfolding AgainAt
+entry-here text k n place f h a again =
     let left : k .head .nodes - n ≡ suc (k .head .nodes - (n + 1)) = omega arith in
     let each = oneLine text (k .head) T.node 0 in
     let m = many-first each (k .head .nodes - (n + 1)) (f .number) place (f .lines) (f .past) (f .next)
@@ -90,9 +66,9 @@ entry-here text k n place f h =
     let e = line-read text (k .head) T.node (f .number) place x (m .1) (m .2) (m .4) in
     let all : nodeOf x ∷ map nodeOf (m .3) ≡ drop n (k .nodes) = sym (ap (map nodeOf) (m .6)) ∙ f .are in
     let tail : drop (n + 1) (k .nodes) ≡ map nodeOf (m .3) = drop-tail n (k .nodes) (nodeOf x) (map nodeOf (m .3)) (sym all) in
-    subst (λ (r : LineRead). EntryHere text k n (entryRead (asLine r))) (sym e)
+    subst (EntryHere text k n) (sym (again T.node refl (k .head) 0 (x .0) (x .1) (m .2) e))
     (record {
-      here = sym all ∙ ap₂ _∷_ (sym (entry-line (x .0) (x .1))) (sym tail);
+      here = sym all ∙ ap₂ _∷_ (sym (entry-line (x .0) (x .1) (m .2))) (sym tail);
       rest = record { lines = m .3; number = m .1; past = f .past; next = f .next; reads = m .5; are = sym tail };
     })
 

@@ -1,47 +1,38 @@
 -- What the functions outside the cycle answer, from what their calls and tests say. Assumes nothing.
 use mathlib.Core.Path.{_≡_, refl, sym, ap, subst, _∙_}
-use mathlib.Core.Bool.{Bool, true, false, _&&_, not}
-use mathlib.Core.List.{List, [], _∷_}
-use Prim.Native.Nat.{ℕ, zero, suc, _+_, _-_, _≤_, _<_}
-use native.Mathlib.Numerals.{add-one}
+use mathlib.Core.Bool.{Bool, _&&_, not}
+use mathlib.Core.List.{List}
+use Prim.Native.Nat.{ℕ, suc, _+_, _-_, _≤_, _<_}
 use native.Mathlib.Omega.{arith}
 use borrow.Author.Tests.{lt-ltb, le-ltb}
-use lib.Dec.{eqb, ltb}
-use lib.ListN.{length, getD, set, drop}
+use lib.Dec.{eqb}
+use lib.ListN.{set, drop}
 use lib.Seq.{sets}
 use Rattle.rules.specs.declared.Answer.{Answer}
 use Rattle.rules.specs.declared.Answer.the-variants.{WrongNode, TooDeep, WrongClaim}
 use Rattle.rules.specs.declared.Header.{Header}
 use Rattle.rules.specs.Text.{numberAt, letterAt}
-use Rattle.rules.specs.Table as T
-use Rattle.rules.specs.Table.{readLine}
-use Rattle.rules.specs.Case.{NodeLine, D, E, L, Case}
+use Rattle.rules.specs.Case.{Case}
 use Rattle.rules.proofs.Judgement.Sound.{Sound, GoodNode, sound}
-use Rattle.lines.specs.declared.line.LineRead.{LineRead}
-use Rattle.lines.specs.Reading.{asLine}
 use Rattle.text.specs.declared.Cursor.{Cursor}
+use Rattle.reading.specs.declared.again.Again.{Again}
+use Rattle.reading.specs.Again.{AgainAt}
 use Rattle.tree.specs.declared.fit.Given.{Given}
 use Rattle.tree.specs.declared.fit.Place.{Place}
 use Rattle.tree.specs.declared.fit.Subtasks.{Subtasks}
 use Rattle.tree.specs.declared.fit.Entry.{Entry}
 use Rattle.tree.specs.declared.fit.Entry.the-variants.{Task, Empty, Leaf}
-use Rattle.tree.specs.declared.fit.EntryRead.{EntryRead}
 use Rattle.tree.specs.declared.fit.MethodHead.{MethodHead}
 use Rattle.tree.specs.declared.fit.Fit.{Fit}
 use Rattle.tree.specs.declared.fit.Fit.the-variants.{Refused, Open, Empty as EmptyFit, Leaf as LeafFit}
 use Rattle.tree.specs.declared.number.Numbered.{Numbered}
 use Rattle.tree.specs.declared.rows.Walked.{Walked}
-use Rattle.tree.specs.declared.walk.First.{First}
-use Rattle.tree.specs.Numbers.{valueIn, nextIn, numbered, afterLetter, numbersAt}
-use Rattle.tree.specs.Fits.{lineAt, Follows, entryOf, nextLine, entryRead, entryLine, WithMethod, methodHead, headIn, pickFit, fitOf, deepFit, atLevel, firstOf}
+use Rattle.tree.specs.Numbers.{numbered, afterLetter, numbersAt}
+use Rattle.tree.specs.Fits.{lineAt, Follows, entryOf, entryLine, WithMethod, methodHead, headIn, pickFit, fitOf, deepFit, atLevel, firstOf}
 use Rattle.tree.specs.Standing.{Steady, Beyond, Judged}
 use Rattle.tree.proofs.Judging.{EntryHere, entry-here, good-node, judged-lacking, judged}
 
 -- ---- Lines read again
-
-pub entry-read : (r : LineRead) (x : T.LineRead) (e : Entry) (d : Cursor) → e ≡ entryOf (r .letter) (r .values) → d ≡ nextLine (r .finish) → r ≡ asLine x
-    → record { entry = e; next = d } ≡ entryRead (asLine x)
-entry-read r x e d p q z = (λ j. record { entry = p j; next = q j }) ∙ ap entryRead z
 
 pub head-read : (text : List ℕ) (place : ℕ) (c : Cursor) (t n : Numbered) → c ≡ afterLetter (letterAt text place)
     → t ≡ numbered (numberAt text (c .at)) → n ≡ numbered (numberAt text (t .next .at))
@@ -131,35 +122,33 @@ module _ (text : List ℕ) (k : Case) (g : Given) (w : List ℕ) (st : Steady te
         subst (λ (x : ℕ). Judged text k p t level (Refused (WrongNode x))) (sym (line-is (p .node) l e))
         (judged-lacking text k p t level (let q = ap (λ (y : Header). y .nodes) (st .head) in omega arith) case-sound)
 
-    module _ (inside : p .node < g .header .nodes) (r : EntryRead) (z : r ≡ entryRead (asLine (readLine text T.node (g .header) 0 (p .at .at)))) where
+    module _ (inside : p .node < g .header .nodes) (a : Again) (again : AgainAt text (p .at .at) a) where
       below : p .node < k .head .nodes
       below = let q = ap (λ (y : Header). y .nodes) (st .head) in omega arith
 
-      read-here : EntryHere text k (p .node) r
-      read-here =
-          subst (EntryHere text k (p .node)) (sym (z ∙ ap (λ (h : Header). entryRead (asLine (readLine text T.node h 0 (p .at .at)))) (st .head)))
-          (entry-here text k (p .node) (p .at .at) (f .nodes) below)
+      read-here : EntryHere text k (p .node) a
+      read-here = entry-here text k (p .node) (p .at .at) (f .nodes) below a again
 
-      entry-good : GoodNode (k .head) (entryLine (r .entry))
-      entry-good = good-node k case-sound (p .node) (entryLine (r .entry)) (drop (p .node + 1) (k .nodes)) below (read-here .here)
+      entry-good : GoodNode (k .head) (entryLine (entryOf a))
+      entry-good = good-node k case-sound (p .node) (entryLine (entryOf a)) (drop (p .node + 1) (k .nodes)) below (read-here .here)
 
       method-below : (x : Entry) → GoodNode (k .head) (entryLine x) → WithMethod 2048 x
       method-below (Task m) h = let q = case-sound .head-good .few-methods in omega arith
       method-below (Empty m y) h = let q = case-sound .head-good .few-methods in omega arith
-      method-below (Leaf a i) h = tt
+      method-below (Leaf b i) h = tt
 
-      pub entry-method : WithMethod 2048 (r .entry)
-      entry-method = method-below (r .entry) entry-good
+      pub entry-method : (entry : Entry) → entry ≡ entryOf a → WithMethod 2048 entry
+      entry-method entry ee = subst (WithMethod 2048) (sym ee) (method-below (entryOf a) entry-good)
 
-      pub judge-fit : (next : Place) (fit res : Fit) → next ≡ record { node = p .node + 1; at = r .next }
-          → fit ≡ fitOf text w (r .entry) next t (WrongNode l) → res ≡ atLevel level fit (TooDeep l) → Judged text k p t level res
-      judge-fit next fit res en ef er =
+      pub judge-fit : (entry : Entry) (next : Place) (fit res : Fit) → entry ≡ entryOf a → next ≡ record { node = p .node + 1; at = a .next }
+          → fit ≡ fitOf text w entry next t (WrongNode l) → res ≡ atLevel level fit (TooDeep l) → Judged text k p t level res
+      judge-fit entry next fit res ee en ef er =
           let li = line-is (p .node) l e in
-          let b : Beyond text k p (record { node = p .node + 1; at = r .next }) =
+          let b : Beyond text k p (record { node = p .node + 1; at = a .next }) =
           record { one = refl; there = below; follows = record { nodes = read-here .rest; within = let h = below in omega arith } } in
           subst (Judged text k p t level)
-          (sym (er ∙ ap (λ (x : Fit). atLevel level x (TooDeep l)) ef ∙ λ j. atLevel level (fitOf text w (r .entry) (en j) t (WrongNode (li j))) (TooDeep (li j))))
-          (judged text k p t level w case-sound (st .methods) (r .entry) (record { node = p .node + 1; at = r .next }) (read-here .here) entry-good b)
+          (sym (er ∙ ap (λ (x : Fit). atLevel level x (TooDeep l)) ef ∙ λ j. atLevel level (fitOf text w (ee j) (en j) t (WrongNode (li j))) (TooDeep (li j))))
+          (judged text k p t level w case-sound (st .methods) (entryOf a) (record { node = p .node + 1; at = a .next }) (read-here .here) entry-good b)
 
 -- ---- Storing the plan
 

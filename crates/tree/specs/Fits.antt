@@ -1,24 +1,19 @@
 -- A node's line, a method's line, and how the one fits the task expected there, as the code reads them. Assumes nothing.
-use mathlib.Core.Path.{_≡_}
 use mathlib.Core.Bool.{Bool, true, false, _&&_, not}
-use mathlib.Core.List.{List, [], _∷_, map}
+use mathlib.Core.List.{List}
 use Prim.Native.Nat.{ℕ, _+_, _-_, _≤_, _<_}
 use lib.Dec.{eqb, ltb}
-use lib.ListN.{getD, drop}
+use lib.ListN.{getD}
 use Rattle.rules.specs.declared.Answer.{Answer}
 use Rattle.rules.specs.Text.{numberAt, letterAt}
 use Rattle.rules.specs.Case.{NodeLine, D, E, L, Case}
-use Rattle.lines.specs.declared.line.Finish.{Finish}
-use Rattle.lines.specs.declared.line.Finish.the-variants.{Done, Bad, Range}
-use Rattle.lines.specs.declared.line.LineRead.{LineRead}
-use Rattle.text.specs.declared.Cursor.{Cursor}
 use Rattle.text.specs.Cursor.{cursor}
+use Rattle.reading.specs.declared.again.Again.{Again}
 use Rattle.reading.specs.Directory.{methodsFrom}
 use Rattle.tree.specs.declared.fit.Place.{Place}
 use Rattle.tree.specs.declared.fit.Subtasks.{Subtasks}
 use Rattle.tree.specs.declared.fit.Entry.{Entry}
 use Rattle.tree.specs.declared.fit.Entry.the-variants.{Task, Empty, Leaf}
-use Rattle.tree.specs.declared.fit.EntryRead.{EntryRead}
 use Rattle.tree.specs.declared.fit.MethodHead.{MethodHead}
 use Rattle.tree.specs.declared.fit.Fit.{Fit}
 use Rattle.tree.specs.declared.fit.Fit.the-variants.{Refused, Open, Empty as EmptyFit, Leaf as LeafFit}
@@ -39,18 +34,9 @@ abbrev pub pickEntry : Bool → Entry → Entry → Entry
 pickEntry true a b = a
 pickEntry false a b = b
 
-unfoldable pub entryOf : ℕ → List ℕ → Entry
-entryOf l values =
-    pickEntry (eqb l 68) (Task (getD values 0 0))
-    (pickEntry (eqb l 69) (Empty (getD values 0 0) (getD values 1 0)) (Leaf (getD values 0 0) (getD values 1 0)))
-
-abbrev pub nextLine : Finish → Cursor
-nextLine (Done next) = next
-nextLine (Bad field) = cursor 0
-nextLine (Range field) = cursor 0
-
-abbrev pub entryRead : LineRead → EntryRead
-entryRead r = record { entry = entryOf (r .letter) (r .values); next = nextLine (r .finish) }
+-- A node line read again, by its letter.
+unfoldable pub entryOf : Again → Entry
+entryOf a = pickEntry (eqb (a .letter) 68) (Task (a .first)) (pickEntry (eqb (a .letter) 69) (Empty (a .first) (a .second)) (Leaf (a .first) (a .second)))
 
 -- The line that an entry is.
 abbrev pub entryLine : Entry → NodeLine

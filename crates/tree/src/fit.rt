@@ -1,21 +1,15 @@
 // A node's line against the task that is expected there (01, "The tree"): "an action leaf for an action; for a compound task one of its
 // own methods".
 ghost use mathlib.Core.Path.{_≡_};
-ghost use Prim.Native.Nat.{ℕ, _+_, _≤_, _<_};
-ghost use lib.Dec.{ltb};
+ghost use Prim.Native.Nat.{_+_, _≤_, _<_};
 ghost use lib.ListN.{length, getD};
-ghost use Rattle.rules.specs.Text.{feedFollows};
-ghost use Rattle.rules.specs.Table.{node, readLine};
-ghost use Rattle.lines.specs.Reading.{asLine};
 ghost use Rattle.reading.specs.Directory.{methodsFrom};
-ghost use Rattle.tree.specs.Layout.{NodesFrom};
 ghost use Rattle.tree.specs.Numbers.{caseIn};
-ghost use Rattle.tree.specs.Fits.{entryOf, nextLine, entryRead, methodHead, fitOf, WithMethod, atLevel, Follows, lineAt};
+ghost use Rattle.tree.specs.Fits.{entryOf, methodHead, fitOf, WithMethod, atLevel, Follows, lineAt};
 ghost use Rattle.tree.specs.Standing.{Steady, Judged};
 use crate::number;
-use lines::Context;
-use lines::Finish;
-use lines::Role;
+use reading::Again;
+use reading::read_again;
 use rules::Answer;
 use rules::Header;
 use text::Cursor;
@@ -46,11 +40,6 @@ pub enum Entry {
     Leaf { action: u32, position: u32 },
 }
 
-pub struct EntryRead {
-    pub entry: Entry,
-    pub next: Cursor,
-}
-
 // A method's line: its compound task and its subtasks.
 pub struct MethodHead {
     pub task: u32,
@@ -77,56 +66,23 @@ pub enum Fit {
     },
 }
 
-fn entry_of(letter: u8, values: [u32; 7]) -> Entry
-    ensures { λ r. ⌜ r ≡ entryOf letter values ⌝ }
+// A node line read again, by its letter.
+fn entry_of(a: Again) -> Entry
+    ensures { λ r. ⌜ r ≡ entryOf a ⌝ }
 {
-    if letter == b'D' {
-        return Entry::Task { method: values[0] };
+    if a.letter == b'D' {
+        return Entry::Task { method: a.first };
     }
-    if letter == b'E' {
+    if a.letter == b'E' {
         Entry::Empty {
-            method: values[0],
-            gap: values[1],
+            method: a.first,
+            gap: a.second,
         }
     } else {
         Entry::Leaf {
-            action: values[0],
-            position: values[1],
+            action: a.first,
+            position: a.second,
         }
-    }
-}
-
-fn next_line(finish: Finish) -> Cursor
-    ensures { λ r. ⌜ r ≡ nextLine finish ⌝ }
-{
-    match finish {
-        Finish::Done { next } => next,
-        Finish::Bad { field: _ } => Cursor::new(),
-        Finish::Range { field: _ } => Cursor::new(),
-    }
-}
-
-// The node's line, by the one line reader.
-fn read_entry(text: &[u8], g: Given, at: Cursor) -> EntryRead
-    requires { ⌜ ((p : ℕ) → feedFollows (now text) p ≡ ltb p (g .past)) ⌝ }
-    ensures { λ r. ⌜ r ≡ entryRead (asLine (readLine (now (text .entry)) node (g .header) 0 (at .at))) ⌝ }
-{
-    let header = g.header;
-    let r = lines::read_line(
-        text,
-        g.past,
-        at,
-        Role::Node,
-        Context {
-            header,
-            subtasks: 0,
-        },
-    );
-    let finish = r.finish;
-    let values = r.values;
-    EntryRead {
-        entry: entry_of(r.letter, values),
-        next: next_line(finish),
     }
 }
 
@@ -231,14 +187,13 @@ pub fn judge(text: &[u8], g: Given, work: &[u32], p: Place, task: u32, level: u3
     if header.nodes <= p.node {
         return Fit::Refused { answer: wrong };
     }
-    let at = p.at;
-    let r = read_entry(text, g, at);
-    let entry = r.entry;
-    let after = r.next;
+    let here = p.at;
+    let a = read_again(text, here);
+    let at = a.next;
     let next = Place {
         node: p.node + 1,
-        at: after,
+        at,
     };
-    let fit = fit_entry(text, work, entry, next, task, wrong);
+    let fit = fit_entry(text, work, entry_of(a), next, task, wrong);
     at_level(level, fit, Answer::TooDeep { line })
 }
