@@ -7,3 +7,4 @@ pub mod Parts
 pub mod First
 pub mod Rereading
 pub mod TheCase
+pub mod MethodLines

@@ -1,4 +1,4 @@
--- Short lines read again: the letter, and the numbers from left to right up to the line feed. A line that reading has let pass has them, so
+-- Lines read again: the letter, and the numbers from left to right up to the line feed. A line that reading has let pass has them, so
 -- nothing rests on what stands for one that isn't there. Assumes nothing.
 use mathlib.Core.Path.{_≡_}
 use mathlib.Core.Bool.{Bool, true, false}
@@ -12,6 +12,7 @@ use Rattle.rules.specs.Case.{scalarAt}
 use Rattle.text.specs.declared.Cursor.{Cursor}
 use Rattle.text.specs.Cursor.{cursor}
 use Rattle.reading.specs.declared.again.Again.{Again}
+use Rattle.reading.specs.declared.again.MethodAgain.{MethodAgain}
 use Rattle.reading.specs.declared.again.Numbered.{Numbered}
 
 abbrev pub numberOr : Cursor → Number → Numbered
@@ -23,13 +24,17 @@ abbrev pub lineOr : Cursor → Ending → Cursor
 lineOr c (ended next) = cursor next
 lineOr c surplus = c
 
--- The field after so many numbers; and that number itself, 0 where the line has none.
+-- The number after a cursor, 0 where the line has none.
+abbrev pub numberHere : List ℕ → Cursor → Numbered
+numberHere text c = numberOr c (numberAt text (c .at))
+
+-- The field after so many numbers; and that number itself.
 unfoldable pub fieldFrom : List ℕ → ℕ → Cursor → Cursor
 fieldFrom text zero c = c
-fieldFrom text (suc i) c = fieldFrom text i (numberOr c (numberAt text (c .at)) .next)
+fieldFrom text (suc i) c = fieldFrom text i (numberHere text c .next)
 
 unfoldable pub numberFrom : List ℕ → ℕ → Cursor → ℕ
-numberFrom text i c = numberOr (fieldFrom text i c) (numberAt text (fieldFrom text i c .at)) .value
+numberFrom text i c = numberHere text (fieldFrom text i c) .value
 
 -- The numbers of a line of letter l, from the field after the letter.
 unfoldable pub againFrom : List ℕ → ℕ → Cursor → Again
@@ -40,6 +45,16 @@ againFrom text l c = record {
   third = numberFrom text 2 c;
   next = lineOr (fieldFrom text 3 c) (endingAt text (fieldFrom text 3 c .at));
 }
+
+-- A method line, from the field after the letter: its task, how many subtasks, so many of them, how many constraints, and the line's end.
+abbrev pub methodEnd : List ℕ → Numbered → Numbered → MethodAgain
+methodEnd text s c = record { subtasks = s .value; constraints = c .value; next = lineOr (c .next) (endingAt text (c .next .at)) }
+
+abbrev pub afterTask : List ℕ → Numbered → MethodAgain
+afterTask text s = methodEnd text s (numberHere text (fieldFrom text (s .value) (s .next)))
+
+unfoldable pub methodFrom : List ℕ → Cursor → MethodAgain
+methodFrom text c = afterTask text (numberHere text (numberHere text c .next))
 
 -- The roles whose lines are a letter and at most three numbers.
 abbrev pub isShort : Role → Bool
@@ -60,3 +75,12 @@ unfoldable pub AgainAt : List ℕ → ℕ → Again → Type 0
 AgainAt text place r =
     (due : Role) → isShort due ≡ true → (h : Header) (n l : ℕ) (vs : List Value) (next : ℕ) → readLine text due h n place ≡ line l vs next
     → r ≡ asAgain l vs next
+
+-- Whatever method line reading lets pass at a place says so many subtasks and constraints: an M line's numbers are its task, its subtasks'
+-- count and its constraints'.
+abbrev pub asMethod : List Value → ℕ → MethodAgain
+asMethod vs next = record { subtasks = scalarAt vs 1; constraints = scalarAt vs 2; next = cursor next }
+
+unfoldable pub MethodAgainAt : List ℕ → ℕ → MethodAgain → Type 0
+MethodAgainAt text place r =
+    (h : Header) (n l : ℕ) (vs : List Value) (next : ℕ) → readLine text T.method h n place ≡ line l vs next → r ≡ asMethod vs next

@@ -1,7 +1,7 @@
-// Numbers and short lines that reading has let pass, read again: nothing is checked a second time.
+// Lines that reading has let pass, read again: nothing is checked a second time.
 ghost use mathlib.Core.Path.{_≡_};
-ghost use Rattle.rules.specs.Text.{numberAt, endingAt};
-ghost use Rattle.reading.specs.Again.{numberOr, lineOr, againFrom, AgainAt};
+ghost use Rattle.rules.specs.Text.{endingAt};
+ghost use Rattle.reading.specs.Again.{numberHere, lineOr, fieldFrom, againFrom, methodFrom, AgainAt, MethodAgainAt};
 use text::Cursor;
 use text::Ending;
 use text::Field;
@@ -17,6 +17,13 @@ pub struct Again {
     pub next: Cursor,
 }
 
+// A method line that reading has let pass, read again: how many subtasks and how many constraints it says, and where the next line starts.
+pub struct MethodAgain {
+    pub subtasks: u32,
+    pub constraints: u32,
+    pub next: Cursor,
+}
+
 // A number, and where the field after it starts.
 pub struct Numbered {
     pub value: u32,
@@ -25,7 +32,7 @@ pub struct Numbered {
 
 // The number after the cursor; 0 where the line has no further one, and the cursor stays.
 pub fn number_again(text: &[u8], c: Cursor) -> Numbered
-    ensures { λ r. ⌜ r ≡ numberOr c (numberAt (now (text .entry)) (c .at)) ⌝ }
+    ensures { λ r. ⌜ r ≡ numberHere (now (text .entry)) c ⌝ }
 {
     match c.number(text) {
         Field::Number { value, next } => Numbered { value, next },
@@ -67,5 +74,44 @@ pub fn read_again(text: &[u8], c: Cursor) -> Again
     match c.letter(text) {
         Letter::Byte { byte, next } => numbers(text, next, byte),
         Letter::Wrong => numbers(text, c, 0),
+    }
+}
+
+// The field after so many numbers.
+fn skip(text: &[u8], c: Cursor, count: u32) -> Cursor
+    ensures { λ r. ⌜ r ≡ fieldFrom (now (text .entry)) count c ⌝ }
+{
+    let mut at = c;
+    let mut i: u32 = 0;
+    while i < count {
+        let n = number_again(text, at);
+        at = n.next;
+        i += 1;
+    }
+    at
+}
+
+// The numbers after a method line's letter: its task, how many subtasks, the subtasks, how many constraints.
+fn method_numbers(text: &[u8], c: Cursor) -> MethodAgain
+    ensures { λ r. ⌜ r ≡ methodFrom (now (text .entry)) c ⌝ }
+{
+    let task = number_again(text, c);
+    let subtasks = number_again(text, task.next);
+    let at = skip(text, subtasks.next, subtasks.value);
+    let constraints = number_again(text, at);
+    MethodAgain {
+        subtasks: subtasks.value,
+        constraints: constraints.value,
+        next: next_line(text, constraints.next),
+    }
+}
+
+// The method line that starts at the cursor.
+pub fn read_method_again(text: &[u8], c: Cursor) -> MethodAgain
+    ensures { λ r. ⌜ MethodAgainAt (now (text .entry)) (c .at) r ⌝ }
+{
+    match c.letter(text) {
+        Letter::Byte { byte: _, next } => method_numbers(text, next),
+        Letter::Wrong => method_numbers(text, c),
     }
 }

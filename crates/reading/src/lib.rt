@@ -12,9 +12,11 @@ ghost use Rattle.reading.specs.Groups.{wholeCase, FieldBelow, afterLine,
 mod again;
 
 pub use again::Again;
+pub use again::MethodAgain;
 pub use again::Numbered;
 pub use again::number_again;
 pub use again::read_again;
+pub use again::read_method_again;
 use lines::Context;
 use lines::Finish;
 use lines::Role;

@@ -20,9 +20,9 @@ use Rattle.text.specs.declared.Letter.{Letter as LineLetter}
 use Rattle.text.specs.declared.Letter.the-variants.{Byte, Wrong}
 use Rattle.text.specs.Cursor.{cursor, asLetter}
 use Rattle.reading.specs.declared.again.Numbered.{Numbered}
-use Rattle.reading.specs.Again.{numberOr}
+use Rattle.reading.specs.Again.{numberOr, numberHere}
 use Rattle.replay.specs.declared.again.SetRead.{SetRead}
-use Rattle.replay.specs.Again.{afterLetter, pastLetter, setThen, numberHere, membersAgain, setAgain, ActionSets, InitialSet}
+use Rattle.replay.specs.Again.{afterLetter, pastLetter, setThen, membersAgain, setAgain, ActionSets, InitialSet}
 
 unread : {l : ℕ} {vs : List Value} {next field : ℕ} → LineRead.unreadable field ≡ line l vs next → ⊥
 unread e = let z : _≡_ {A = ℕ} 0 1 = cc in omega arith

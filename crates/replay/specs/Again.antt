@@ -4,7 +4,7 @@ use mathlib.Core.List.{List}
 use Prim.Native.Nat.{ℕ, zero, suc}
 use Rattle.rules.specs.declared.Header.{Header}
 use Rattle.rules.specs.State.{empty, insert}
-use Rattle.rules.specs.Text.{Letter, letter, noLetter, letterAt, numberAt}
+use Rattle.rules.specs.Text.{Letter, letter, noLetter, letterAt}
 use Rattle.rules.specs.Table as T
 use Rattle.rules.specs.Table.{Value, line, readLine}
 use Rattle.rules.specs.Case as C
@@ -12,8 +12,7 @@ use Rattle.rules.specs.Case.{setAt}
 use Rattle.state.specs.declared.State.{State}
 use Rattle.state.specs.Action.{actionOf}
 use Rattle.text.specs.declared.Cursor.{Cursor}
-use Rattle.reading.specs.declared.again.Numbered.{Numbered}
-use Rattle.reading.specs.Again.{numberOr}
+use Rattle.reading.specs.Again.{numberHere}
 use Rattle.replay.specs.declared.again.SetRead.{SetRead}
 use Rattle.replay.specs.declared.again.Sets.{Sets}
 
@@ -28,10 +27,6 @@ pastLetter text place = afterLetter place (letterAt text place)
 -- A set of these words, with the place of the field after it.
 abbrev pub setThen : List ℕ → Cursor → SetRead
 setThen words next = record { set = record { words = words }; next = next }
-
--- The number at a cursor.
-abbrev pub numberHere : List ℕ → Cursor → Numbered
-numberHere text c = numberOr c (numberAt text (c .at))
 
 -- So many members put into a set, each read where the one before it ended.
 abbrev pub membersAgain : List ℕ → ℕ → List ℕ → Cursor → SetRead
