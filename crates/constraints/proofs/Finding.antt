@@ -3,9 +3,10 @@
 use mathlib.Core.Path.{_≡_, refl, sym, ap, ap₂, subst, _∙_}
 use mathlib.Core.Bool.{Bool, true, false, _||_}
 use mathlib.Core.List.{List, [], _∷_, map, head-eq-of-cons-eq, tail-eq-of-cons-eq}
-use Prim.Native.Nat.{ℕ, zero, suc, _+_, _-_, _<_}
+use Prim.Native.Nat.{ℕ, zero, suc, _+_, _-_, _≤_, _<_}
 use native.Mathlib.Numerals.{add-one}
 use native.Mathlib.Omega.{arith}
+use borrow.Author.Tests.{leb-true}
 use lib.Dec.{eqb}
 use lib.ListN.{length, getD, drop}
 use lib.Seq.{drop-cons}
@@ -61,30 +62,32 @@ module _ (text : List ℕ) (h : Header) (s : ℕ) where
 -- An M line's second number is how many subtasks there are, and its third how many constraints follow: these.
 pub record MethodIs (text : List ℕ) (h : Header) (m : Method) (y : MethodLine) : Type 0 where
   pub counts : y .subtasks ≡ length (m .subtasks)
+  pub few : y .count ≤ 64
   pub reads : TestsRead text h (y .subtasks) (y .count) (y .next .at)
   pub tests : testsAt text h (y .subtasks) (y .count) (y .next .at) ≡ m .constraints
 
-abbrev Counted : ℕ → List T.Value → Type 0
-Counted l vs = scalarAt vs 1 ≡ length (membersAt vs 1)
+abbrev pub Counted : ℕ → List T.Value → Type 0
+Counted l vs = (scalarAt vs 1 ≡ length (membersAt vs 1)) × (scalarAt vs 2 ≤ 64)
 
-counts-subtasks : (h : Header) → ForLine h 0 T.method Counted
+pub method-counts : (h : Header) → ForLine h 0 T.method Counted
 unfolding ForLine table roleNumber inRange scalarAt membersAt
-counts-subtasks h = (λ t ht vs n hs c hc. refl, tt)
+method-counts h = (λ t ht vs n hs c hc. (refl, leb-true c 64 hc), tt)
 
 module _ (text : List ℕ) (h : Header) (n : ℕ) (c : Cursor) (m : Method) (n′ next : ℕ) (e : oneMethod text h n (c .at) ≡ read m n′ next) where
-  found-rest : (l : ℕ) (vs : List T.Value) (cs : List Valued) (nx a b : ℕ) → scalarAt vs 1 ≡ length (membersAt vs 1)
+  found-rest : (l : ℕ) (vs : List T.Value) (cs : List Valued) (nx a b : ℕ) → Counted l vs
       → many (oneLine text h T.constraint (scalarAt vs 1)) (scalarAt vs 2) (n + 1) nx ≡ read cs a b → methodOf vs cs ≡ m
       → MethodIs text h m (asMethodLine c (T.line l vs nx))
   unfolding methodOf
   found-rest l vs cs nx a b d q same =
       let t = many-tests text h (scalarAt vs 1) (scalarAt vs 2) (n + 1) nx cs a b q in
       record {
-        counts = d ∙ ap (λ (x : Method). length (x .subtasks)) same;
+        counts = d .0 ∙ ap (λ (x : Method). length (x .subtasks)) same;
+        few = d .1;
         reads = t .0;
         tests = t .1 ∙ ap (λ (x : Method). x .constraints) same;
       }
 
-  found-follow : (l : ℕ) (vs : List T.Value) (nx : ℕ) (r : Read (List Valued)) → scalarAt vs 1 ≡ length (membersAt vs 1)
+  found-follow : (l : ℕ) (vs : List T.Value) (nx : ℕ) (r : Read (List Valued)) → Counted l vs
       → many (oneLine text h T.constraint (scalarAt vs 1)) (scalarAt vs 2) (n + 1) nx ≡ r
       → follow r (λ cs n₂ p₂. read (methodOf vs cs) n₂ p₂) ≡ read m n′ next → MethodIs text h m (asMethodLine c (T.line l vs nx))
   found-follow l vs nx (read cs a b) d q f = let same : methodOf vs cs ≡ m = cc in found-rest l vs cs nx a b d q same
@@ -106,7 +109,7 @@ module _ (text : List ℕ) (h : Header) (n : ℕ) (c : Cursor) (m : Method) (n�
   unfolding oneMethod oneLine
   method-found y q =
       subst (MethodIs text h m) (sym q)
-      (found-line (readLine text T.method h 0 (c .at)) (one-line-says text h T.method 0 n (c .at) Counted (counts-subtasks h)) e)
+      (found-line (readLine text T.method h 0 (c .at)) (one-line-says text h T.method 0 n (c .at) Counted (method-counts h)) e)
 
 -- ---- a node's line
 

@@ -1,4 +1,5 @@
 pub mod Rereading
+pub mod Loading
 pub mod Testing
 pub mod Held
 pub mod Within

@@ -71,16 +71,6 @@ module _ (before after : List ℕ) (l : Leaves before after) where
       oneMethodAt : ℕ → ℕ → Read Method
       oneMethodAt n p = oneMethod text (k .head) n p
 
-pub leaves-all : (work : List ℕ) → Leaves work work
-leaves-all work = record { same-size = refl; directory = refl; rows = refl }
-
-pub leaves-then : {a b c : List ℕ} → Leaves a b → Leaves b c → Leaves a c
-leaves-then p q = record {
-  same-size = q .same-size ∙ p .same-size;
-  directory = q .directory ∙ p .directory;
-  rows = q .rows ∙ p .rows;
-}
-
 -- ---- the whole tree
 
 module _ {k : Case} {t : Tree} {text : List ℕ} {past : ℕ} {header : Header} {planLine nodes : ℕ} {states work : List ℕ}
@@ -226,10 +216,6 @@ module _ {k : Case} {t : Tree} {text : List ℕ} {past : ℕ} {header : Header} 
   own-span =
       ap (λ (g : ℕ → Span). g n) (rows-stored work (siblings work (n + 1) (countOf (subtreesOf x))) few-nodes)
       ∙ root-row work x n (node-held r n h) .spanned
-
-  pub plan-room : planFrom ≤ length after
-  unfolding planFrom workNeed
-  plan-room = let e = after-leaves .same-size in let f = r .room in omega arith
 
   pub placed : Placed (k .head .cues) (span x) (subtaskSpans x) after states (holdsIn (statesOf k))
   unfolding spansIn planFrom workNeed

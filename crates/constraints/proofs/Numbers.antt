@@ -5,16 +5,16 @@ use mathlib.Core.List.{List, map}
 use Prim.Native.Nat.{ℕ, zero, suc, _+_, _*_, _≤_, _<_}
 use native.Mathlib.Nat.{suc-mul}
 use native.Mathlib.Omega.{arith}
-use borrow.Author.Tests.{leb-true}
 use lib.Dec.{ltb}
 use lib.ListN.{length}
 use Rattle.rules.specs.declared.Header.{Header}
 use Rattle.rules.specs.declared.Answer.the-variants.{Unreadable}
 use Rattle.rules.specs.Table as T
-use Rattle.rules.specs.Table.{readLine, table, roleNumber, inRange}
+use Rattle.rules.specs.Table.{readLine}
 use Rattle.rules.specs.Case.{Method, Case, Valued, scalarAt, membersAt, setAt, headerOf, actionOf, nodeOf, Read, read, refused, follow, readOf, oneLine, many, oneMethod, noSurplus, readBody, noHeader, readCase}
 use Rattle.rules.specs.Tree.{Tree}
-use Rattle.rules.proofs.Judgement.Reading.{ForLine, ReadSays, one-line-says}
+use Rattle.rules.proofs.Judgement.Reading.{ReadSays, one-line-says}
+use Rattle.constraints.proofs.Finding.{Counted, method-counts}
 use Rattle.constraints.proofs.Nodes.{is-sound, size-is}
 use Rattle.constraints.proofs.Steps.{Going, all-nodes}
 
@@ -60,10 +60,6 @@ lines-say text h due s count n place =
     weaken m (refused a) e = tt
 
 -- A method: its line and at most 64 more.
-few-constraints : (h : Header) → ForLine h 0 T.method (λ l vs. scalarAt vs 2 ≤ 64)
-unfolding ForLine table roleNumber inRange scalarAt
-few-constraints h = (λ t ht vs n hs c hc. leb-true c 64 hc, tt)
-
 both : (P : Valued → Type 0) (Q : Valued → ℕ → Type 0) (r : Read Valued) → ReadSays P r → Says Q r → Says (λ x m. P x × Q x m) r
 both P Q (read x m place) p q = (p, q)
 both P Q (refused a) p q = tt
@@ -71,12 +67,12 @@ both P Q (refused a) p q = tt
 method-says : (text : List ℕ) (h : Header) (n place : ℕ) → Says (λ (x : Method) m. m ≤ n + 65) (oneMethod text h n place)
 unfolding oneMethod
 method-says text h n place =
-    says-then (λ (x : Valued) m. (scalarAt (x .1) 2 ≤ 64) × (m ≡ n + 1)) (λ (x : Method) m. m ≤ n + 65) (oneLine text h T.method 0 n place) _
-    (both (λ x. scalarAt (x .1) 2 ≤ 64) (λ x m. m ≡ n + 1) (oneLine text h T.method 0 n place)
-    (one-line-says text h T.method 0 n place (λ l vs. scalarAt vs 2 ≤ 64) (few-constraints h)) (line-says text h T.method 0 n place))
+    says-then (λ (x : Valued) m. Counted (x .0) (x .1) × (m ≡ n + 1)) (λ (x : Method) m. m ≤ n + 65) (oneLine text h T.method 0 n place) _
+    (both (λ x. Counted (x .0) (x .1)) (λ x m. m ≡ n + 1) (oneLine text h T.method 0 n place)
+    (one-line-says text h T.method 0 n place Counted (method-counts h)) (line-says text h T.method 0 n place))
     (λ x n′ place′ p. let s = scalarAt (x .1) 1 in let count = scalarAt (x .1) 2 in
     says-then (λ (cs : List Valued) m. m ≤ n′ + count * 1) (λ (y : Method) m. m ≤ n + 65) (many (oneLine text h T.constraint s) count n′ place′) _
-    (lines-say text h T.constraint s count n′ place′) (λ cs n″ place″ q. let few = p .0 in let one = p .1 in omega arith))
+    (lines-say text h T.constraint s count n′ place′) (λ cs n″ place″ q. let few = p .0 .1 in let one = p .1 in omega arith))
 
 -- ---- the whole text
 

@@ -26,17 +26,58 @@ use Rattle.text.specs.declared.Cursor.{Cursor}
 use Rattle.reading.specs.declared.again.Again.{Again}
 use Rattle.reading.specs.Again.{AgainAt}
 use Rattle.constraints.specs.declared.method.MethodLine.{MethodLine}
+use Rattle.constraints.specs.declared.method.Loaded.{Loaded}
 use Rattle.constraints.specs.declared.method.Kept.{Kept}
 use Rattle.constraints.specs.declared.method.Kept.the-variants.{All, Broken}
 use Rattle.parts.specs.States.{inRow}
 use Rattle.parts.specs.Spans.{rowSpan, RowInside, siblings, spansIn}
 use Rattle.parts.specs.Tests.{Tested}
+use Rattle.constraints.specs.Loaded.{testsFrom, testsPast, testsIn, Letters, Holds, IfLoaded}
 use Rattle.constraints.specs.Methods.{asMethodLine, keptAs, testsAt}
 use Rattle.constraints.specs.Ready.{Ready, Leaves, namesMethod, Labels, nodeOfTree, brokenOfNode, brokenOfTree}
 use Rattle.constraints.proofs.Held.{countOf, subtreesOf, subtrees-spans, spans-length, preorder-length}
 use Rattle.constraints.proofs.Judging.{good-tested, broken-same}
 use Rattle.constraints.proofs.Finding.{MethodIs, method-found, NodeIs, node-found}
-use Rattle.constraints.proofs.Nodes.{leaves-all, leaves-then, is-sound, tree-is, size-is, ready-leaves, node-proper, MethodNode, method-node, no-constraints, method-good, few-subtrees, subtrees-inside, after-leaves, own-inside, own-span, plan-room, placed}
+use Rattle.constraints.proofs.Stores.{siblings-length, sets-past, leaves-all, leaves-then}
+use Rattle.constraints.proofs.Loading.{tests-same, letters-same}
+use Rattle.constraints.proofs.Nodes.{is-sound, tree-is, size-is, ready-leaves, node-proper, MethodNode, method-node, no-constraints, method-good, few-subtrees, subtrees-inside, after-leaves, own-inside, own-span, placed}
+
+-- ---- one method
+
+module _ {k : Case} {t : Tree} {text : List ℕ} {past : ℕ} {header : Header} {planLine nodes : ℕ} {states work : List ℕ}
+    (r : Ready k t text past header planLine nodes states work) {label : ℕ} (b : label < k .head .methods) where
+  pub method-inside : 1024 + label < length work
+  unfolding workNeed
+  method-inside =
+      let f = is-sound r .head-good .few-methods in
+      let g = r .room in omega arith
+
+  pub tests-room : testsPast ≤ length work
+  unfolding testsPast workNeed
+  tests-room = let f = r .room in omega arith
+
+  pub method-read : (c : Cursor) (y : MethodLine) → c .at ≡ getD work (1024 + label) 0 → y ≡ asMethodLine c (readLine text T.method header 0 (c .at))
+      → MethodIs text (k .head) (methodAt (k .methods) label) y
+  unfolding methodsFrom
+  method-read c y e q =
+      let f = r .finds .methodLine label b in
+      method-found text (k .head) (f .0) c (methodAt (k .methods) label) (f .1) (f .2)
+      (ap (λ (p : ℕ). oneMethod text (k .head) (f .0) p) e ∙ f .3) y (q ∙ λ j. asMethodLine c (readLine text T.method (r .heads j) 0 (c .at)))
+
+-- The method that its lines are read for is in the work space.
+pub now-loaded : {k : Case} {text : List ℕ} {label : ℕ} {y : MethodLine} (new : List ℕ) → MethodIs text (k .head) (methodAt (k .methods) label) y
+    → testsIn new 0 (y .count) ≡ testsAt text (k .head) (y .subtasks) (y .count) (y .next .at) → Letters new (y .count)
+    → Holds k new (record { method = label; subtasks = y .subtasks; count = y .count })
+now-loaded new found tests letters = record { subtasks = found .counts; few = found .few; letters = letters; tests = tests ∙ found .tests }
+
+-- It may be the one that was.
+pub still-loaded : {k : Case} {work : List ℕ} {label : ℕ} {x : Loaded} → label < k .head .methods → IfLoaded k work x → label ≡ x .method → Holds k work x
+still-loaded {k} b f e = f (subst (λ (i : ℕ). i < k .head .methods) e b)
+
+-- A number past the methods' loads none.
+pub none-loaded : {k : Case} {t : Tree} {text : List ℕ} {past : ℕ} {header : Header} {planLine nodes : ℕ} {states work : List ℕ} {x : Loaded}
+    → Ready k t text past header planLine nodes states work → x .method ≡ 4294967295 → IfLoaded k work x
+none-loaded r e b = let f = is-sound r .head-good .few-methods in absurd (omega arith)
 
 -- ---- one node
 
@@ -62,6 +103,12 @@ abbrev pub standing : {k : Case} {t : Tree} {text : List ℕ} {past : ℕ} {head
 standing {k} {t} r n letter label h labels names =
     record { ready = r; below = h; node = method-node k letter label (nodeOfTree t n) (node-proper r n h) labels names }
 
+-- Stores between the directory and the rows leave it so.
+pub standing-leaves : {k : Case} {t : Tree} {text : List ℕ} {past : ℕ} {header : Header} {planLine nodes : ℕ} {states work : List ℕ} {n label : ℕ}
+    → Standing k t text past header planLine nodes states work n label → (new : List ℕ) → Leaves work new
+    → Standing k t text past header planLine nodes states new n label
+standing-leaves w new l = record { ready = ready-leaves (w .ready) new l; below = w .below; node = w .node }
+
 module _ {k : Case} {t : Tree} {text : List ℕ} {past : ℕ} {header : Header} {planLine nodes : ℕ} {states work : List ℕ} {n label : ℕ}
     (w : Standing k t text past header planLine nodes states work n label) where
   abbrev r : Ready k t text past header planLine nodes states work
@@ -76,51 +123,35 @@ module _ {k : Case} {t : Tree} {text : List ℕ} {past : ℕ} {header : Header} 
   abbrev method : Method
   method = methodAt (k .methods) label
 
-  pub method-inside : 1024 + label < length work
-  unfolding workNeed
-  method-inside =
-      let b = node-is .below in
-      let f = is-sound r .head-good .few-methods in
-      let g = r .room in omega arith
-
   pub few-enough : n + 1 ≤ 4294967295
   few-enough =
       let f = is-sound r .head-good .few-nodes in
       let e = size-is r in omega arith
 
-  pub method-read : (c : Cursor) (y : MethodLine) → c .at ≡ getD work (1024 + label) 0 → y ≡ asMethodLine c (readLine text T.method header 0 (c .at))
-      → MethodIs text (k .head) method y
-  unfolding methodsFrom
-  method-read c y e q =
-      let f = r .finds .methodLine label (node-is .below) in
-      method-found text (k .head) (f .0) c method (f .1) (f .2)
-      (ap (λ (p : ℕ). oneMethod text (k .head) (f .0) p) e ∙ f .3) y (q ∙ λ j. asMethodLine c (readLine text T.method (r .heads j) 0 (c .at)))
+  module _ (x : Loaded) (held : Holds k work x) (named : x .method ≡ label) where
+    tests-are : testsIn work 0 (x .count) ≡ method .constraints
+    tests-are = held .tests ∙ ap (λ (i : ℕ). methodAt (k .methods) i .constraints) named
 
-  module _ (m : MethodLine) (found : MethodIs text (k .head) method m) where
-    abbrev tests : List Constraint
-    tests = testsAt text (k .head) (m .subtasks) (m .count) (m .next .at)
+    -- It has none.
+    pub none-follow : (line : ℕ) → x .count ≡ 0 → All ≡ keptAs (brokenOfNode k t line n)
+    none-follow line e = none-of k t line n (node-is .brings ∙ sym tests-are ∙ ap (testsIn work 0) e)
 
-    -- None follow the M line.
-    pub none-follow : (line : ℕ) → m .count ≡ 0 → All ≡ keptAs (brokenOfNode k t line n)
-    none-follow line e =
-        none-of k t line n (node-is .brings ∙ sym (found .tests) ∙ ap (λ (c : ℕ). testsAt text (k .head) (m .subtasks) c (m .next .at)) e)
+    counted : x .subtasks ≡ countOf (subtreesOf (nodeOfTree t n))
+    counted = held .subtasks ∙ ap (λ (i : ℕ). length (methodAt (k .methods) i .subtasks)) named ∙ sym (node-is .count)
 
-    counted : m .subtasks ≡ countOf (subtreesOf (nodeOfTree t n))
-    counted = found .counts ∙ sym (node-is .count)
-
-    pub few-second : m .subtasks ≤ 32
+    pub few-second : x .subtasks ≤ 32
     few-second = let e = counted in let f = few-subtrees r n h label node-is in omega arith
 
     pub room-before : planFrom ≤ length work
     unfolding planFrom workNeed
     room-before = let f = r .room in omega arith
 
-    pub nodes-inside : Each (RowInside work) (siblings work (n + 1) (m .subtasks))
+    pub nodes-inside : Each (RowInside work) (siblings work (n + 1) (x .subtasks))
     nodes-inside =
         subst (λ (c : ℕ). Each (RowInside work) (siblings work (n + 1) c)) (sym counted)
         (subtrees-inside r n h label node-is)
 
-    module _ (new : List ℕ) (stores : new ≡ sets work subtasksFrom (siblings work (n + 1) (m .subtasks))) where
+    module _ (new : List ℕ) (stores : new ≡ sets work subtasksFrom (siblings work (n + 1) (x .subtasks))) where
       is-after : new ≡ sets work subtasksFrom (siblings work (n + 1) (countOf (subtreesOf (nodeOfTree t n))))
       is-after = stores ∙ ap (λ (c : ℕ). sets work subtasksFrom (siblings work (n + 1) c)) counted
 
@@ -131,8 +162,29 @@ module _ {k : Case} {t : Tree} {text : List ℕ} {past : ℕ} {header : Header} 
       new-inside =
           subst (λ (l : List ℕ). RowInside l n) (sym is-after) (own-inside r n h label node-is)
 
-      pub new-room : planFrom ≤ length new
-      new-room = subst (λ (l : List ℕ). planFrom ≤ length l) (sym is-after) (plan-room r n h label node-is)
+      pub new-room : testsPast ≤ length new
+      new-room = subst (λ (c : ℕ). testsPast ≤ c) (sym (new-leaves .same-size)) (tests-room r (node-is .below))
+
+      words-same : (q : ℕ) → testsFrom ≤ q → getD new q 0 ≡ getD work q 0
+      unfolding testsFrom subtasksFrom
+      words-same q b =
+          let few = few-second in
+          let e = siblings-length work (n + 1) (x .subtasks) in
+          ap (λ (l : List ℕ). getD l q 0) stores ∙ sets-past work subtasksFrom (siblings work (n + 1) (x .subtasks)) q (omega arith)
+
+      pub new-holds : Holds k new x
+      new-holds = record {
+        subtasks = held .subtasks;
+        few = held .few;
+        letters = letters-same work new (x .count) (λ q a b. words-same q a) (held .letters);
+        tests = tests-same work new (x .count) (λ q a b. words-same q a) ∙ held .tests;
+      }
+
+      abbrev tests : List Constraint
+      tests = testsIn new 0 (x .count)
+
+      new-tests : tests ≡ method .constraints
+      new-tests = tests-same work new (x .count) (λ q a b. words-same q a) ∙ tests-are
 
       good : Each (GoodConstraint (k .head) (length (subtaskSpans (nodeOfTree t n)))) (method .constraints)
       good =
@@ -148,7 +200,7 @@ module _ {k : Case} {t : Tree} {text : List ℕ} {past : ℕ} {header : Header} 
 
         pub new-tested : Each (Tested new states own) tests
         new-tested =
-            subst (λ (ds : List Constraint). Each (Tested new states own) ds) (sym (found .tests))
+            subst (λ (ds : List Constraint). Each (Tested new states own) ds) (sym new-tests)
             (λ x i.
             subst (λ (l : List ℕ). Tested l states own x) (sym is-after)
             (subst (λ (s : Span). Tested (sets work subtasksFrom (siblings work (n + 1) (countOf (subtreesOf (nodeOfTree t n))))) states s x) (sym own-is)
@@ -161,15 +213,15 @@ module _ {k : Case} {t : Tree} {text : List ℕ} {past : ℕ} {header : Header} 
             → kept ≡ keptAs (brokenOfNode k t line n)
         unfolding brokenOfNode partsOf
         new-kept line kept e =
-            let x = nodeOfTree t n in
-            let ds : tests ≡ constraintsOf k x = found .tests ∙ sym (node-is .brings) in
+            let y = nodeOfTree t n in
+            let ds : tests ≡ constraintsOf k y = new-tests ∙ sym (node-is .brings) in
             e
             ∙ ap (λ (l : List ℕ). keptAs (firstBrokenOf (inRow states) (spanOfPart own (spansIn l)) line 0 tests)) is-after
-            ∙ ap₂ (λ (s : Span) (cs : List Constraint). keptAs (firstBrokenOf (inRow states) (spanOfPart s (spansIn (sets work subtasksFrom (siblings work (n + 1) (countOf (subtreesOf x)))))) line 0 cs)) own-is ds
-            ∙ ap keptAs (broken-same (k .head) (k .head .cues) (span x) (subtaskSpans x)
-            (sets work subtasksFrom (siblings work (n + 1) (countOf (subtreesOf x)))) states (holdsIn (statesOf k))
-            (placed r n h label node-is) line 0 (constraintsOf k x)
-            (subst (λ (cs : List Constraint). Each (GoodConstraint (k .head) (length (subtaskSpans x))) cs) (sym (node-is .brings)) good))
+            ∙ ap₂ (λ (s : Span) (cs : List Constraint). keptAs (firstBrokenOf (inRow states) (spanOfPart s (spansIn (sets work subtasksFrom (siblings work (n + 1) (countOf (subtreesOf y)))))) line 0 cs)) own-is ds
+            ∙ ap keptAs (broken-same (k .head) (k .head .cues) (span y) (subtaskSpans y)
+            (sets work subtasksFrom (siblings work (n + 1) (countOf (subtreesOf y)))) states (holdsIn (statesOf k))
+            (placed r n h label node-is) line 0 (constraintsOf k y)
+            (subst (λ (cs : List Constraint). Each (GoodConstraint (k .head) (length (subtaskSpans y))) cs) (sym (node-is .brings)) good))
 
 -- ---- the nodes in order
 

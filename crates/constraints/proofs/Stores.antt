@@ -1,10 +1,10 @@
--- The stores of the subtasks' nodes leave the directory and the rows, and the nodes stand first in their places. Assumes nothing.
+-- Stores between the directory and the rows leave both; the subtasks' nodes stand first in their places. Assumes nothing.
 use mathlib.Core.Path.{_≡_, refl, ap, _∙_, fun-ext}
 use mathlib.Core.List.{List, [], _∷_, _++_, append-assoc}
-use Prim.Native.Nat.{ℕ, zero, suc, _+_, _-_, _*_, _≤_}
+use Prim.Native.Nat.{ℕ, zero, suc, _+_, _-_, _*_, _≤_, _<_}
 use native.Mathlib.Omega.{arith}
-use lib.ListN.{length, getD, take, drop, set}
-use lib.Seq.{sets, length-sets, sets-eq, getD-set-other, take-set-le, take-set-lt, drop-set-lt, take-append-add, drop-at, length-take-le}
+use lib.ListN.{length, getD, take, drop, set, length-set}
+use lib.Seq.{sets, length-sets, sets-eq, getD-set-same, getD-set-other, take-set-le, take-set-lt, drop-set-lt, take-append-add, drop-at, length-take-le}
 use Rattle.tree.specs.Layout.{marksFrom, subtasksFrom, planFrom, rowsFrom, rowsPast}
 use Rattle.parts.specs.Spans.{rowSpan, nodeAfter, siblings, nodesIn}
 use Rattle.constraints.specs.Ready.{Leaves}
@@ -13,9 +13,29 @@ pub siblings-length : (work : List ℕ) (n count : ℕ) → length (siblings wor
 siblings-length work n zero = refl
 siblings-length work n (suc count) = ap suc (siblings-length work (nodeAfter work n) count)
 
-sets-past : (l : List ℕ) (i : ℕ) (vs : List ℕ) (j : ℕ) → i + length vs ≤ j → getD (sets l i vs) j 0 ≡ getD l j 0
+pub sets-past : (l : List ℕ) (i : ℕ) (vs : List ℕ) (j : ℕ) → i + length vs ≤ j → getD (sets l i vs) j 0 ≡ getD l j 0
 sets-past l i [] j h = refl
 sets-past l i (v ∷ vs) j h = sets-past (set l i v) (suc i) vs j (omega arith) ∙ getD-set-other l i j v 0 (λ e. omega arith)
+
+pub sets-before : (l : List ℕ) (i : ℕ) (vs : List ℕ) (j : ℕ) → j < i → getD (sets l i vs) j 0 ≡ getD l j 0
+sets-before l i [] j h = refl
+sets-before l i (v ∷ vs) j h = sets-before (set l i v) (suc i) vs j (omega arith) ∙ getD-set-other l i j v 0 (λ e. omega arith)
+
+pub sets-at : (l : List ℕ) (i : ℕ) (vs : List ℕ) (j : ℕ) → j < length vs → i + length vs ≤ length l → getD (sets l i vs) (i + j) 0 ≡ getD vs j 0
+sets-at l i [] j h room = absurd (omega arith)
+sets-at l i (v ∷ vs) zero h room =
+    let e : i + 0 ≡ i = omega arith in
+    ap (λ (q : ℕ). getD (sets (set l i v) (suc i) vs) q 0) e ∙ sets-before (set l i v) (suc i) vs i (omega arith) ∙ getD-set-same l i v 0 (omega arith)
+sets-at l i (v ∷ vs) (suc j) h room =
+    let e : i + suc j ≡ suc i + j = omega arith in
+    ap (λ (q : ℕ). getD (sets (set l i v) (suc i) vs) q 0) e ∙ sets-at (set l i v) (suc i) vs j (omega arith) (omega (arith, length-set l i v))
+
+pub four-stores : (w : List ℕ) (i a b c d : ℕ) → set (set (set (set w i a) (i + 1) b) (i + 2) c) (i + 3) d ≡ sets w i (a ∷ b ∷ c ∷ d ∷ [])
+four-stores w i a b c d =
+    let e : i + 1 ≡ suc i = omega arith in
+    let f : i + 2 ≡ suc (suc i) = omega arith in
+    let g : i + 3 ≡ suc (suc (suc i)) = omega arith in
+    λ j. set (set (set (set w i a) (e j) b) (f j) c) (g j) d
 
 take-sets : (n : ℕ) (l : List ℕ) (i : ℕ) (vs : List ℕ) → n ≤ i → take n (sets l i vs) ≡ take n l
 take-sets n l i [] h = refl
@@ -27,17 +47,36 @@ slice-sets a b l i (v ∷ vs) h le =
     slice-sets a b (set l i v) (suc i) vs (omega arith) le
     ∙ ap (drop a) (take-set-lt b l i v (omega arith)) ∙ drop-set-lt a (take b l) i v (omega arith)
 
+-- ---- what is left as it was
+
+pub leaves-all : (work : List ℕ) → Leaves work work
+leaves-all work = record { same-size = refl; directory = refl; rows = refl }
+
+pub leaves-then : {a b c : List ℕ} → Leaves a b → Leaves b c → Leaves a c
+leaves-then p q = record {
+  same-size = q .same-size ∙ p .same-size;
+  directory = q .directory ∙ p .directory;
+  rows = q .rows ∙ p .rows;
+}
+
+-- Stores between the directory and the rows.
+pub leaves-sets : (work : List ℕ) (i : ℕ) (vs : List ℕ) → marksFrom ≤ i → i + length vs ≤ rowsFrom → Leaves work (sets work i vs)
+unfolding rowsFrom rowsPast
+leaves-sets work i vs a b = record {
+  same-size = length-sets work i vs;
+  directory = take-sets marksFrom work i vs a;
+  rows = slice-sets rowsFrom rowsPast work i vs b (omega arith);
+}
+
+-- ---- the subtasks' nodes
+
 module _ (work ns : List ℕ) (few : length ns ≤ 32) where
   abbrev pub stored : List ℕ
   stored = sets work subtasksFrom ns
 
   pub leaves-stored : Leaves work stored
-  unfolding marksFrom subtasksFrom rowsFrom rowsPast
-  leaves-stored = record {
-    same-size = length-sets work subtasksFrom ns;
-    directory = take-sets marksFrom work subtasksFrom ns (omega arith);
-    rows = slice-sets rowsFrom rowsPast work subtasksFrom ns (omega arith) (omega arith);
-  }
+  unfolding marksFrom subtasksFrom rowsFrom
+  leaves-stored = leaves-sets work subtasksFrom ns (omega arith) (omega arith)
 
   pub rows-stored : rowSpan stored ≡ rowSpan work
   unfolding rowSpan subtasksFrom rowsFrom

@@ -1,8 +1,10 @@
-// One method's constraints, read again from the lines after its M line.
+// One method's constraints: read again from the lines after its M line into the work space, and tested from there.
 ghost use mathlib.Core.Path.{_≡_};
-ghost use Prim.Native.Nat.{ℕ, _≤_};
+ghost use mathlib.Core.List.{[], _∷_};
+ghost use Prim.Native.Nat.{ℕ, _+_, _*_, _<_, _≤_};
 ghost use lib.Dec.{ltb};
 ghost use lib.ListN.{length};
+ghost use lib.Seq.{sets};
 ghost use Rattle.rules.specs.Text.{feedFollows};
 ghost use Rattle.rules.specs.Table as T;
 ghost use Rattle.rules.specs.Table.{readLine};
@@ -10,11 +12,11 @@ ghost use Rattle.rules.specs.Index.{spanOfPart};
 ghost use Rattle.rules.specs.Constraint.{brokenAt, firstBrokenOf};
 ghost use Rattle.rules.proofs.Judgement.Each.{Each};
 ghost use Rattle.index.specs.Spans.{spanOf};
-ghost use Rattle.tree.specs.Layout.{planFrom};
 ghost use Rattle.parts.specs.States.{inRow};
 ghost use Rattle.parts.specs.Spans.{spansIn};
 ghost use Rattle.parts.specs.Tests.{Tested, numbered};
-ghost use Rattle.constraints.specs.Ready.{caseIn};
+ghost use Rattle.constraints.specs.Ready.{caseIn, Leaves};
+ghost use Rattle.constraints.specs.Loaded.{testsFrom, testsPast, testsIn, Letters};
 ghost use Rattle.constraints.specs.Methods.{asMethodLine, keptAs, TestsRead, testsOf};
 use index::Span;
 use lines::Context;
@@ -25,6 +27,9 @@ use reading::read_again;
 use rules::Answer;
 use rules::Header;
 use text::Cursor;
+
+// Where the constraints of the loaded method start in the work space: four words for each, of at most 64.
+const TESTS: usize = 5104;
 
 // Whether all constraints hold, or the answer for the first broken one.
 pub enum Kept {
@@ -37,6 +42,13 @@ pub struct MethodLine {
     pub subtasks: u32,
     pub count: u32,
     pub next: Cursor,
+}
+
+// The method whose constraints are in the work space: its number, and how many subtasks and constraints it has.
+pub struct Loaded {
+    pub method: u32,
+    pub subtasks: u32,
+    pub count: u32,
 }
 
 // "first broken O, B, F, W": 10, 11, 12, 13.
@@ -98,30 +110,61 @@ pub fn method_line(text: &[u8], past: usize, header: Header, c: Cursor) -> Metho
     }
 }
 
-// The first broken one of a method's constraints, "each method's in text order", for a node with this line and span.
-pub fn first_broken_of(
-    text: &[u8],
-    m: MethodLine,
-    line: u32,
-    own: Span,
-    states: &[u64],
-    work: &[u32],
-) -> Kept
-    requires { ⌜ planFrom ≤ length (now work) ⌝ }
+// One constraint's letter and numbers, into its four words of the work space.
+fn put_test(work: &mut [u32], number: u32, letter: u8, first: u32, second: u32, third: u32)
+    requires { ⌜ (number < 64) × (testsPast ≤ length (now work)) ⌝ }
+    ensures words { λ _. ⌜ now (work .exit) ≡ sets (now (work .entry)) (testsFrom + 4 * number) (letter ∷ first ∷ second ∷ third ∷ []) ⌝ }
+    ensures byte { λ _. ⌜ letter < 256 ⌝ }
+{
+    let at = TESTS + 4 * number as usize;
+    work[at] = letter as u32;
+    work[at + 1] = first;
+    work[at + 2] = second;
+    work[at + 3] = third;
+}
+
+// A method's constraint lines, each read once, into the work space.
+pub fn load_tests(text: &[u8], m: MethodLine, work: &mut [u32])
+    requires { ⌜ (m .count ≤ 64) × (testsPast ≤ length (now work)) ⌝ }
     requires { ⌜ TestsRead (now text) (caseIn (now text) .head) (m .subtasks) (m .count) (m .next .at) ⌝ }
-    requires { ⌜ Each (Tested (now work) (now states) (spanOf own)) (testsOf (now text) m) ⌝ }
-    ensures { λ r. ⌜ r ≡ keptAs (firstBrokenOf (inRow (now (states .entry))) (spanOfPart (spanOf own) (spansIn (now (work .entry)))) line 0 (testsOf (now (text .entry)) m)) ⌝ }
+    ensures leaves { λ _. ⌜ Leaves (now (work .entry)) (now (work .exit)) ⌝ }
+    ensures tests { λ _. ⌜ testsIn (now (work .exit)) 0 (m .count) ≡ testsOf (now (text .entry)) m ⌝ }
+    ensures letters { λ _. ⌜ Letters (now (work .exit)) (m .count) ⌝ }
 {
     let mut at = m.next;
     let mut number: u32 = 0;
     while number < m.count {
         let a = read_again(text, at);
-        if !keeps(work, states, own, a.letter, a.first, a.second, a.third) {
+        put_test(work, number, a.letter, a.first, a.second, a.third);
+        at = a.next;
+        number += 1;
+    }
+}
+
+// The first broken one of the loaded constraints, "each method's in text order", for a node with this line and span.
+pub fn first_broken_of(count: u32, line: u32, own: Span, states: &[u64], work: &[u32]) -> Kept
+    requires { ⌜ (count ≤ 64) × (testsPast ≤ length (now work)) ⌝ }
+    requires { ⌜ Letters (now work) count ⌝ }
+    requires { ⌜ Each (Tested (now work) (now states) (spanOf own)) (testsIn (now work) 0 count) ⌝ }
+    ensures { λ r. ⌜ r ≡ keptAs (firstBrokenOf (inRow (now (states .entry))) (spanOfPart (spanOf own) (spansIn (now (work .entry)))) line 0 (testsIn (now (work .entry)) 0 count)) ⌝ }
+{
+    let mut number: u32 = 0;
+    while number < count {
+        let at = TESTS + 4 * number as usize;
+        let letter = work[at] as u8;
+        if !keeps(
+            work,
+            states,
+            own,
+            letter,
+            work[at + 1],
+            work[at + 2],
+            work[at + 3],
+        ) {
             return Kept::Broken {
-                answer: broken(a.letter, line, number),
+                answer: broken(letter, line, number),
             };
         }
-        at = a.next;
         number += 1;
     }
     Kept::All

@@ -1,12 +1,16 @@
 // The constraints of the claimed tree's nodes, "nodes in order".
 ghost use mathlib.Core.Path.{_≡_};
+ghost use mathlib.Core.List.{List};
 ghost use Prim.Native.Nat.{ℕ, _<_};
 ghost use Rattle.rules.specs.Tree.{rootLine};
 ghost use Rattle.tree.specs.Layout.{size};
 ghost use Rattle.constraints.specs.Methods.{keptAs};
+ghost use Rattle.constraints.specs.Loaded.{Holds, IfLoaded};
 ghost use Rattle.constraints.specs.Ready.{caseIn, treeIn, Ready, Leaves, namesMethod, Labels, nodeOfTree, brokenOfNode, brokenOfTree};
 use crate::method::Kept;
+use crate::method::Loaded;
 use crate::method::first_broken_of;
+use crate::method::load_tests;
 use crate::method::method_line;
 use parts::span_at;
 use parts::subtask_nodes;
@@ -16,6 +20,9 @@ use text::Cursor;
 
 // Where the places of the method lines start in the work space.
 const METHODS: usize = 1024;
+
+// The number of no method: none is loaded yet.
+const NONE: u32 = 4294967295;
 
 // Whether a node line's letter names a method: "D,m (method m, not empty); E,m,g (empty method m in gap g)".
 fn names_method(letter: u8) -> bool
@@ -32,33 +39,79 @@ struct Named {
     label: u32,
 }
 
-// The first broken constraint of a node. An empty task has constraints too, at its own span; a method without any is passed after its M line.
+// What a node's turn leaves: its first broken constraint, and the method that is loaded now.
+struct Turn {
+    kept: Kept,
+    loaded: Loaded,
+}
+
+// A method in the work space: the one that is loaded, or its lines are read.
+fn load(
+    text: &[u8],
+    past: usize,
+    header: Header,
+    method: u32,
+    loaded: Loaded,
+    work: &mut [u32],
+) -> Loaded
+    requires { ⌜ ((planLine nodes : ℕ) × (states : List ℕ) × Ready (caseIn (now text)) (treeIn (now text)) (now text) past header planLine nodes states (now work)) ⌝ }
+    requires { ⌜ method < caseIn (now text) .head .methods ⌝ }
+    requires { ⌜ IfLoaded (caseIn (now text)) (now work) loaded ⌝ }
+    ensures method { λ r. ⌜ r .method ≡ method ⌝ }
+    ensures holds { λ r. ⌜ Holds (caseIn (now (text .entry))) (now (work .exit)) r ⌝ }
+    ensures leaves { λ _. ⌜ Leaves (now (work .entry)) (now (work .exit)) ⌝ }
+{
+    if method == loaded.method {
+        return loaded;
+    }
+    let at = METHODS + method as usize;
+    let place = work[at] as usize;
+    let m = method_line(text, past, header, Cursor { at: place });
+    load_tests(text, m, work);
+    Loaded {
+        method,
+        subtasks: m.subtasks,
+        count: m.count,
+    }
+}
+
+// The first broken constraint of a node. An empty task has constraints too, at its own span.
 fn node_kept(
     text: &[u8],
     past: usize,
     header: Header,
     x: Named,
+    loaded: Loaded,
     states: &[u64],
     work: &mut [u32],
-) -> Kept
+) -> Turn
     requires { ⌜ ((planLine nodes : ℕ) × Ready (caseIn (now text)) (treeIn (now text)) (now text) past header planLine nodes (now states) (now work)) ⌝ }
     requires { ⌜ x .n < size (treeIn (now text)) ⌝ }
     requires { ⌜ Labels (x .letter) (x .label) (rootLine (nodeOfTree (treeIn (now text)) (x .n))) ⌝ }
-    ensures { λ r. ⌜ r ≡ keptAs (brokenOfNode (caseIn (now (text .entry))) (treeIn (now (text .entry))) (x .line) (x .n)) ⌝ }
+    requires { ⌜ IfLoaded (caseIn (now text)) (now work) loaded ⌝ }
+    ensures { λ r. ⌜ r .kept ≡ keptAs (brokenOfNode (caseIn (now (text .entry))) (treeIn (now (text .entry))) (x .line) (x .n)) ⌝ }
+    ensures { λ r. ⌜ IfLoaded (caseIn (now (text .entry))) (now (work .exit)) (r .loaded) ⌝ }
     ensures { λ r. ⌜ Leaves (now (work .entry)) (now (work .exit)) ⌝ }
 {
     if !names_method(x.letter) {
-        return Kept::All;
+        return Turn {
+            kept: Kept::All,
+            loaded,
+        };
     }
-    let at = METHODS + x.label as usize;
-    let place = work[at] as usize;
-    let m = method_line(text, past, header, Cursor { at: place });
+    let m = load(text, past, header, x.label, loaded, work);
     if m.count == 0 {
-        return Kept::All;
+        return Turn {
+            kept: Kept::All,
+            loaded: m,
+        };
     }
     subtask_nodes(work, x.n, m.subtasks);
     let own = span_at(work, x.n);
-    first_broken_of(text, m, x.line, own, states, work)
+    Turn {
+        kept: first_broken_of(m.count, x.line, own, states, work),
+        loaded: m,
+    }
 }
 
 // The first broken constraint of the claimed tree, "nodes in order, each method's in text order".
@@ -76,6 +129,11 @@ pub fn first_broken(
     ensures { λ r. ⌜ Leaves (now (work .entry)) (now (work .exit)) ⌝ }
 {
     let mut at = nodes;
+    let mut loaded = Loaded {
+        method: NONE,
+        subtasks: 0,
+        count: 0,
+    };
     let mut n: u32 = 0;
     while n < header.nodes {
         let a = read_again(text, at);
@@ -85,10 +143,13 @@ pub fn first_broken(
             letter: a.letter,
             label: a.first,
         };
-        match node_kept(text, past, header, x, states, work) {
+        let turn = node_kept(text, past, header, x, loaded, states, work);
+        let kept = turn.kept;
+        match kept {
             Kept::Broken { answer } => return Kept::Broken { answer },
             Kept::All => {
                 at = a.next;
+                loaded = turn.loaded;
                 n += 1;
             }
         }

@@ -12,7 +12,7 @@ use Rattle.rules.specs.Case.{Case, Valued, Read, read, refused, noHeader, nodeO
 use Rattle.rules.specs.Tree.{Tree, leaf, empty, task, Trees, noTree, more, preorder, preorders, span, Walk, isIn}
 
 -- The areas of the work space, after the directory of lines (0 to 3,072): marks of the positions (1,000), the subtasks' nodes of the
--- node under test (32), the plan's actions (1,000), rows of three numbers for up to 3,000 nodes.
+-- node under test (32), the plan's actions (1,000), the constraints of the loaded method (256), rows of three numbers for up to 3,000 nodes.
 unfoldable pub marksFrom : ℕ
 marksFrom = 3072
 

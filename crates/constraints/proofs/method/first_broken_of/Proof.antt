@@ -1,42 +1,93 @@
 -- `first_broken_of`: the first broken constraint from the start on is that from here on (Testing). Assumes nothing.
-use Prim.Native.Nat.{_-_}
+use Prim.Native.Nat.{_+_, _*_, _-_}
 use Rattle.constraints.proofs.Testing.{Testing, testing-starts, tested-here, testing-breaks, testing-goes-on, testing-ends}
-use Rattle.constraints.specs.Ready.{caseIn}
+use Rattle.constraints.specs.Loaded.{testsFrom, testsPast, testAt, Letters}
 use Rattle.index.specs.Spans.{spanOf}
+use Rattle.tree.specs.Layout.{planFrom}
 use borrow.Author.Needs.{needs}
 use borrow.Author.Tests.{not-true, not-false}
+use lib.ListN.{getD}
 use native.Mathlib.Omega.{arith}
 use Rattle.constraints.proofs.method.first_broken_of.Statement.{statement}
 use Rattle.constraints.proofs.method.first_broken_of.Tie as tie
 
 abbrev Inv-loop : tie.InvT-loop
-Inv-loop text m line own states work at₀ number₀ at number = Testing text (caseIn text .head) (m .subtasks) (m .count) line (spanOf own) states work (at₀ .at) (at .at) number
+Inv-loop count line own states work number₀ number = Testing count line (spanOf own) states work number
 
 abbrev μ-loop : tie.MeasureT-loop
-μ-loop text m line own states work at₀ number₀ at number = m .count - number
+μ-loop count line own states work number₀ number = count - number
 
 loop-holds : tie.Need-loop-holds Inv-loop μ-loop
-loop-holds c =
-    let s = c .before .before .before .before in
-    testing-starts (s .args .line) (s .pre .1 .0) (s .pre .1 .1)
+loop-holds c = testing-starts (c .before .before .args .line) (c .before .before .pre .1 .1)
 
-read-again-requires : tie.Need-read-again-requires Inv-loop μ-loop
-read-again-requires c κs = search needs
+cast-at : tie.Need-cast-at Inv-loop μ-loop
+cast-at c = search needs
+
+mul-at : tie.Need-mul-at Inv-loop μ-loop
+mul-at c = search needs
+
+add-at : tie.Need-add-at Inv-loop μ-loop
+add-at c = search needs
+
+mul-letter : tie.Need-mul-letter Inv-loop μ-loop
+mul-letter c = search needs
+
+shared-slice-read-letter : tie.Need-shared-slice-read-letter Inv-loop μ-loop
+unfolding testsPast
+shared-slice-read-letter c = search needs
+
+cast-letter : tie.Need-cast-letter Inv-loop μ-loop
+unfolding Letters testsFrom
+cast-letter c = record { fits = c .before .before .before .before .before .pre .1 .0 (c .before .before .loop .number) (c .before .loop-test .taken) }
+
+add-keeps : tie.Need-add-keeps Inv-loop μ-loop
+add-keeps c = search needs
+
+mul-keeps : tie.Need-mul-keeps Inv-loop μ-loop
+mul-keeps c = search needs
+
+shared-slice-read-keeps : tie.Need-shared-slice-read-keeps Inv-loop μ-loop
+unfolding testsPast
+shared-slice-read-keeps c = search needs
+
+add-keeps-2 : tie.Need-add-keeps-2 Inv-loop μ-loop
+add-keeps-2 c = search needs
+
+mul-keeps-2 : tie.Need-mul-keeps-2 Inv-loop μ-loop
+mul-keeps-2 c = search needs
+
+shared-slice-read-keeps-2 : tie.Need-shared-slice-read-keeps-2 Inv-loop μ-loop
+unfolding testsPast
+shared-slice-read-keeps-2 c = search needs
+
+add-keeps-3 : tie.Need-add-keeps-3 Inv-loop μ-loop
+add-keeps-3 c = search needs
+
+mul-keeps-3 : tie.Need-mul-keeps-3 Inv-loop μ-loop
+mul-keeps-3 c = search needs
+
+shared-slice-read-keeps-3 : tie.Need-shared-slice-read-keeps-3 Inv-loop μ-loop
+unfolding testsPast
+shared-slice-read-keeps-3 c = search needs
 
 keeps-requires : tie.Need-keeps-requires Inv-loop μ-loop
+unfolding testAt testsFrom testsPast planFrom
 keeps-requires c κs =
-    let g = c .read-again in
-    (c .before .before .before .before .before .before .before .before .pre .0, tested-here (c .before .before .before .loop .inv) (c .before .if1 .taken) (g .result) (g .ensures))
+    let room = c .before .before .before .before .before .before .before .before .pre .0 .1 in
+    (omega arith, tested-here (c .before .before .before .before .before .loop .inv) (c .before .before .before .before .loop-test .taken))
 
 broken-requires : tie.Need-broken-requires Inv-loop μ-loop
 broken-requires c κs = search needs
 
 returns : tie.Need-returns Inv-loop μ-loop
+unfolding testAt testsFrom
 returns c =
-    let g = c .before .before .before .read-again in
     let k = c .before .before .keeps in
-    testing-breaks (c .before .before .before .before .before .before .loop .inv) (c .before .before .before .before .if1 .taken) (g .result) (g .ensures) (k .ensures) (not-true (k .result) (c .before .if2 .taken))
-    (c .broken .ensures (g .result .first) (g .result .second) (g .result .third))
+    let l = c .before .before .before .before .before .before .before .before .loop in
+    let w = c .before .before .before .before .before .before .before .before .before .before .before .args .work .now in
+    let at = 5104 + 4 * l .number in
+    testing-breaks (l .inv) (c .before .before .before .before .before .before .before .loop-test .taken) (k .ensures) (not-true (k .result) (c .before .if1 .taken))
+    (c .broken .ensures (getD w (at + 1) 0) (getD w (at + 2) 0) (getD w (at + 3) 0))
 
 add-number : tie.Need-add-number Inv-loop μ-loop
 add-number c = search needs
@@ -45,14 +96,13 @@ loop-less : tie.Need-loop-less Inv-loop μ-loop
 loop-less c = search needs
 
 loop-again : tie.Need-loop-again Inv-loop μ-loop
+unfolding testAt testsFrom
 loop-again c =
-    let g = c .before .before .before .read-again in
-    let k = c .before .before .keeps in
-    testing-goes-on (c .before .before .before .before .before .before .loop .inv) (c .before .before .before .before .if1 .taken) (g .result) (g .ensures) (k .ensures) (not-false (k .result) (c .before .if2 .left))
+    let k = c .before .keeps in
+    testing-goes-on (c .before .before .before .before .before .before .before .loop .inv) (c .before .before .before .before .before .before .loop-test .taken) (k .ensures) (not-false (k .result) (c .if1 .left))
 
 returns-2 : tie.Need-returns-2 Inv-loop μ-loop
-returns-2 c =
-    testing-ends (c .before .before .loop .inv) (omega (arith, c .if1 .left))
+returns-2 c = testing-ends (c .before .loop .inv) (omega (arith, c .loop-test .left))
 
 pub first-broken-of-spec : {M : Type 1} → statement M
 first-broken-of-spec =
@@ -61,7 +111,21 @@ first-broken-of-spec =
     Inv-loop
     μ-loop
     loop-holds
-    read-again-requires
+    cast-at
+    mul-at
+    add-at
+    mul-letter
+    shared-slice-read-letter
+    cast-letter
+    add-keeps
+    mul-keeps
+    shared-slice-read-keeps
+    add-keeps-2
+    mul-keeps-2
+    shared-slice-read-keeps-2
+    add-keeps-3
+    mul-keeps-3
+    shared-slice-read-keeps-3
     keeps-requires
     broken-requires
     returns

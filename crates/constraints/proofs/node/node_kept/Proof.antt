@@ -1,16 +1,11 @@
--- `node_kept`: the method's line gives how many subtasks and constraints there are, and the lists then hold what their tests read
--- (Steps). Assumes nothing.
-use Prim.Native.Nat.{_+_}
-use Rattle.constraints.proofs.Nodes.{leaves-all}
-use Rattle.constraints.proofs.Steps.{leaf-kept, standing, method-inside, few-enough, method-read, none-follow, few-second, room-before, nodes-inside, new-leaves, new-inside, new-room, new-tested, new-kept}
+-- `node_kept`: the method is in the work space, and the lists then hold what its tests read (Steps). Assumes nothing.
+use Rattle.constraints.proofs.Steps.{leaf-kept, standing, standing-leaves, few-enough, none-follow, few-second, room-before, nodes-inside, new-leaves, new-inside, new-room, new-holds, new-tested, new-kept}
+use Rattle.constraints.proofs.Stores.{leaves-all, leaves-then}
 use Rattle.constraints.specs.Ready.{caseIn, treeIn}
 use Rattle.index.specs.Spans.{spanOf}
-use Rattle.text.specs.Cursor.{cursor}
-use borrow.Author.Tests.{not-true, not-false}
-use lib.ListN.{getD}
-use mathlib.Core.Path.{refl, sym, _∙_}
-use native.Mathlib.Omega.{arith}
 use borrow.Author.Needs.{needs}
+use borrow.Author.Tests.{not-true, not-false}
+use mathlib.Core.Path.{sym, _∙_}
 use Rattle.constraints.proofs.node.node_kept.Statement.{statement}
 use Rattle.constraints.proofs.node.node_kept.Tie as tie
 
@@ -21,93 +16,93 @@ returns : tie.Need-returns
 returns c =
     let s = c .before .before .before .before .before in
     let a = s .args in (
-      leaf-kept (caseIn (a .text .now)) (treeIn (a .text .now)) (a .x .line) (a .x .n) (a .x .letter) (a .x .label) (s .pre .1 .1)
+      leaf-kept (caseIn (a .text .now)) (treeIn (a .text .now)) (a .x .line) (a .x .n) (a .x .letter) (a .x .label) (s .pre .1 .1 .0)
           (sym (c .before .names-method .ensures) ∙ not-true (c .before .names-method .result) (c .if1 .taken)),
-      leaves-all (a .work .now),
+      (s .pre .1 .1 .1, leaves-all (a .work .now)),
     )
 
-cast-at : tie.Need-cast-at
-cast-at c = search needs
-
-add-at : tie.Need-add-at
-add-at c = search needs
-
-mul-place : tie.Need-mul-place
-mul-place c = search needs
-
-slice-read-place : tie.Need-slice-read-place
-slice-read-place c =
-    let s = c .before .before .before .before .before .before .before in
+load-requires : tie.Need-load-requires
+load-requires c κs =
+    let s = c .before .before .before .before .before .before in
     let a = s .args in
-    let w = standing (s .pre .0 .2) (a .x .n) (a .x .letter) (a .x .label) (s .pre .1 .0) (s .pre .1 .1)
-    (sym (c .before .before .before .names-method .ensures) ∙ not-false (c .before .before .before .names-method .result) (c .before .before .if1 .left)) in
-    method-inside w
-
-cast-place : tie.Need-cast-place
-cast-place c =
-    omega (arith, c .slice-known2 .given (1024 + c .before .before .before .before .before .before .before .args .x .label))
-
-method-line-requires : tie.Need-method-line-requires
-method-line-requires c κs = search needs
-
-returns-2 : tie.Need-returns-2
-returns-2 c =
-    let s = c .before .before .before .before .before .before .before .before .before .before in
-    let a = s .args in
-    let w = standing (s .pre .0 .2) (a .x .n) (a .x .letter) (a .x .label) (s .pre .1 .0) (s .pre .1 .1)
-    (sym (c .before .before .before .before .before .before .names-method .ensures) ∙ not-false (c .before .before .before .before .before .before .names-method .result) (c .before .before .before .before .before .if1 .left)) in
-    let m = c .before .before .method-line in
-    let f = method-read w (cursor (getD (a .work .now) (1024 + a .x .label) 0)) (m .result) refl (m .ensures) in
-    (none-follow w (m .result) f (a .x .line) (c .if2 .taken), leaves-all (a .work .now))
-
-subtask-nodes-requires : tie.Need-subtask-nodes-requires
-subtask-nodes-requires c κs =
-    let s = c .before .before .before .before .before .before .before .before .before .before .before in
-    let a = s .args in
-    let w = standing (s .pre .0 .2) (a .x .n) (a .x .letter) (a .x .label) (s .pre .1 .0) (s .pre .1 .1)
-    (sym (c .before .before .before .before .before .before .before .names-method .ensures) ∙ not-false (c .before .before .before .before .before .before .before .names-method .result) (c .before .before .before .before .before .before .if1 .left)) in
-    let m = c .before .before .before .method-line in
-    let f = method-read w (cursor (getD (a .work .now) (1024 + a .x .label) 0)) (m .result) refl (m .ensures) in
-    (few-enough w, (few-second w (m .result) f, (room-before w (m .result) f, nodes-inside w (m .result) f)))
-
-span-at-requires : tie.Need-span-at-requires
-span-at-requires c κs =
-    let s = c .before .before .before .before .before .before .before .before .before .before .before .before .before .before .before in
-    let a = s .args in
-    let w = standing (s .pre .0 .2) (a .x .n) (a .x .letter) (a .x .label) (s .pre .1 .0) (s .pre .1 .1)
-    (sym (c .before .before .before .before .before .before .before .before .before .before .before .names-method .ensures) ∙ not-false (c .before .before .before .before .before .before .before .before .before .before .before .names-method .result) (c .before .before .before .before .before .before .before .before .before .before .if1 .left)) in
-    let m = c .before .before .before .before .before .before .before .method-line in
-    let f = method-read w (cursor (getD (a .work .now) (1024 + a .x .label) 0)) (m .result) refl (m .ensures) in
-    let n = c .before .before .before .subtask-nodes in
-    new-inside w (m .result) f (n .last .0) (n .ensures)
-
-first-broken-of-requires : tie.Need-first-broken-of-requires
-first-broken-of-requires c κs =
-    let s = c .before .before .before .before .before .before .before .before .before .before .before .before .before .before .before .before .before in
-    let a = s .args in
-    let w = standing (s .pre .0 .2) (a .x .n) (a .x .letter) (a .x .label) (s .pre .1 .0) (s .pre .1 .1)
-    (sym (c .before .before .before .before .before .before .before .before .before .before .before .before .before .names-method .ensures) ∙ not-false (c .before .before .before .before .before .before .before .before .before .before .before .before .before .names-method .result) (c .before .before .before .before .before .before .before .before .before .before .before .before .if1 .left)) in
-    let m = c .before .before .before .before .before .before .before .before .before .method-line in
-    let f = method-read w (cursor (getD (a .work .now) (1024 + a .x .label) 0)) (m .result) refl (m .ensures) in
-    let n = c .before .before .before .before .before .subtask-nodes in
-    let o = c .before .span-at in
-    (new-room w (m .result) f (n .last .0) (n .ensures), (f .reads, new-tested w (m .result) f (n .last .0) (n .ensures) (spanOf (o .result)) (o .ensures)))
+    let w = standing (s .pre .0 .2) (a .x .n) (a .x .letter) (a .x .label) (s .pre .1 .0) (s .pre .1 .1 .0)
+    (sym (c .before .before .names-method .ensures) ∙ not-false (c .before .before .names-method .result) (c .before .if1 .left)) in
+    ((s .pre .0 .0, s .pre .0 .1, a .states .now, s .pre .0 .2), (w .node .below, s .pre .1 .1 .1))
 
 same-length : tie.Need-same-length
 same-length c = search needs
 
-returns-3 : tie.Need-returns-3
-returns-3 c =
+returns-2 : tie.Need-returns-2
+returns-2 c =
+    let s = c .before .before .before .before .before .before .before .before .before .before .before in
+    let a = s .args in
+    let w = standing (s .pre .0 .2) (a .x .n) (a .x .letter) (a .x .label) (s .pre .1 .0) (s .pre .1 .1 .0)
+    (sym (c .before .before .before .before .before .before .before .names-method .ensures) ∙ not-false (c .before .before .before .before .before .before .before .names-method .result) (c .before .before .before .before .before .before .if1 .left)) in
+    let m = c .before .before .before .before .load in
+    let v = standing-leaves w (m .last .1 .1 .1 .1 .1 .0) (m .ensures .1 .1) in
+    (none-follow v (m .result) (m .ensures .1 .0) (m .ensures .0) (a .x .line) (c .if2 .taken), ((λ b. m .ensures .1 .0), m .ensures .1 .1))
+
+subtask-nodes-requires : tie.Need-subtask-nodes-requires
+subtask-nodes-requires c κs =
+    let s = c .before .before .before .before .before .before .before .before .before .before .before .before in
+    let a = s .args in
+    let w = standing (s .pre .0 .2) (a .x .n) (a .x .letter) (a .x .label) (s .pre .1 .0) (s .pre .1 .1 .0)
+    (sym (c .before .before .before .before .before .before .before .before .names-method .ensures) ∙ not-false (c .before .before .before .before .before .before .before .before .names-method .result) (c .before .before .before .before .before .before .before .if1 .left)) in
+    let m = c .before .before .before .before .before .load in
+    let v = standing-leaves w (m .last .1 .1 .1 .1 .1 .0) (m .ensures .1 .1) in
+    let held = m .ensures .1 .0 in
+    let named = m .ensures .0 in
+    (few-enough v, (few-second v (m .result) held named, (room-before v (m .result) held named, nodes-inside v (m .result) held named)))
+
+span-at-requires : tie.Need-span-at-requires
+span-at-requires c κs =
+    let s = c .before .before .before .before .before .before .before .before .before .before .before .before .before .before .before .before in
+    let a = s .args in
+    let w = standing (s .pre .0 .2) (a .x .n) (a .x .letter) (a .x .label) (s .pre .1 .0) (s .pre .1 .1 .0)
+    (sym (c .before .before .before .before .before .before .before .before .before .before .before .before .names-method .ensures) ∙ not-false (c .before .before .before .before .before .before .before .before .before .before .before .before .names-method .result) (c .before .before .before .before .before .before .before .before .before .before .before .if1 .left)) in
+    let m = c .before .before .before .before .before .before .before .before .before .load in
+    let v = standing-leaves w (m .last .1 .1 .1 .1 .1 .0) (m .ensures .1 .1) in
+    let n = c .before .before .before .subtask-nodes in
+    new-inside v (m .result) (m .ensures .1 .0) (m .ensures .0) (n .last .0) (n .ensures)
+
+first-broken-of-requires : tie.Need-first-broken-of-requires
+first-broken-of-requires c κs =
     let s = c .before .before .before .before .before .before .before .before .before .before .before .before .before .before .before .before .before .before in
     let a = s .args in
-    let w = standing (s .pre .0 .2) (a .x .n) (a .x .letter) (a .x .label) (s .pre .1 .0) (s .pre .1 .1)
+    let w = standing (s .pre .0 .2) (a .x .n) (a .x .letter) (a .x .label) (s .pre .1 .0) (s .pre .1 .1 .0)
     (sym (c .before .before .before .before .before .before .before .before .before .before .before .before .before .before .names-method .ensures) ∙ not-false (c .before .before .before .before .before .before .before .before .before .before .before .before .before .before .names-method .result) (c .before .before .before .before .before .before .before .before .before .before .before .before .before .if1 .left)) in
-    let m = c .before .before .before .before .before .before .before .before .before .before .method-line in
-    let f = method-read w (cursor (getD (a .work .now) (1024 + a .x .label) 0)) (m .result) refl (m .ensures) in
+    let m = c .before .before .before .before .before .before .before .before .before .before .before .load in
+    let v = standing-leaves w (m .last .1 .1 .1 .1 .1 .0) (m .ensures .1 .1) in
+    let n = c .before .before .before .before .before .subtask-nodes in
+    let o = c .before .span-at in
+    let held = m .ensures .1 .0 in
+    let named = m .ensures .0 in
+    let new = new-holds v (m .result) held named (n .last .0) (n .ensures) in (
+      (new .few, new-room v (m .result) held named (n .last .0) (n .ensures)),
+      (new .letters, new-tested v (m .result) held named (n .last .0) (n .ensures) (spanOf (o .result)) (o .ensures)),
+    )
+
+same-length-2 : tie.Need-same-length-2
+same-length-2 c = search needs
+
+returns-3 : tie.Need-returns-3
+returns-3 c =
+    let s = c .before .before .before .before .before .before .before .before .before .before .before .before .before .before .before .before .before .before .before in
+    let a = s .args in
+    let w = standing (s .pre .0 .2) (a .x .n) (a .x .letter) (a .x .label) (s .pre .1 .0) (s .pre .1 .1 .0)
+    (sym (c .before .before .before .before .before .before .before .before .before .before .before .before .before .before .before .names-method .ensures) ∙ not-false (c .before .before .before .before .before .before .before .before .before .before .before .before .before .before .before .names-method .result) (c .before .before .before .before .before .before .before .before .before .before .before .before .before .before .if1 .left)) in
+    let m = c .before .before .before .before .before .before .before .before .before .before .before .before .load in
+    let v = standing-leaves w (m .last .1 .1 .1 .1 .1 .0) (m .ensures .1 .1) in
     let n = c .before .before .before .before .before .before .subtask-nodes in
-    let o = c .before .before .span-at in (
-      new-kept w (m .result) f (n .last .0) (n .ensures) (spanOf (o .result)) (o .ensures) (a .x .line) (c .first-broken-of .result) (c .first-broken-of .ensures),
-      new-leaves w (m .result) f (n .last .0) (n .ensures),
+    let o = c .before .before .span-at in
+    let k = c .first-broken-of in
+    let held = m .ensures .1 .0 in
+    let named = m .ensures .0 in (
+      new-kept v (m .result) held named (n .last .0) (n .ensures) (spanOf (o .result)) (o .ensures) (a .x .line) (k .result) (k .ensures),
+      (
+        (λ b. new-holds v (m .result) held named (n .last .0) (n .ensures)),
+        leaves-then (m .ensures .1 .1) (new-leaves v (m .result) held named (n .last .0) (n .ensures)),
+      ),
     )
 
 pub node-kept-spec : {M : Type 1} → statement M
@@ -116,15 +111,11 @@ node-kept-spec =
     (tie.spec
     names-method-requires
     returns
-    cast-at
-    add-at
-    mul-place
-    slice-read-place
-    cast-place
-    method-line-requires
+    load-requires
+    same-length
     returns-2
     subtask-nodes-requires
     span-at-requires
     first-broken-of-requires
-    same-length
+    same-length-2
     returns-3)
