@@ -16,11 +16,10 @@ use Rattle.rules.specs.Table.{readLine, table, roleNumber, inRange}
 use Rattle.rules.specs.Case.{Constraint, Method, NodeLine, D, E, L, Case, Valued, scalarAt, membersAt, constraintOf, nodeOf, methodOf, Read, read, refused, follow, readOf, oneLine, many, oneMethod}
 use Rattle.rules.proofs.Judgement.Reading.{ForLine, ReadSays, one-line-says}
 use Rattle.tree.specs.Layout.{NodesFrom}
-use Rattle.text.specs.declared.Cursor.{Cursor}
 use Rattle.reading.specs.declared.again.Again.{Again}
-use Rattle.reading.specs.Again.{AgainAt}
-use Rattle.constraints.specs.declared.method.MethodLine.{MethodLine}
-use Rattle.constraints.specs.Methods.{asMethodLine, followTest, testsAt, thenRead, TestsRead}
+use Rattle.reading.specs.declared.again.MethodAgain.{MethodAgain}
+use Rattle.reading.specs.Again.{AgainAt, asMethod, MethodAgainAt}
+use Rattle.constraints.specs.Methods.{followTest, testsAt, thenRead, TestsRead}
 use Rattle.constraints.specs.Ready.{namesMethod, Labels}
 
 -- ---- a method's constraints
@@ -60,11 +59,11 @@ module _ (text : List ℕ) (h : Header) (s : ℕ) where
 -- ---- a method's line
 
 -- An M line's second number is how many subtasks there are, and its third how many constraints follow: these.
-pub record MethodIs (text : List ℕ) (h : Header) (m : Method) (y : MethodLine) : Type 0 where
+pub record MethodIs (text : List ℕ) (h : Header) (m : Method) (y : MethodAgain) : Type 0 where
   pub counts : y .subtasks ≡ length (m .subtasks)
-  pub few : y .count ≤ 64
-  pub reads : TestsRead text h (y .subtasks) (y .count) (y .next .at)
-  pub tests : testsAt text h (y .subtasks) (y .count) (y .next .at) ≡ m .constraints
+  pub few : y .constraints ≤ 64
+  pub reads : TestsRead text h (y .subtasks) (y .constraints) (y .next .at)
+  pub tests : testsAt text h (y .subtasks) (y .constraints) (y .next .at) ≡ m .constraints
 
 abbrev pub Counted : ℕ → List T.Value → Type 0
 Counted l vs = (scalarAt vs 1 ≡ length (membersAt vs 1)) × (scalarAt vs 2 ≤ 64)
@@ -73,10 +72,10 @@ pub method-counts : (h : Header) → ForLine h 0 T.method Counted
 unfolding ForLine table roleNumber inRange scalarAt membersAt
 method-counts h = (λ t ht vs n hs c hc. (refl, leb-true c 64 hc), tt)
 
-module _ (text : List ℕ) (h : Header) (n : ℕ) (c : Cursor) (m : Method) (n′ next : ℕ) (e : oneMethod text h n (c .at) ≡ read m n′ next) where
+module _ (text : List ℕ) (h : Header) (n place : ℕ) (m : Method) (n′ next : ℕ) (e : oneMethod text h n place ≡ read m n′ next) where
   found-rest : (l : ℕ) (vs : List T.Value) (cs : List Valued) (nx a b : ℕ) → Counted l vs
       → many (oneLine text h T.constraint (scalarAt vs 1)) (scalarAt vs 2) (n + 1) nx ≡ read cs a b → methodOf vs cs ≡ m
-      → MethodIs text h m (asMethodLine c (T.line l vs nx))
+      → MethodIs text h m (asMethod vs nx)
   unfolding methodOf
   found-rest l vs cs nx a b d q same =
       let t = many-tests text h (scalarAt vs 1) (scalarAt vs 2) (n + 1) nx cs a b q in
@@ -89,7 +88,7 @@ module _ (text : List ℕ) (h : Header) (n : ℕ) (c : Cursor) (m : Method) (n�
 
   found-follow : (l : ℕ) (vs : List T.Value) (nx : ℕ) (r : Read (List Valued)) → Counted l vs
       → many (oneLine text h T.constraint (scalarAt vs 1)) (scalarAt vs 2) (n + 1) nx ≡ r
-      → follow r (λ cs n₂ p₂. read (methodOf vs cs) n₂ p₂) ≡ read m n′ next → MethodIs text h m (asMethodLine c (T.line l vs nx))
+      → follow r (λ cs n₂ p₂. read (methodOf vs cs) n₂ p₂) ≡ read m n′ next → MethodIs text h m (asMethod vs nx)
   found-follow l vs nx (read cs a b) d q f = let same : methodOf vs cs ≡ m = cc in found-rest l vs cs nx a b d q same
   found-follow l vs nx (refused r) d q f = let z : _≡_ {A = ℕ} 0 1 = cc in absurd (omega arith)
 
@@ -98,18 +97,19 @@ module _ (text : List ℕ) (h : Header) (n : ℕ) (c : Cursor) (m : Method) (n�
       follow (readOf n y) (λ x n₁ p₁. follow (many (oneLine text h T.constraint (scalarAt (x .1) 1)) (scalarAt (x .1) 2) n₁ p₁)
       (λ cs n₂ p₂. read (methodOf (x .1) cs) n₂ p₂))
 
-  found-line : (y : T.LineRead) → ReadSays {A = Valued} (λ x. Counted (x .0) (x .1)) (readOf n y) → onMethod y ≡ read m n′ next
-      → MethodIs text h m (asMethodLine c y)
-  found-line (T.line l vs nx) d f =
-      found-follow l vs nx (many (oneLine text h T.constraint (scalarAt vs 1)) (scalarAt vs 2) (n + 1) nx) d refl f
-  found-line (T.LineRead.unreadable field) d f = let z : _≡_ {A = ℕ} 0 1 = cc in absurd (omega arith)
-  found-line (T.LineRead.outside field) d f = let z : _≡_ {A = ℕ} 0 1 = cc in absurd (omega arith)
+  module _ (y : MethodAgain) (again : MethodAgainAt text place y) where
+    found-line : (r : T.LineRead) → readLine text T.method h 0 place ≡ r → ReadSays {A = Valued} (λ x. Counted (x .0) (x .1)) (readOf n r)
+        → onMethod r ≡ read m n′ next → MethodIs text h m y
+    unfolding MethodAgainAt
+    found-line (T.line l vs nx) q d f =
+        subst (MethodIs text h m) (sym (again h 0 l vs nx q))
+        (found-follow l vs nx (many (oneLine text h T.constraint (scalarAt vs 1)) (scalarAt vs 2) (n + 1) nx) d refl f)
+    found-line (T.LineRead.unreadable field) q d f = let z : _≡_ {A = ℕ} 0 1 = cc in absurd (omega arith)
+    found-line (T.LineRead.outside field) q d f = let z : _≡_ {A = ℕ} 0 1 = cc in absurd (omega arith)
 
-  pub method-found : (y : MethodLine) → y ≡ asMethodLine c (readLine text T.method h 0 (c .at)) → MethodIs text h m y
-  unfolding oneMethod oneLine
-  method-found y q =
-      subst (MethodIs text h m) (sym q)
-      (found-line (readLine text T.method h 0 (c .at)) (one-line-says text h T.method 0 n (c .at) Counted (method-counts h)) e)
+    pub method-found : MethodIs text h m y
+    unfolding oneMethod oneLine
+    method-found = found-line (readLine text T.method h 0 place) refl (one-line-says text h T.method 0 n place Counted (method-counts h)) e
 
 -- ---- a node's line
 

@@ -1,4 +1,3 @@
-pub mod Rereading
 pub mod Loading
 pub mod Testing
 pub mod Held

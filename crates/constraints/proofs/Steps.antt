@@ -24,8 +24,8 @@ use Rattle.reading.specs.Directory.{methodsFrom}
 use Rattle.tree.specs.Layout.{planFrom, subtasksFrom, size, NodesFrom}
 use Rattle.text.specs.declared.Cursor.{Cursor}
 use Rattle.reading.specs.declared.again.Again.{Again}
-use Rattle.reading.specs.Again.{AgainAt}
-use Rattle.constraints.specs.declared.method.MethodLine.{MethodLine}
+use Rattle.reading.specs.Again.{AgainAt, MethodAgainAt}
+use Rattle.reading.specs.declared.again.MethodAgain.{MethodAgain}
 use Rattle.constraints.specs.declared.method.Loaded.{Loaded}
 use Rattle.constraints.specs.declared.method.Kept.{Kept}
 use Rattle.constraints.specs.declared.method.Kept.the-variants.{All, Broken}
@@ -33,7 +33,7 @@ use Rattle.parts.specs.States.{inRow}
 use Rattle.parts.specs.Spans.{rowSpan, RowInside, siblings, spansIn}
 use Rattle.parts.specs.Tests.{Tested}
 use Rattle.constraints.specs.Loaded.{testsFrom, testsPast, testsIn, Letters, Holds, IfLoaded}
-use Rattle.constraints.specs.Methods.{asMethodLine, keptAs, testsAt}
+use Rattle.constraints.specs.Methods.{keptAs, testsAt}
 use Rattle.constraints.specs.Ready.{Ready, Leaves, namesMethod, Labels, nodeOfTree, brokenOfNode, brokenOfTree}
 use Rattle.constraints.proofs.Held.{countOf, subtreesOf, subtrees-spans, spans-length, preorder-length}
 use Rattle.constraints.proofs.Judging.{good-tested, broken-same}
@@ -56,18 +56,16 @@ module _ {k : Case} {t : Tree} {text : List ℕ} {past : ℕ} {header : Header} 
   unfolding testsPast workNeed
   tests-room = let f = r .room in omega arith
 
-  pub method-read : (c : Cursor) (y : MethodLine) → c .at ≡ getD work (1024 + label) 0 → y ≡ asMethodLine c (readLine text T.method header 0 (c .at))
-      → MethodIs text (k .head) (methodAt (k .methods) label) y
+  pub method-read : (y : MethodAgain) → MethodAgainAt text (getD work (1024 + label) 0) y → MethodIs text (k .head) (methodAt (k .methods) label) y
   unfolding methodsFrom
-  method-read c y e q =
+  method-read y again =
       let f = r .finds .methodLine label b in
-      method-found text (k .head) (f .0) c (methodAt (k .methods) label) (f .1) (f .2)
-      (ap (λ (p : ℕ). oneMethod text (k .head) (f .0) p) e ∙ f .3) y (q ∙ λ j. asMethodLine c (readLine text T.method (r .heads j) 0 (c .at)))
+      method-found text (k .head) (f .0) (getD work (methodsFrom + label) 0) (methodAt (k .methods) label) (f .1) (f .2) (f .3) y again
 
 -- The method that its lines are read for is in the work space.
-pub now-loaded : {k : Case} {text : List ℕ} {label : ℕ} {y : MethodLine} (new : List ℕ) → MethodIs text (k .head) (methodAt (k .methods) label) y
-    → testsIn new 0 (y .count) ≡ testsAt text (k .head) (y .subtasks) (y .count) (y .next .at) → Letters new (y .count)
-    → Holds k new (record { method = label; subtasks = y .subtasks; count = y .count })
+pub now-loaded : {k : Case} {text : List ℕ} {label : ℕ} {y : MethodAgain} (new : List ℕ) → MethodIs text (k .head) (methodAt (k .methods) label) y
+    → testsIn new 0 (y .constraints) ≡ testsAt text (k .head) (y .subtasks) (y .constraints) (y .next .at) → Letters new (y .constraints)
+    → Holds k new (record { method = label; subtasks = y .subtasks; count = y .constraints })
 now-loaded new found tests letters = record { subtasks = found .counts; few = found .few; letters = letters; tests = tests ∙ found .tests }
 
 -- It may be the one that was.

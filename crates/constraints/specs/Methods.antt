@@ -6,19 +6,11 @@ use Rattle.rules.specs.declared.Header.{Header}
 use Rattle.rules.specs.declared.Answer.{Answer}
 use Rattle.rules.specs.Table as T
 use Rattle.rules.specs.Table.{LineRead, line, readLine}
-use Rattle.rules.specs.Case.{Constraint, constraintOf, scalarAt}
-use Rattle.text.specs.declared.Cursor.{Cursor}
-use Rattle.text.specs.Cursor.{cursor}
-use Rattle.constraints.specs.declared.method.MethodLine.{MethodLine}
+use Rattle.rules.specs.Case.{Constraint, constraintOf}
+use Rattle.reading.specs.declared.again.MethodAgain.{MethodAgain}
 use Rattle.constraints.specs.declared.method.Kept.{Kept}
 use Rattle.constraints.specs.declared.method.Kept.the-variants.{All, Broken}
 use Rattle.constraints.specs.Ready.{caseIn}
-
--- An M line's numbers: its task, how many subtasks, how many constraints. No line reads as one without any.
-abbrev pub asMethodLine : Cursor → LineRead → MethodLine
-asMethodLine c (line l vs next) = record { subtasks = scalarAt vs 1; count = scalarAt vs 2; next = cursor next }
-asMethodLine c (LineRead.unreadable field) = record { subtasks = 0; count = 0; next = c }
-asMethodLine c (LineRead.outside field) = record { subtasks = 0; count = 0; next = c }
 
 -- The first broken constraint, if there is one.
 abbrev pub keptAs : Option Answer → Kept
@@ -46,5 +38,5 @@ TestsRead text h s zero place = Unit {0}
 TestsRead text h s (suc count) place = thenRead (readLine text T.constraint h s place) (λ next. TestsRead text h s count next)
 
 -- The constraints that follow the line of a method of the text's case.
-abbrev pub testsOf : List ℕ → MethodLine → List Constraint
-testsOf text m = testsAt text (caseIn text .head) (m .subtasks) (m .count) (m .next .at)
+abbrev pub testsOf : List ℕ → MethodAgain → List Constraint
+testsOf text m = testsAt text (caseIn text .head) (m .subtasks) (m .constraints) (m .next .at)

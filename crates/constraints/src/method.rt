@@ -2,12 +2,8 @@
 ghost use mathlib.Core.Path.{_≡_};
 ghost use mathlib.Core.List.{[], _∷_};
 ghost use Prim.Native.Nat.{ℕ, _+_, _*_, _<_, _≤_};
-ghost use lib.Dec.{ltb};
 ghost use lib.ListN.{length};
 ghost use lib.Seq.{sets};
-ghost use Rattle.rules.specs.Text.{feedFollows};
-ghost use Rattle.rules.specs.Table as T;
-ghost use Rattle.rules.specs.Table.{readLine};
 ghost use Rattle.rules.specs.Index.{spanOfPart};
 ghost use Rattle.rules.specs.Constraint.{brokenAt, firstBrokenOf};
 ghost use Rattle.rules.proofs.Judgement.Each.{Each};
@@ -17,16 +13,12 @@ ghost use Rattle.parts.specs.Spans.{spansIn};
 ghost use Rattle.parts.specs.Tests.{Tested, numbered};
 ghost use Rattle.constraints.specs.Ready.{caseIn, Leaves};
 ghost use Rattle.constraints.specs.Loaded.{testsFrom, testsPast, testsIn, Letters};
-ghost use Rattle.constraints.specs.Methods.{asMethodLine, keptAs, TestsRead, testsOf};
+ghost use Rattle.constraints.specs.Methods.{keptAs, TestsRead, testsOf};
 use index::Span;
-use lines::Context;
-use lines::Finish;
-use lines::Role;
 use parts::keeps;
+use reading::MethodAgain;
 use reading::read_again;
 use rules::Answer;
-use rules::Header;
-use text::Cursor;
 
 // Where the constraints of the loaded method start in the work space: four words for each, of at most 64.
 const TESTS: usize = 5104;
@@ -35,13 +27,6 @@ const TESTS: usize = 5104;
 pub enum Kept {
     All,
     Broken { answer: Answer },
-}
-
-// A method's line, read again: how many subtasks and how many constraints it says, and where the first of these starts.
-pub struct MethodLine {
-    pub subtasks: u32,
-    pub count: u32,
-    pub next: Cursor,
 }
 
 // The method whose constraints are in the work space: its number, and how many subtasks and constraints it has.
@@ -79,37 +64,6 @@ fn broken(letter: u8, line: u32, number: u32) -> Answer
     }
 }
 
-// The M line at the cursor, where that of a method is due.
-pub fn method_line(text: &[u8], past: usize, header: Header, c: Cursor) -> MethodLine
-    requires { ⌜ ((p : ℕ) → feedFollows (now text) p ≡ ltb p past) ⌝ }
-    ensures { λ r. ⌜ r ≡ asMethodLine c (readLine (now (text .entry)) T.method header 0 (c .at)) ⌝ }
-{
-    let x = Context {
-        header,
-        subtasks: 0,
-    };
-    let r = lines::read_line(text, past, c, Role::Method, x);
-    let finish = r.finish;
-    let v = r.values;
-    match finish {
-        Finish::Done { next } => MethodLine {
-            subtasks: v[1],
-            count: v[2],
-            next,
-        },
-        Finish::Bad { field: _ } => MethodLine {
-            subtasks: 0,
-            count: 0,
-            next: c,
-        },
-        Finish::Range { field: _ } => MethodLine {
-            subtasks: 0,
-            count: 0,
-            next: c,
-        },
-    }
-}
-
 // One constraint's letter and numbers, into its four words of the work space.
 fn put_test(work: &mut [u32], number: u32, letter: u8, first: u32, second: u32, third: u32)
     requires { ⌜ (number < 64) × (testsPast ≤ length (now work)) ⌝ }
@@ -124,16 +78,16 @@ fn put_test(work: &mut [u32], number: u32, letter: u8, first: u32, second: u32, 
 }
 
 // A method's constraint lines, each read once, into the work space.
-pub fn load_tests(text: &[u8], m: MethodLine, work: &mut [u32])
-    requires { ⌜ (m .count ≤ 64) × (testsPast ≤ length (now work)) ⌝ }
-    requires { ⌜ TestsRead (now text) (caseIn (now text) .head) (m .subtasks) (m .count) (m .next .at) ⌝ }
+pub fn load_tests(text: &[u8], m: MethodAgain, work: &mut [u32])
+    requires { ⌜ (m .constraints ≤ 64) × (testsPast ≤ length (now work)) ⌝ }
+    requires { ⌜ TestsRead (now text) (caseIn (now text) .head) (m .subtasks) (m .constraints) (m .next .at) ⌝ }
     ensures leaves { λ _. ⌜ Leaves (now (work .entry)) (now (work .exit)) ⌝ }
-    ensures tests { λ _. ⌜ testsIn (now (work .exit)) 0 (m .count) ≡ testsOf (now (text .entry)) m ⌝ }
-    ensures letters { λ _. ⌜ Letters (now (work .exit)) (m .count) ⌝ }
+    ensures tests { λ _. ⌜ testsIn (now (work .exit)) 0 (m .constraints) ≡ testsOf (now (text .entry)) m ⌝ }
+    ensures letters { λ _. ⌜ Letters (now (work .exit)) (m .constraints) ⌝ }
 {
     let mut at = m.next;
     let mut number: u32 = 0;
-    while number < m.count {
+    while number < m.constraints {
         let a = read_again(text, at);
         put_test(work, number, a.letter, a.first, a.second, a.third);
         at = a.next;

@@ -11,10 +11,10 @@ use crate::method::Kept;
 use crate::method::Loaded;
 use crate::method::first_broken_of;
 use crate::method::load_tests;
-use crate::method::method_line;
 use parts::span_at;
 use parts::subtask_nodes;
 use reading::read_again;
+use reading::read_method_again;
 use rules::Header;
 use text::Cursor;
 
@@ -66,12 +66,12 @@ fn load(
     }
     let at = METHODS + method as usize;
     let place = work[at] as usize;
-    let m = method_line(text, past, header, Cursor { at: place });
+    let m = read_method_again(text, Cursor { at: place });
     load_tests(text, m, work);
     Loaded {
         method,
         subtasks: m.subtasks,
-        count: m.count,
+        count: m.constraints,
     }
 }
 

@@ -8,10 +8,10 @@ use Rattle.constraints.proofs.method.load_tests.Statement.{statement}
 use Rattle.constraints.proofs.method.load_tests.Tie as tie
 
 abbrev Inv-loop : tie.InvT-loop
-Inv-loop text m work₀ at₀ number₀ work at number = Loading text (caseIn text .head) (m .subtasks) (m .count) work₀ work (at₀ .at) (at .at) number
+Inv-loop text m work₀ at₀ number₀ work at number = Loading text (caseIn text .head) (m .subtasks) (m .constraints) work₀ work (at₀ .at) (at .at) number
 
 abbrev μ-loop : tie.MeasureT-loop
-μ-loop text m work₀ at₀ number₀ work at number = m .count - number
+μ-loop text m work₀ at₀ number₀ work at number = m .constraints - number
 
 loop-holds : tie.Need-loop-holds Inv-loop μ-loop
 loop-holds c =

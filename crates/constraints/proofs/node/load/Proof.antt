@@ -31,15 +31,15 @@ cast-place : tie.Need-cast-place
 cast-place c =
     omega (arith, c .slice-known2 .given (1024 + c .before .before .before .before .before .args .method))
 
-method-line-requires : tie.Need-method-line-requires
-method-line-requires c κs = search needs
+read-method-again-requires : tie.Need-read-method-again-requires
+read-method-again-requires c κs = search needs
 
 load-tests-requires : tie.Need-load-tests-requires
 load-tests-requires c κs =
     let s = c .before .before .before .before .before .before .before in
     let a = s .args in
-    let m = c .before .method-line in
-    let f = method-read (s .pre .0 .3) (s .pre .1 .0) (cursor (getD (a .work .now) (1024 + a .method) 0)) (m .result) refl (m .ensures) in
+    let m = c .before .read-method-again in
+    let f = method-read (s .pre .0 .3) (s .pre .1 .0) (m .result) (m .ensures) in
     ((f .few, tests-room (s .pre .0 .3) (s .pre .1 .0)), f .reads)
 
 same-length : tie.Need-same-length
@@ -49,8 +49,8 @@ returns-2 : tie.Need-returns-2
 returns-2 c =
     let s = c .before .before .before .before .before .before .before .before .before .before in
     let a = s .args in
-    let m = c .before .before .before .before .method-line in
-    let f = method-read (s .pre .0 .3) (s .pre .1 .0) (cursor (getD (a .work .now) (1024 + a .method) 0)) (m .result) refl (m .ensures) in
+    let m = c .before .before .before .before .read-method-again in
+    let f = method-read (s .pre .0 .3) (s .pre .1 .0) (m .result) (m .ensures) in
     let l = c .before .before .load-tests in
     (refl, (now-loaded (l .last .1 .1 .0) f (l .ensures .1 .0) (l .ensures .1 .1), l .ensures .0))
 
@@ -63,7 +63,7 @@ load-spec =
     mul-place
     slice-read-place
     cast-place
-    method-line-requires
+    read-method-again-requires
     load-tests-requires
     same-length
     returns-2)
