@@ -28,7 +28,7 @@ itemsFrom text x l rest i values field place =
 
 pub record Progress (text : List ℕ) (x : Context) (l shape start : ℕ) (c : Cursor) (values : List ℕ) (field rest i : ℕ) : Type 0 where
   pub most : i ≤ 7
-  pub size : length values ≡ 7
+  pub size : length values ≡ 8
   pub small : rest < 256 ^ (7 - i)
   pub fields : field ≤ 2 + i * 8589934592
   pub blank : Blank i values
@@ -42,7 +42,8 @@ no-values (suc (suc (suc zero))) h = refl
 no-values (suc (suc (suc (suc zero)))) h = refl
 no-values (suc (suc (suc (suc (suc zero))))) h = refl
 no-values (suc (suc (suc (suc (suc (suc zero)))))) h = refl
-no-values (suc (suc (suc (suc (suc (suc (suc j))))))) h = refl
+no-values (suc (suc (suc (suc (suc (suc (suc zero))))))) h = refl
+no-values (suc (suc (suc (suc (suc (suc (suc (suc j)))))))) h = refl
 
 -- A byte that is not 0 is left only before the seventh item.
 pub more-items : (i rest : ℕ) → rest < 256 ^ (7 - i) → (rest ≡ 0 → ⊥) → i < 7

@@ -51,7 +51,7 @@ roleOf Plan = T.plan
 roleOf Node = T.node
 
 abbrev pub noValues : List ℕ
-noValues = 0 ∷ 0 ∷ 0 ∷ 0 ∷ 0 ∷ 0 ∷ 0 ∷ []
+noValues = 0 ∷ 0 ∷ 0 ∷ 0 ∷ 0 ∷ 0 ∷ 0 ∷ 0 ∷ []
 
 abbrev pub refusedLine : Finish → LineRead
 refusedLine f = record { finish = f; letter = 0; values = noValues }

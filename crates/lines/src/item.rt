@@ -9,6 +9,7 @@ ghost use Rattle.lines.specs.Shapes.{kindOf, itemOf};
 ghost use Rattle.lines.specs.Reading.{inKind, readItemIn, asTaken, asOutcome, collected};
 use crate::range;
 use crate::range::Context;
+use crate::range::VALUES;
 use text::Cursor;
 use text::Field;
 
@@ -38,7 +39,7 @@ enum Taken {
 }
 
 // Whether v is at least `low`, and in the range of its kind.
-fn admits(low: u64, kind: u64, x: Context, before: [u32; 7], v: u32) -> bool
+fn admits(low: u64, kind: u64, x: Context, before: [u32; VALUES], v: u32) -> bool
     ensures { λ r. ⌜ r ≡ leb low v && inKind x before kind v ⌝ }
 {
     if low <= v as u64 {
@@ -48,7 +49,14 @@ fn admits(low: u64, kind: u64, x: Context, before: [u32; 7], v: u32) -> bool
     }
 }
 
-fn take_number(text: &[u8], c: Cursor, x: Context, before: [u32; 7], kind: u64, low: u64) -> Taken
+fn take_number(
+    text: &[u8],
+    c: Cursor,
+    x: Context,
+    before: [u32; VALUES],
+    kind: u64,
+    low: u64,
+) -> Taken
     ensures { λ r. ⌜ r ≡ asTaken (take (λ v. leb low v && inKind x before kind v) (numberAt (now (text .entry)) (c .at))) ⌝ }
 {
     match c.number(text) {
@@ -79,7 +87,7 @@ fn members(
     text: &[u8],
     c: Cursor,
     x: Context,
-    before: [u32; 7],
+    before: [u32; VALUES],
     kind: u64,
     count: u32,
     field: usize,
@@ -121,7 +129,7 @@ fn list(
     text: &[u8],
     c: Cursor,
     x: Context,
-    before: [u32; 7],
+    before: [u32; VALUES],
     counts: u64,
     kind: u64,
     field: usize,
@@ -136,7 +144,14 @@ fn list(
     }
 }
 
-fn single(text: &[u8], c: Cursor, x: Context, before: [u32; 7], kind: u64, field: usize) -> Outcome
+fn single(
+    text: &[u8],
+    c: Cursor,
+    x: Context,
+    before: [u32; VALUES],
+    kind: u64,
+    field: usize,
+) -> Outcome
     requires { ⌜ field < 2 ^ 40 ⌝ }
     ensures { λ r. ⌜ r ≡ asOutcome (readItemIn (now (text .entry)) x before (one (kindOf kind)) field (c .at)) ⌝ }
 {
@@ -156,7 +171,7 @@ pub fn read_item(
     text: &[u8],
     c: Cursor,
     x: Context,
-    before: [u32; 7],
+    before: [u32; VALUES],
     item: u64,
     field: usize,
 ) -> Outcome

@@ -9,3 +9,4 @@ pub use line::LineRead;
 pub use line::Role;
 pub use line::read_line;
 pub use range::Context;
+pub use range::VALUES;

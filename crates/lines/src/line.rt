@@ -10,6 +10,7 @@ ghost use Rattle.lines.specs.Reading.{roleOf, refusedLine, stored, noVal
 use crate::item;
 use crate::item::Outcome;
 use crate::range::Context;
+use crate::range::VALUES;
 use crate::table;
 use text::Cursor;
 use text::Ending;
@@ -40,7 +41,7 @@ pub enum Finish {
 pub struct LineRead {
     pub finish: Finish,
     pub letter: u8,
-    pub values: [u32; 7],
+    pub values: [u32; VALUES],
 }
 
 // The byte of a shape that says which line is due.
@@ -64,12 +65,12 @@ fn refused(finish: Finish) -> LineRead
     LineRead {
         finish,
         letter: 0,
-        values: [0u32; 7],
+        values: [0u32; VALUES],
     }
 }
 
 // The line's end, after its items: anything else is surplus field number `field`.
-fn finished(text: &[u8], c: Cursor, letter: u8, values: [u32; 7], field: usize) -> LineRead
+fn finished(text: &[u8], c: Cursor, letter: u8, values: [u32; VALUES], field: usize) -> LineRead
     ensures { λ r. ⌜ r ≡ stored 7 values (finishLine letter field (endingAt (now (text .entry)) (c .at))) ⌝ }
 {
     match c.line_end(text) {
@@ -88,7 +89,7 @@ fn items(text: &[u8], c: Cursor, x: Context, letter: u8, shape: u64) -> LineRead
     ensures { λ r. ⌜ r ≡ stored 0 noValues (readItems (now (text .entry)) (x .header) (x .subtasks) letter (itemsOf shape) [] 2 (c .at)) ⌝ }
 {
     let mut at = c;
-    let mut values = [0u32; 7];
+    let mut values = [0u32; VALUES];
     let mut field: usize = 2;
     let mut rest = shape;
     let mut i: usize = 0;

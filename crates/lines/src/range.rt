@@ -7,6 +7,9 @@ ghost use Rattle.rules.specs.Table.{isCompound};
 ghost use Rattle.lines.specs.Reading.{inKind};
 use rules::Header;
 
+// How many numbers of a line are kept: seven items at most follow a letter, and eight are copied as whole halves.
+pub const VALUES: usize = 8;
+
 // What is known before a line: the header's numbers, and the subtask count of the method whose constraints are read.
 pub struct Context {
     pub header: Header,
@@ -48,7 +51,7 @@ fn is_other(j: u32, count: u32, i: u32) -> bool
 }
 
 // Whether v is in the range of the kind of number that a shape's byte stands for, after the numbers before it in its line.
-pub fn in_range(kind: u64, x: Context, before: [u32; 7], v: u32) -> bool
+pub fn in_range(kind: u64, x: Context, before: [u32; VALUES], v: u32) -> bool
     ensures { λ r. ⌜ r ≡ inKind x before kind v ⌝ }
 {
     let h = x.header;

@@ -20,6 +20,7 @@ pub use again::read_method_again;
 use lines::Context;
 use lines::Finish;
 use lines::Role;
+use lines::VALUES;
 use rules::Answer;
 use rules::Header;
 use text::Cursor;
@@ -54,7 +55,7 @@ enum Group {
 // One line, with the number of each of its items or how many members it has: all zero for a refusal.
 struct Entry {
     group: Group,
-    values: [u32; 7],
+    values: [u32; VALUES],
 }
 
 // How line number `line` ended: the line after it, or the refusal of one of its fields.
@@ -216,7 +217,7 @@ fn methods(text: &[u8], past: usize, from: Spot, header: Header, directory: &mut
 }
 
 // The numbers of an N line, by their names.
-fn header_of(values: [u32; 7]) -> Header
+fn header_of(values: [u32; VALUES]) -> Header
     ensures { λ r. ⌜ r ≡ headerIn values ⌝ }
 {
     Header {
@@ -294,7 +295,7 @@ pub fn read_case(text: &[u8], directory: &mut [u32]) -> CaseRead
 {
     let past = text::past_last_feed(text);
     // The ranges of the N line ask for no header.
-    let header = header_of([0u32; 7]);
+    let header = header_of([0u32; VALUES]);
     let start = Cursor::new();
     let x = Context {
         header,

@@ -28,7 +28,7 @@ mul-values : tie.Need-mul-values Inv-loop μ-loop
 mul-values c = let h = more-items (c .before .before .before .before .before .loop .i) (c .before .before .before .before .before .loop .rest) (c .before .before .before .before .before .loop .inv .small) (c .before .before .before .before .loop-test .taken) in omega arith
 
 array-write-values : tie.Need-array-write-values Inv-loop μ-loop
-array-write-values c = more-items (c .before .before .before .before .before .loop .i) (c .before .before .before .before .before .loop .rest) (c .before .before .before .before .before .loop .inv .small) (c .before .before .before .before .loop-test .taken)
+array-write-values c = let h = more-items (c .before .before .before .before .before .loop .i) (c .before .before .before .before .before .loop .rest) (c .before .before .before .before .before .loop .inv .small) (c .before .before .before .before .loop-test .taken) in omega arith
 
 add-i : tie.Need-add-i Inv-loop μ-loop
 add-i c = let p = c .before .before .before .before .before .loop .inv in omega arith
