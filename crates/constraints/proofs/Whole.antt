@@ -9,7 +9,8 @@ use Rattle.rules.specs.declared.Answer.{Answer}
 use Rattle.rules.specs.Case.{Case}
 use Rattle.rules.specs.Tree.{Tree, mayClaim, walkTree}
 use Rattle.rules.specs.Verdict.{Found, right, wrong, noneBroken, judgeConstraints}
-use Rattle.tree.specs.Layout.{caseOf, treeOf}
+use Rattle.reading.proofs.TheCase.{case-is}
+use Rattle.tree.specs.Layout.{treeOf}
 use Rattle.constraints.specs.declared.method.Kept.{Kept}
 use Rattle.constraints.specs.declared.method.Kept.the-variants.{All, Broken}
 use Rattle.constraints.specs.Methods.{keptAs}
@@ -18,8 +19,8 @@ use Rattle.constraints.specs.Ready.{caseIn, treeIn, Ready, brokenOfTree}
 module _ (k : Case) (t : Tree) (text : List ℕ) (past : ℕ) (header : Header) (planLine nodes : ℕ) (states work : List ℕ)
     (r : Ready k t text past header planLine nodes states work) where
   pub case-in : caseIn text ≡ k
-  unfolding caseIn caseOf
-  case-in = ap caseOf (r .reads .2)
+  unfolding caseIn
+  case-in = case-is text k (r .reads .0) (r .reads .1) (r .reads .2)
 
   pub tree-in : treeIn text ≡ t
   unfolding treeIn treeOf

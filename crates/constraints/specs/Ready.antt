@@ -14,11 +14,12 @@ use Rattle.rules.specs.Tree.{Tree, leaf, preorder, Walk, mayClaim, walkTree}
 use Rattle.rules.specs.Constraint.{holdsIn, constraintsOf, partsOf, firstBrokenOf, firstBroken}
 use Rattle.rules.specs.Verdict.{stateNeed, workNeed, statesOf, filled}
 use Rattle.reading.specs.Directory.{Finds}
-use Rattle.tree.specs.Layout.{size, rows, directoryOf, rowsIn, caseOf, treeOf}
+use Rattle.reading.specs.TheCase.{caseOf}
+use Rattle.tree.specs.Layout.{size, rows, directoryOf, rowsIn, treeOf}
 
 -- The case that a text reads as, and its claimed tree. They are asked of texts that read and of trees that are walked.
 unfoldable pub caseIn : List ℕ → Case
-caseIn text = caseOf (readCase text)
+caseIn text = caseOf text
 
 unfoldable pub treeIn : List ℕ → Tree
 treeIn text = treeOf (walkTree (caseIn text) (mayClaim (caseIn text .plan)))

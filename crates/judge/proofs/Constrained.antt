@@ -34,8 +34,8 @@ module _ (text : List ℕ) (o : Opened) (states work : List ℕ) (x : P.Claimed 
   w = x .walked
 
   con-case : Con.caseIn text ≡ caseOf text
-  unfolding Con.caseIn Lay.caseOf w
-  con-case = ap Lay.caseOf (w .opens .reads)
+  unfolding Con.caseIn
+  con-case = refl
 
   con-tree : Con.treeIn text ≡ w .tree
   unfolding Con.treeIn Lay.treeOf w

@@ -28,10 +28,8 @@ use Rattle.replay.specs.Running.{Left, ranOf, RanAs}
 use Rattle.replay.specs.declared.running.Ran.{Ran}
 use Rattle.replay.specs.declared.running.Ran.the-variants.{All, Stopped}
 use Rattle.replay.proofs.Calls.{left-worded}
-use Rattle.tree.specs.Layout as Lay
 use Rattle.tree.specs.Layout.{marksFrom, planFrom, size, rows, directoryOf, marksIn, marksOf, planIn, rowsIn}
 use Rattle.tree.specs.Numbers.{PlanAt}
-use Rattle.tree.specs.Numbers as Num
 use Rattle.tree.specs.Whole.{Ready, TreeKept, TreeTold}
 use Rattle.tree.specs.Marks.{leastUnmarked, asUnclaimed}
 use Rattle.tree.specs.declared.marks.Unclaimed.{Unclaimed}
@@ -170,40 +168,34 @@ module _ (text : List ℕ) (o : Opened) (initial : ℕ) (work : List ℕ) (x : O
 
   -- ---- Walking
 
-  pub tree-case : Num.caseIn text ≡ caseOf text
-  unfolding Lay.caseOf
-  tree-case = ap Lay.caseOf (x .reads)
-
-  pub plan-stored : PlanAt text (Num.caseIn text) (o .header .cues) (o .plan .at) work
+  pub plan-stored : PlanAt text (caseOf text) (o .header .cues) (o .plan .at) work
   unfolding workNeed
   plan-stored =
-      subst (λ (k : Case). PlanAt text k (o .header .cues) (o .plan .at) work) (sym tree-case)
-      (let few = open-sound .head-good .few-cues in
+      let few = open-sound .head-good .few-cues in
       let same : o .header .cues ≡ caseOf text .head .cues = ap (λ (h : Header). h .cues) (x .head) in
-      record { planLine = x .finds .planLine; planCues = x .finds .planCues; count = same; few = omega arith; room = x .workRoom })
+      record { planLine = x .finds .planLine; planCues = x .finds .planCues; count = same; few = omega arith; room = x .workRoom }
 
-  module _ (v : List ℕ) (stored : v ≡ sets work planFrom (Num.caseIn text .plan)) (unused : Unused work) where
+  module _ (v : List ℕ) (stored : v ≡ sets work planFrom (caseOf text .plan)) (unused : Unused work) where
     areas : (directoryOf v ≡ directoryOf work) × (marksIn (caseOf text .head .cues) v ≡ marksIn (caseOf text .head .cues) work)
         × (planIn (caseOf text .head .cues) v ≡ caseOf text .plan)
     unfolding workNeed
     areas =
         subst (λ (l : List ℕ). (directoryOf l ≡ directoryOf work) × (marksIn (caseOf text .head .cues) l ≡ marksIn (caseOf text .head .cues) work)
-        × (planIn (caseOf text .head .cues) l ≡ caseOf text .plan)) (sym (stored ∙ ap (λ (k : Case). sets work planFrom (k .plan)) tree-case))
+        × (planIn (caseOf text .head .cues) l ≡ caseOf text .plan)) (sym stored)
         (plan-areas work (caseOf text .plan) (caseOf text .head .cues) (open-sound .plan-length) (open-sound .head-good .few-cues) (x .workRoom))
 
     room : workNeed ≤ length v
     room =
-        let same : length v ≡ length work = ap length stored ∙ length-sets work planFrom (Num.caseIn text .plan) in
+        let same : length v ≡ length work = ap length stored ∙ length-sets work planFrom (caseOf text .plan) in
         let r = x .workRoom in omega arith
 
     pub stored-opens : Opens text o initial v
     stored-opens = open-kept v room (areas .0)
 
-    pub walk-ready : Ready text (Num.caseIn text) (o .past) (o .header) (o .«plan_line») (o .nodes .at) v
+    pub walk-ready : Ready text (caseOf text) (o .past) (o .header) (o .«plan_line») (o .nodes .at) v
     unfolding workNeed textMost
     walk-ready =
-        subst (λ (k : Case). Ready text k (o .past) (o .header) (o .«plan_line») (o .nodes .at) v) (sym tree-case)
-        (record {
+        record {
           line = x .line;
           place = x .place;
           reads = x .reads;
@@ -217,15 +209,12 @@ module _ (text : List ℕ) (o : Opened) (initial : ℕ) (work : List ℕ) (x : O
           room = room;
           unmarked = areas .1 ∙ marks-none work (caseOf text .head .cues) (open-sound .head-good .few-cues) (x .workRoom) unused;
           cues = areas .2;
-        })
+        }
 
     -- What the walk answered: the tree, its rows and its claims; or the refusal.
-    module _ (r : TreeWalk) (u : List ℕ) (told : TreeTold (Num.caseIn text) v (walkTree (Num.caseIn text) (mayClaim (Num.caseIn text .plan))) r u) where
-      told-here : TreeTold (caseOf text) v (walkTree (caseOf text) (mayClaim (caseOf text .plan))) r u
-      told-here = subst (λ (k : Case). TreeTold k v (walkTree k (mayClaim (k .plan))) r u) tree-case told
-
+    module _ (r : TreeWalk) (u : List ℕ) (told : TreeTold (caseOf text) v (walkTree (caseOf text) (mayClaim (caseOf text .plan))) r u) where
       pub walk-refuses : (a : Answer) → r ≡ Refused a → walkTree (caseOf text) (mayClaim (caseOf text .plan)) ≡ Walk.refused a
-      walk-refuses a e = go (walkTree (caseOf text) (mayClaim (caseOf text .plan))) refl told-here
+      walk-refuses a e = go (walkTree (caseOf text) (mayClaim (caseOf text .plan))) refl told
         where
           go : (y : Walk) → walkTree (caseOf text) (mayClaim (caseOf text .plan)) ≡ y → TreeTold (caseOf text) v y r u
               → walkTree (caseOf text) (mayClaim (caseOf text .plan)) ≡ Walk.refused a
@@ -233,7 +222,7 @@ module _ (text : List ℕ) (o : Opened) (initial : ℕ) (work : List ℕ) (x : O
           go (Walk.refused b) q w = let same : b ≡ a = cc in q ∙ ap (λ (y : Answer). Walk.refused y) same
 
       pub walk-finds : (states : List ℕ) → r ≡ Right → length u ≡ length v → HasRun text states → P.Walked text o states u
-      walk-finds states e same run = go (walkTree (caseOf text) (mayClaim (caseOf text .plan))) refl told-here
+      walk-finds states e same run = go (walkTree (caseOf text) (mayClaim (caseOf text .plan))) refl told
         where
           go : (y : Walk) → walkTree (caseOf text) (mayClaim (caseOf text .plan)) ≡ y → TreeTold (caseOf text) v y r u → P.Walked text o states u
           go (Walk.walked t n left claimed) q w =

@@ -10,7 +10,7 @@ use Rattle.rules.specs.declared.Header.{Header}
 use Rattle.rules.specs.Text.{Number, number, notPlain, missing, numberAt, Letter, letter, noLetter, letterAt, Ending, ended, surplus, endingAt, feedFollows}
 use Rattle.rules.specs.Table as T
 use Rattle.rules.specs.Table.{Role, Item, one, Row, table, rowIn, rowOf, roleNumber, inRange, taken, out, take, Value, scalar, members, numberOf, ItemRead, item, followTaken, withMember, leastAfter, readMembers, readList, readItem, LineRead, line, followItem, withValue, finishLine, readItems, readRow, readLetter, readLine}
-use Rattle.rules.specs.Case.{Method, Case, Valued, Read, read, refused, follow, readOf, readCase, oneLine, many, oneMethod, methodOf, scalarAt, membersAt}
+use Rattle.rules.specs.Case.{Method, Case, Valued, Read, read, refused, follow, readOf, oneLine, many, oneMethod, methodOf, scalarAt, membersAt}
 use Rattle.text.specs.declared.Cursor.{Cursor}
 use Rattle.text.specs.declared.Field.{Field}
 use Rattle.text.specs.declared.Field.the-variants.{Number as ReadNumber, NotPlain, Missing}
@@ -19,8 +19,7 @@ use Rattle.text.specs.declared.Letter.the-variants.{Byte, Wrong}
 use Rattle.text.specs.Cursor.{cursor, asField, asLetter}
 use Rattle.reading.specs.Directory.{LineIs}
 use Rattle.tree.specs.declared.number.Numbered.{Numbered}
-use Rattle.tree.specs.Numbers.{valueIn, nextIn, numbered, placeAfter, afterLetter, numbersAt, PlanAt, caseIn}
-use Rattle.tree.specs.Layout.{caseOf}
+use Rattle.tree.specs.Numbers.{valueIn, nextIn, numbered, placeAfter, afterLetter, numbersAt, PlanAt}
 use Rattle.tree.specs.Fits.{methodHead, taskPlace, countPlace, subtaskPlace}
 
 -- ---- What the code makes of a field and of a letter
@@ -286,8 +285,3 @@ method-head text h n place m n″ p″ e =
   where
     read-same : {A : Type 0} {x y : A} {n p n′ p′ : ℕ} → read x n p ≡ read y n′ p′ → x ≡ y
     read-same e = cc
-
--- The case of a text that reads as one.
-pub case-is : (text : List ℕ) (k : Case) (n place : ℕ) → readCase text ≡ read k n place → caseIn text ≡ k
-unfolding caseOf
-case-is text k n place e = ap caseOf e

@@ -8,7 +8,7 @@ use lib.Seq.{slice}
 use Rattle.rules.specs.State.{tabulate}
 use Rattle.rules.specs.Index.{Span}
 use Rattle.rules.specs.Table as T
-use Rattle.rules.specs.Case.{Case, Valued, Read, read, refused, noHeader, nodeOf, oneLine, many}
+use Rattle.rules.specs.Case.{Case, Valued, read, nodeOf, oneLine, many}
 use Rattle.rules.specs.Tree.{Tree, leaf, empty, task, Trees, noTree, more, preorder, preorders, span, Walk, isIn}
 
 -- The areas of the work space, after the directory of lines (0 to 3,072): marks of the positions (1,000), the subtasks' nodes of the
@@ -87,11 +87,7 @@ pub record NodesFrom (text : List ℕ) (k : Case) (n place : ℕ) : Type 0 where
   pub reads : many (oneLine text (k .head) T.node 0) (k .head .nodes - n) number place ≡ read lines past next
   pub are : map nodeOf lines ≡ drop n (k .nodes)
 
--- The case that a text reads as, and the tree that its node lines claim. They are asked of texts that read, and of trees that are walked.
-unfoldable pub caseOf : Read Case → Case
-caseOf (read k n place) = k
-caseOf (refused r) = record { head = noHeader; initial = []; actions = []; methods = []; plan = []; nodes = []; planLine = 0 }
-
+-- The tree that node lines claim, asked of trees that are walked.
 unfoldable pub treeOf : Walk → Tree
 treeOf (Walk.walked t n left claimed) = t
 treeOf (Walk.refused r) = leaf 0 0

@@ -5,16 +5,11 @@ use Prim.Native.Nat.{ℕ, zero, suc, _≤_}
 use lib.ListN.{length}
 use Rattle.rules.specs.Text.{Number, number, notPlain, missing, numberAt, Letter, letter, noLetter}
 use Rattle.rules.specs.Table as T
-use Rattle.rules.specs.Case.{Case, membersAt, readCase}
+use Rattle.rules.specs.Case.{Case, membersAt}
 use Rattle.text.specs.declared.Cursor.{Cursor}
 use Rattle.text.specs.Cursor.{cursor}
 use Rattle.reading.specs.Directory.{LineIs}
 use Rattle.tree.specs.declared.number.Numbered.{Numbered}
-use Rattle.tree.specs.Layout.{caseOf}
-
--- The case that a text reads as.
-abbrev pub caseIn : List ℕ → Case
-caseIn text = caseOf (readCase text)
 
 unfoldable pub valueIn : Number → ℕ
 valueIn (number v next) = v

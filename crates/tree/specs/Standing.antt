@@ -25,7 +25,7 @@ use Rattle.tree.specs.declared.fit.Fit.{Fit}
 use Rattle.tree.specs.declared.fit.Fit.the-variants.{Refused as RefusedFit, Open, Empty as EmptyFit, Leaf as LeafFit}
 use Rattle.tree.specs.declared.rows.Walked.{Walked}
 use Rattle.tree.specs.declared.rows.Walked.the-variants.{Next, Refused}
-use Rattle.tree.specs.Layout.{rowsFrom, size, sizes, row, rows, rowsAll, marksOf, directoryOf, marksIn, planIn, NodesFrom, caseOf}
+use Rattle.tree.specs.Layout.{rowsFrom, size, sizes, row, rows, rowsAll, marksOf, directoryOf, marksIn, planIn, NodesFrom}
 use Rattle.tree.specs.Numbers.{numbersAt}
 use Rattle.tree.specs.Fits.{lineAt, Follows}
 

@@ -4,7 +4,7 @@ ghost use mathlib.Core.Path.{_≡_};
 ghost use Prim.Native.Nat.{_+_, _≤_, _<_};
 ghost use lib.ListN.{length, getD};
 ghost use Rattle.reading.specs.Directory.{methodsFrom};
-ghost use Rattle.tree.specs.Numbers.{caseIn};
+ghost use Rattle.reading.specs.TheCase.{caseOf};
 ghost use Rattle.tree.specs.Fits.{entryOf, methodHead, fitOf, WithMethod, atLevel, Follows, lineAt};
 ghost use Rattle.tree.specs.Standing.{Steady, Judged};
 use crate::number;
@@ -178,8 +178,8 @@ pub fn line_at(g: Given, node: u32) -> u32
 
 // The node here, where `task` is expected at `level`: 6, then 7.
 pub fn judge(text: &[u8], g: Given, work: &[u32], p: Place, task: u32, level: u32) -> Fit
-    requires { ⌜ Steady (now text) (caseIn (now text)) g (now work) × Follows (now text) (caseIn (now text)) p ⌝ }
-    ensures { λ r. ⌜ Judged (now (text .entry)) (caseIn (now (text .entry))) p task level r ⌝ }
+    requires { ⌜ Steady (now text) (caseOf (now text)) g (now work) × Follows (now text) (caseOf (now text)) p ⌝ }
+    ensures { λ r. ⌜ Judged (now (text .entry)) (caseOf (now (text .entry))) p task level r ⌝ }
 {
     let header = g.header;
     let line = line_at(g, p.node);

@@ -4,8 +4,9 @@ ghost use Prim.Native.Nat.{ℕ};
 ghost use lib.Seq.{sets};
 ghost use Rattle.rules.specs.Text.{letterAt, numberAt};
 ghost use Rattle.rules.specs.Case.{Case};
+ghost use Rattle.reading.specs.TheCase.{caseOf};
 ghost use Rattle.tree.specs.Layout.{planFrom};
-ghost use Rattle.tree.specs.Numbers.{numbered, afterLetter, caseIn, PlanAt};
+ghost use Rattle.tree.specs.Numbers.{numbered, afterLetter, PlanAt};
 use crate::layout::PLAN;
 use text::Cursor;
 use text::Field;
@@ -45,8 +46,8 @@ pub fn after_letter(text: &[u8], c: Cursor) -> Cursor
 
 // The plan's actions, from the P line into the work space: a leaf's claim looks up one of them, wherever it stands in the line.
 pub fn store_plan(text: &[u8], plan: Cursor, cues: u32, work: &mut [u32])
-    requires { ⌜ PlanAt (now text) (caseIn (now text)) cues (plan .at) (now work) ⌝ }
-    ensures { λ _. ⌜ now (work .exit) ≡ sets (now (work .entry)) planFrom (caseIn (now (text .entry)) .plan) ⌝ }
+    requires { ⌜ PlanAt (now text) (caseOf (now text)) cues (plan .at) (now work) ⌝ }
+    ensures { λ _. ⌜ now (work .exit) ≡ sets (now (work .entry)) planFrom (caseOf (now (text .entry)) .plan) ⌝ }
 {
     let mut c = after_letter(text, plan);
     let mut i: u32 = 0;

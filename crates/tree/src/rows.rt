@@ -4,7 +4,7 @@ ghost use Prim.Native.Nat.{ℕ, _+_, _*_, _≤_, _<_};
 ghost use lib.ListN.{length};
 ghost use Rattle.index.specs.Spans.{spanOf};
 ghost use Rattle.rules.specs.Index.{ofGap, at};
-ghost use Rattle.tree.specs.Numbers.{caseIn};
+ghost use Rattle.reading.specs.TheCase.{caseOf};
 ghost use Rattle.rules.specs.declared.Answer.the-variants.{WrongClaim};
 ghost use Rattle.tree.specs.Fits.{lineAt};
 ghost use Rattle.tree.specs.Standing.{putRow, settled, noted, joined, Steady, Claims};
@@ -80,9 +80,9 @@ pub fn claim(
     position: u32,
     next: Place,
 ) -> Walked
-    requires { ⌜ Steady (now text) (caseIn (now text)) g (now work) ⌝ }
+    requires { ⌜ Steady (now text) (caseOf (now text)) g (now work) ⌝ }
     requires { ⌜ (node < g .header .nodes) × (1 ≤ position) × (position ≤ g .header .cues) ⌝ }
-    ensures { λ r. ⌜ Claims (caseIn (now (text .entry))) node action position next (now (work .entry)) r (now (work .exit)) ⌝ }
+    ensures { λ r. ⌜ Claims (caseOf (now (text .entry))) node action position next (now (work .entry)) r (now (work .exit)) ⌝ }
 {
     let i = position as usize - 1;
     let planned = PLAN + i;

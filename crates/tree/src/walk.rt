@@ -3,7 +3,8 @@
 ghost use mathlib.Core.Path.{_≡_};
 ghost use mathlib.Core.List.{_∷_};
 ghost use Prim.Native.Nat.{ℕ, _+_, _-_, _≤_, _<_};
-ghost use Rattle.tree.specs.Numbers.{numbersAt, caseIn};
+ghost use Rattle.reading.specs.TheCase.{caseOf};
+ghost use Rattle.tree.specs.Numbers.{numbersAt};
 ghost use Rattle.tree.specs.Fits.{Follows, firstOf};
 ghost use Rattle.tree.specs.Standing.{Steady, WalksNode, WalksList};
 ghost use Rattle.tree.specs.Whole.{Ready, TreeTold};
@@ -44,9 +45,9 @@ fn first_of(text: &[u8], s: Subtasks) -> First
 
 // The node here, where `task` is expected at `level`.
 fn walk_node(text: &[u8], g: Given, work: &mut [u32], p: Place, task: u32, level: u32) -> Walked
-    requires { ⌜ Steady (now text) (caseIn (now text)) g (now work) × Follows (now text) (caseIn (now text)) p ⌝ }
+    requires { ⌜ Steady (now text) (caseOf (now text)) g (now work) × Follows (now text) (caseOf (now text)) p ⌝ }
     requires { ⌜ level ≤ 65 ⌝ }
-    ensures { λ r. ⌜ WalksNode (now (text .entry)) (caseIn (now (text .entry))) (65 - level) task (p .node) (now (work .entry)) r (now (work .exit)) ⌝ }
+    ensures { λ r. ⌜ WalksNode (now (text .entry)) (caseOf (now (text .entry))) (65 - level) task (p .node) (now (work .entry)) r (now (work .exit)) ⌝ }
 {
     let fit = fit::judge(text, g, work, p, task, level);
     match fit {
@@ -75,9 +76,9 @@ fn walk_subtasks(
     subtasks: Subtasks,
     level: u32,
 ) -> Walked
-    requires { ⌜ Steady (now text) (caseIn (now text)) g (now work) × Follows (now text) (caseIn (now text)) p ⌝ }
+    requires { ⌜ Steady (now text) (caseOf (now text)) g (now work) × Follows (now text) (caseOf (now text)) p ⌝ }
     requires { ⌜ (level ≤ 64) × (0 < subtasks .count) ⌝ }
-    ensures { λ r. ⌜ WalksList (now (text .entry)) (caseIn (now (text .entry))) (64 - level) (numbersAt (now (text .entry)) (subtasks .count) (subtasks .at .at)) (p .node) (now (work .entry)) r (now (work .exit)) ⌝ }
+    ensures { λ r. ⌜ WalksList (now (text .entry)) (caseOf (now (text .entry))) (64 - level) (numbersAt (now (text .entry)) (subtasks .count) (subtasks .at .at)) (p .node) (now (work .entry)) r (now (work .exit)) ⌝ }
 {
     let first = first_of(text, subtasks);
     let mut rest = first.rest;
@@ -111,8 +112,8 @@ pub fn walk_tree(
     nodes: Cursor,
     work: &mut [u32],
 ) -> TreeWalk
-    requires { ⌜ Ready (now text) (caseIn (now text)) past header «plan_line» (nodes .at) (now work) ⌝ }
-    ensures { λ r. ⌜ TreeTold (caseIn (now (text .entry))) (now (work .entry)) (walkTree (caseIn (now (text .entry))) (mayClaim (caseIn (now (text .entry)) .plan))) r (now (work .exit)) ⌝ }
+    requires { ⌜ Ready (now text) (caseOf (now text)) past header «plan_line» (nodes .at) (now work) ⌝ }
+    ensures { λ r. ⌜ TreeTold (caseOf (now (text .entry))) (now (work .entry)) (walkTree (caseOf (now (text .entry))) (mayClaim (caseOf (now (text .entry)) .plan))) r (now (work .exit)) ⌝ }
 {
     let g = Given {
         past,

@@ -6,7 +6,8 @@ use Rattle.tree.proofs.Steps.{store-begin, store-again, store-end}
 use Rattle.tree.proofs.number.store_plan.Statement.{statement}
 use Rattle.tree.proofs.number.store_plan.Tie as tie
 use Rattle.tree.specs.Layout.{planFrom}
-use Rattle.tree.specs.Numbers.{numbersAt, caseIn}
+use Rattle.reading.specs.TheCase.{caseOf}
+use Rattle.tree.specs.Numbers.{numbersAt}
 use borrow.Author.Needs.{needs}
 use lib.ListN.{length, length-set}
 use lib.Seq.{sets}
@@ -64,7 +65,7 @@ returns c = let s = c .before .before .before .before .before in
     let a = s .args in
     let l = c .before .loop in
     store-end (a .text .now) (l .work) (a .work .now) (l .i) (a .cues) (l .c .at) (c .before .before .after-letter .result .at) (l .inv .0) (c .loop-test .left) (l .inv .2)
-    (ap (λ (x : Cursor). x .at) (c .before .before .after-letter .ensures)) (plan-numbers (a .text .now) (caseIn (a .text .now)) (a .cues) (a .plan .at) (a .work .now) (s .pre))
+    (ap (λ (x : Cursor). x .at) (c .before .before .after-letter .ensures)) (plan-numbers (a .text .now) (caseOf (a .text .now)) (a .cues) (a .plan .at) (a .work .now) (s .pre))
 
 pub store-plan-spec : {M : Type 1} → statement M
 store-plan-spec =

@@ -18,7 +18,8 @@ use Rattle.tree.proofs.walk.walk_node.Kinds as walk-node-kinds
 use Rattle.tree.proofs.walk.walk_node.Reads as walk-node
 use Rattle.tree.proofs.walk.walk_subtasks.Kinds as walk-subtasks-kinds
 use Rattle.tree.proofs.walk.walk_subtasks.Reads as walk-subtasks
-use Rattle.tree.specs.Numbers.{numbersAt, caseIn}
+use Rattle.reading.specs.TheCase.{caseOf}
+use Rattle.tree.specs.Numbers.{numbersAt}
 use Rattle.tree.specs.Standing.{Judged}
 use borrow.Author.Needs.{needs}
 use borrow.Fn.Kinds.{In}
@@ -87,7 +88,7 @@ walk-node-walk-subtasks-requires : (t : ℕ) → walk-node-lts.Need-walk-subtask
 walk-node-walk-subtasks-requires t c κs =
     let s = c .before .before .before .before .before .before .before .before in
     let a = s .args in
-    let k = caseIn (a .text .now) in
+    let k = caseOf (a .text .now) in
     let j = subst (Judged (a .text .now) k (a .p) (a .task) (a .level)) (c .before .before .fit2 .given .1) (c .before .before .before .before .judge .ensures) in
     let next = c .before .before .fit2 .given .0 .1 .0 in
     let i = inside (a .text .now) k (a .task) (a .level) (a .p) (a .work .now) next (j .4) (a .g) (s .pre .1 .0 .0) in
@@ -97,7 +98,7 @@ walk-node-note-requires : (t : ℕ) → walk-node-lts.Need-note-requires (walk-n
 walk-node-note-requires t c κs =
     let s = c .before .before .before .before .before .before .before .before .before .before .before .before in
     let a = s .args in
-    let k = caseIn (a .text .now) in
+    let k = caseOf (a .text .now) in
     let j = subst (Judged (a .text .now) k (a .p) (a .task) (a .level)) (c .before .before .before .before .before .before .fit2 .given .1) (c .before .before .before .before .before .before .before .before .judge .ensures) in
     let i = inside (a .text .now) k (a .task) (a .level) (a .p) (a .work .now) (c .before .before .before .before .before .before .fit2 .given .0 .1 .0) (j .4) (a .g) (s .pre .1 .0 .0) in
     (omega (arith, i, nodes-few (a .text .now) k (a .g) (a .work .now) (s .pre .1 .0 .0)), omega (arith, s .pre .1 .0 .0 .room, c .before .before .before .walk-subtasks .kept .1 .1 .0))
@@ -109,7 +110,7 @@ walk-node-rest-requires : (t : ℕ) → walk-node-lts.Need-rest-requires (walk-n
 walk-node-rest-requires t c κs =
     let s = c .before .before .before .before .before .before .before .before in
     let a = s .args in
-    let k = caseIn (a .text .now) in
+    let k = caseOf (a .text .now) in
     let j = subst (Judged (a .text .now) k (a .p) (a .task) (a .level)) (c .before .before .fit3 .given .1) (c .before .before .before .before .judge .ensures) in
     let i = inside (a .text .now) k (a .task) (a .level) (a .p) (a .work .now) (c .before .before .fit3 .given .0 .1 .0) (j .3) (a .g) (s .pre .1 .0 .0) in
     (omega (arith, i, nodes-few (a .text .now) k (a .g) (a .work .now) (s .pre .1 .0 .0)), s .pre .1 .0 .0 .room, omega (arith, j .2))
@@ -121,7 +122,7 @@ walk-node-claim-requires : (t : ℕ) → walk-node-lts.Need-claim-requires (walk
 walk-node-claim-requires t c κs =
     let s = c .before .before .before .before .before .before .before .before in
     let a = s .args in
-    let k = caseIn (a .text .now) in
+    let k = caseOf (a .text .now) in
     let j = subst (Judged (a .text .now) k (a .p) (a .task) (a .level)) (c .before .before .fit4 .given .1) (c .before .before .before .before .judge .ensures) in
     let i = inside (a .text .now) k (a .task) (a .level) (a .p) (a .work .now) (c .before .before .fit4 .given .0 .1 .1 .0) (j .3) (a .g) (s .pre .1 .0 .0) in
     (s .pre .1 .0 .0, (i, j .1, claim-low (a .text .now) k (a .g) (a .work .now) (s .pre .1 .0 .0) (c .before .before .fit4 .given .0 .1 .0) (j .2)))
@@ -133,7 +134,7 @@ walk-node-returns : (t : ℕ) → walk-node-lts.Need-returns (walk-node-calls t)
 walk-node-returns t c =
     let s = c .before .before .before .before .before .before .before in
     let a = s .args in
-    let k = caseIn (a .text .now) in
+    let k = caseOf (a .text .now) in
     let j = subst (Judged (a .text .now) k (a .p) (a .task) (a .level)) (c .before .fit .given .1) (c .before .before .before .judge .ensures) in
     refuses (a .text .now) k (a .task) (a .level) (a .p) (a .work .now) (c .before .fit .given .0 .0) (a .work .now) j
 
@@ -144,7 +145,7 @@ walk-node-returns-2 : (t : ℕ) → walk-node-lts.Need-returns-2 (walk-node-call
 walk-node-returns-2 t c =
     let s = c .before .before .before .before .before .before .before .before .before .before .before .before .before .before .before in
     let a = s .args in
-    let k = caseIn (a .text .now) in
+    let k = caseOf (a .text .now) in
     let j = subst (Judged (a .text .now) k (a .p) (a .task) (a .level)) (c .before .before .before .before .before .before .before .before .before .fit2 .given .1) (c .before .before .before .before .before .before .before .before .before .before .before .judge .ensures) in
     opens (a .text .now) k (a .task) (a .level) (a .p) (a .work .now) (c .before .before .before .before .before .before .before .before .before .fit2 .given .0 .1 .0) (j .4) (c .before .before .before .before .before .before .before .before .before .fit2 .given .0 .0) (c .before .before .before .before .before .before .walk-subtasks .result) (c .before .before .before .before .before .before .walk-subtasks .last .1 .1 .0) (c .before .before .note .last .0) j
     (cues-few (a .text .now) k (a .g) (a .work .now) (s .pre .1 .0 .0)) (c .before .before .before .before .before .before .walk-subtasks .ensures) (c .before .before .note .ensures)
@@ -156,7 +157,7 @@ walk-node-returns-3 : (t : ℕ) → walk-node-lts.Need-returns-3 (walk-node-call
 walk-node-returns-3 t c =
     let s = c .before .before .before .before .before .before .before .before .before .before .before in
     let a = s .args in
-    let k = caseIn (a .text .now) in
+    let k = caseOf (a .text .now) in
     let j = subst (Judged (a .text .now) k (a .p) (a .task) (a .level)) (c .before .before .before .before .before .fit3 .given .1) (c .before .before .before .before .before .before .before .judge .ensures) in
     rests (a .text .now) k (a .task) (a .level) (a .p) (a .work .now) (c .before .before .before .before .before .fit3 .given .0 .1 .0) (j .3) (c .before .before .before .before .before .fit3 .given .0 .0) (c .before .before .rest .result) (c .before .before .rest .last .0) j (cues-few (a .text .now) k (a .g) (a .work .now) (s .pre .1 .0 .0)) (c .before .before .rest .ensures .0) (c .before .before .rest .ensures .1)
 
@@ -167,7 +168,7 @@ walk-node-returns-4 : (t : ℕ) → walk-node-lts.Need-returns-4 (walk-node-call
 walk-node-returns-4 t c =
     let s = c .before .before .before .before .before .before .before .before .before .before .before in
     let a = s .args in
-    let k = caseIn (a .text .now) in
+    let k = caseOf (a .text .now) in
     let j = subst (Judged (a .text .now) k (a .p) (a .task) (a .level)) (c .before .before .before .before .before .fit4 .given .1) (c .before .before .before .before .before .before .before .judge .ensures) in
     claims (a .text .now) k (a .task) (a .level) (a .p) (a .work .now) (c .before .before .before .before .before .fit4 .given .0 .1 .1 .0) (j .3) (c .before .before .before .before .before .fit4 .given .0 .0) (c .before .before .before .before .before .fit4 .given .0 .1 .0) (c .before .before .claim .result) (c .before .before .claim .last .1 .1 .0) j (c .before .before .claim .ensures)
 
@@ -176,7 +177,7 @@ walk-node-returns-4 t c =
 -- What was begun as the loop was reached is begun now, with the subtasks that are left.
 abbrev walk-subtasks-Inv-loop : walk-subtasks-lts.InvT-loop
 walk-subtasks-Inv-loop text g work₀ level rest₀ walked₀ work rest walked =
-    (all : List ℕ) (n : ℕ) (w : List ℕ) → Begun text (caseIn text) level all rest₀ n w walked₀ work₀ → Begun text (caseIn text) level all rest n w walked work
+    (all : List ℕ) (n : ℕ) (w : List ℕ) → Begun text (caseOf text) level all rest₀ n w walked₀ work₀ → Begun text (caseOf text) level all rest n w walked work
 
 abbrev walk-subtasks-μ-loop : walk-subtasks-lts.MeasureT-loop
 walk-subtasks-μ-loop text g work₀ level rest₀ walked₀ work rest walked = rest .count
@@ -197,12 +198,12 @@ walk-subtasks-loop-holds t c = λ all n w b. b
 
 -- At the loop the first of the call's subtasks are walked.
 walk-subtasks-begun : (t : ℕ) (c : walk-subtasks-lts.At-loop (walk-subtasks-calls t) (walk-subtasks-at t) walk-subtasks.Post walk-subtasks-Inv-loop walk-subtasks-μ-loop)
-    → let a = c .before .before .before .before .before .before .before .before .before .args in Begun (a .text .now) (caseIn (a .text .now)) (a .level) (numbersAt (a .text .now) (a .subtasks .count) (a .subtasks .at .at)) (c .loop .rest) (a .p .node) (a .work .now) (c .loop .walked) (c .loop .work)
+    → let a = c .before .before .before .before .before .before .before .before .before .args in Begun (a .text .now) (caseOf (a .text .now)) (a .level) (numbersAt (a .text .now) (a .subtasks .count) (a .subtasks .at .at)) (c .loop .rest) (a .p .node) (a .work .now) (c .loop .walked) (c .loop .work)
 walk-subtasks-begun t c =
     let s = c .before .before .before .before .before .before .before .before .before in
     let a = s .args in
     c .loop .inv (numbersAt (a .text .now) (a .subtasks .count) (a .subtasks .at .at)) (a .p .node) (a .work .now)
-    (begins (a .text .now) (caseIn (a .text .now)) (a .level) (a .subtasks) (c .before .before .before .before .before .before .first-of .result) (a .p .node) (a .work .now) (c .before .before .before .walk-node .result) (c .before .before .before .walk-node .last .1 .1 .0) (s .pre .1 .1 .1) (c .before .before .before .before .before .before .first-of .ensures) (c .before .before .before .walk-node .ensures) (c .before .before .before .walk-node .kept .1 .1 .0))
+    (begins (a .text .now) (caseOf (a .text .now)) (a .level) (a .subtasks) (c .before .before .before .before .before .before .first-of .result) (a .p .node) (a .work .now) (c .before .before .before .walk-node .result) (c .before .before .before .walk-node .last .1 .1 .0) (s .pre .1 .1 .1) (c .before .before .before .before .before .before .first-of .ensures) (c .before .before .before .walk-node .ensures) (c .before .before .before .walk-node .kept .1 .1 .0))
 
 walk-subtasks-enum-known-walked : (t : ℕ) → walk-subtasks-lts.Need-enum-known-walked (walk-subtasks-calls t) (walk-subtasks-at t) walk-subtasks.Post walk-subtasks-Inv-loop walk-subtasks-μ-loop
 walk-subtasks-enum-known-walked t c = search needs
@@ -217,7 +218,7 @@ walk-subtasks-walk-node-requires-2 : (t : ℕ) → walk-subtasks-lts.Need-walk-n
 walk-subtasks-walk-node-requires-2 t c κs =
     let s = c .before .before .before .before .before .before .before .before .before .before .before .before .before .before .before .before in
     let a = s .args in
-    let m = moves (a .text .now) (caseIn (a .text .now)) (a .level) (walk-subtasks-begun t (c .before .before .before .before .before .before .before)) (a .g) (c .before .before .before .walked .given .0 .0) (c .before .before .before .walked .given .0 .1 .0) (s .pre .1 .0 .0) (c .before .before .before .walked .given .1) in
+    let m = moves (a .text .now) (caseOf (a .text .now)) (a .level) (walk-subtasks-begun t (c .before .before .before .before .before .before .before)) (a .g) (c .before .before .before .walked .given .0 .0) (c .before .before .before .walked .given .0 .1 .0) (s .pre .1 .0 .0) (c .before .before .before .walked .given .1) in
     (omega (arith, m .2, s .pre .0, s .pre .1 .1 .0), ((m .0, m .1), omega (arith, s .pre .1 .1 .0)))
 
 walk-subtasks-join-requires : (t : ℕ) → walk-subtasks-lts.Need-join-requires (walk-subtasks-calls t) (walk-subtasks-at t) walk-subtasks.Post walk-subtasks-Inv-loop walk-subtasks-μ-loop
@@ -230,7 +231,7 @@ walk-subtasks-loop-again : (t : ℕ) → walk-subtasks-lts.Need-loop-again (walk
 walk-subtasks-loop-again t c =
     let a = c .before .before .before .before .before .before .before .before .before .before .before .before .before .before .before .before .before .before .before .before .before .args in
     λ all n w b.
-    goes-on (a .text .now) (caseIn (a .text .now)) (a .level) (c .before .before .before .before .before .before .before .before .before .before .before .before .loop .inv all n w b) (c .before .before .before .before .before .before .first-of2 .result) (c .before .before .before .before .before .before .before .before .walked .given .0 .0) (c .before .before .before .before .before .before .before .before .walked .given .0 .1 .0) (c .before .before .before .before .walk-node2 .result) (c .before .join .result) (c .before .before .before .before .walk-node2 .last .1 .1 .0)
+    goes-on (a .text .now) (caseOf (a .text .now)) (a .level) (c .before .before .before .before .before .before .before .before .before .before .before .before .loop .inv all n w b) (c .before .before .before .before .before .before .first-of2 .result) (c .before .before .before .before .before .before .before .before .walked .given .0 .0) (c .before .before .before .before .before .before .before .before .walked .given .0 .1 .0) (c .before .before .before .before .walk-node2 .result) (c .before .join .result) (c .before .before .before .before .walk-node2 .last .1 .1 .0)
     (c .before .before .before .before .before .before .before .before .before .before .if1 .taken) (c .before .before .before .before .before .before .first-of2 .ensures) (c .before .before .before .before .before .before .before .before .walked .given .1) (c .before .before .before .before .walk-node2 .ensures) (c .before .before .before .before .walk-node2 .kept .1 .1 .0) (c .before .join .ensures)
 
 walk-subtasks-enum-known-walked-2 : (t : ℕ) → walk-subtasks-lts.Need-enum-known-walked-2 (walk-subtasks-calls t) (walk-subtasks-at t) walk-subtasks.Post walk-subtasks-Inv-loop walk-subtasks-μ-loop
@@ -242,7 +243,7 @@ walk-subtasks-same-length t c = walk-subtasks-begun t (c .before .before .before
 walk-subtasks-returns : (t : ℕ) → walk-subtasks-lts.Need-returns (walk-subtasks-calls t) (walk-subtasks-at t) walk-subtasks.Post walk-subtasks-Inv-loop walk-subtasks-μ-loop
 walk-subtasks-returns t c =
     let a = c .before .before .before .before .before .before .before .before .before .before .before .before .before .before .args in
-    stops (a .text .now) (caseIn (a .text .now)) (a .level) (walk-subtasks-begun t (c .before .before .before .before .before)) (c .before .walked2 .given .0 .0) (c .before .walked2 .given .1)
+    stops (a .text .now) (caseOf (a .text .now)) (a .level) (walk-subtasks-begun t (c .before .before .before .before .before)) (c .before .walked2 .given .0 .0) (c .before .walked2 .given .1)
 
 walk-subtasks-same-length-2 : (t : ℕ) → walk-subtasks-lts.Need-same-length-2 (walk-subtasks-calls t) (walk-subtasks-at t) walk-subtasks.Post walk-subtasks-Inv-loop walk-subtasks-μ-loop
 walk-subtasks-same-length-2 t c = walk-subtasks-begun t (c .before .before) .kept
@@ -250,7 +251,7 @@ walk-subtasks-same-length-2 t c = walk-subtasks-begun t (c .before .before) .kep
 walk-subtasks-returns-2 : (t : ℕ) → walk-subtasks-lts.Need-returns-2 (walk-subtasks-calls t) (walk-subtasks-at t) walk-subtasks.Post walk-subtasks-Inv-loop walk-subtasks-μ-loop
 walk-subtasks-returns-2 t c =
     let a = c .before .before .before .before .before .before .before .before .before .before .before .args in
-    ends (a .text .now) (caseIn (a .text .now)) (a .level) (walk-subtasks-begun t (c .before .before)) (c .if1 .left)
+    ends (a .text .now) (caseOf (a .text .now)) (a .level) (walk-subtasks-begun t (c .before .before)) (c .if1 .left)
 
 pub +walk-node+walk-subtasks-spec : {M : Type 1} → statement M
 +walk-node+walk-subtasks-spec =
