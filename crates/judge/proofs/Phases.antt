@@ -192,7 +192,7 @@ module _ (text : List ℕ) (o : Opened) (initial : ℕ) (work : List ℕ) (x : O
     pub stored-opens : Opens text o initial v
     stored-opens = open-kept v room (areas .0)
 
-    pub walk-ready : Ready text (caseOf text) (o .past) (o .header) (o .«plan_line») (o .nodes .at) v
+    pub walk-ready : Ready text (caseOf text) (o .header) (o .«plan_line») (o .nodes .at) v
     unfolding workNeed textMost
     walk-ready =
         record {
@@ -204,7 +204,6 @@ module _ (text : List ℕ) (o : Opened) (initial : ℕ) (work : List ℕ) (x : O
           initial = initial;
           plan = o .plan .at;
           finds = stored-opens .finds;
-          feeds = x .feeds;
           short = x .short;
           room = room;
           unmarked = areas .1 ∙ marks-none work (caseOf text .head .cues) (open-sound .head-good .few-cues) (x .workRoom) unused;

@@ -54,7 +54,7 @@ fn judge_constraints(text: &[u8], o: Opened, states: &mut [u64], work: &mut [u32
     let kept = constraints::first_broken(text, o.past, header, o.plan_line, nodes, states, work);
     match kept {
         Kept::All => {
-            records::write_records(text, o.past, header, nodes, work);
+            records::write_records(text, header, nodes, work);
             Answer::Accepted {
                 cues: header.cues,
                 nodes: header.nodes,
@@ -96,7 +96,7 @@ fn judge_nodes(text: &[u8], o: Opened, states: &mut [u64], work: &mut [u32]) -> 
     let plan = o.plan;
     let nodes = o.nodes;
     tree::store_plan(text, plan, header.cues, work);
-    match tree::walk_tree(text, o.past, header, o.plan_line, nodes, work) {
+    match tree::walk_tree(text, header, o.plan_line, nodes, work) {
         TreeWalk::Right => judge_claims(text, o, states, work),
         TreeWalk::Refused { answer } => refuse(states, work, answer),
     }

@@ -1,10 +1,8 @@
 // The node records as plain numbers: the last step over the lent work space, before they are copied into the node list.
 ghost use mathlib.Core.Path.{_≡_};
 ghost use mathlib.Core.List.{_++_};
-ghost use Prim.Native.Nat.{ℕ, _-_, _*_, _≤_, _<_};
-ghost use lib.Dec.{ltb};
+ghost use Prim.Native.Nat.{_-_, _*_, _≤_, _<_};
 ghost use lib.ListN.{length, take, replicate};
-ghost use Rattle.rules.specs.Text.{feedFollows};
 ghost use Rattle.records.specs.Records.{letterCode, putRecord, putRecords};
 ghost use Rattle.records.specs.Reading.{NodesRead, headFrom, headsFrom};
 use reading::read_again;
@@ -55,8 +53,7 @@ fn put_records(text: &[u8], header: Header, nodes: Cursor, work: &mut [u32])
 }
 
 // The records of all nodes, and zero after them to the end of the work space.
-pub fn write_records(text: &[u8], past: usize, header: Header, nodes: Cursor, work: &mut [u32])
-    requires { ⌜ ((p : ℕ) → feedFollows (now text) p ≡ ltb p past) ⌝ }
+pub fn write_records(text: &[u8], header: Header, nodes: Cursor, work: &mut [u32])
     requires { ⌜ (header .nodes ≤ 3000) × (16384 ≤ length (now work)) ⌝ }
     requires { ⌜ NodesRead (now text) header (nodes .at) ⌝ }
     ensures { λ _. ⌜ now (work .exit) ≡ take (5 * header .nodes) (putRecords (now (work .entry)) 0 (headsFrom (now (text .entry)) header (nodes .at))) ++ replicate (length (now (work .entry)) - 5 * header .nodes) 0 ⌝ }

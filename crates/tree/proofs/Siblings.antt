@@ -198,7 +198,6 @@ module _ (text : List ℕ) (k : Case) (n : ℕ) (w : List ℕ) (next : Place) (s
           line = st .line;
           place = st .place;
           reads = st .reads;
-          feeds = st .feeds;
           head = st .head;
           planned = st .planned;
           low = st .low;

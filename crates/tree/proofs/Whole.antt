@@ -30,9 +30,9 @@ use Rattle.tree.proofs.Within.{plan-line-low}
 
 -- ---- What the root's walk stands on
 
-module _ (text : List ℕ) (k : Case) (past : ℕ) (header : Header) (planLine : ℕ) (nodes : Cursor) (w : List ℕ) (rd : Ready text k past header planLine (nodes .at) w) where
+module _ (text : List ℕ) (k : Case) (header : Header) (planLine : ℕ) (nodes : Cursor) (w : List ℕ) (rd : Ready text k header planLine (nodes .at) w) where
   abbrev given : Given
-  given = record { past = past; header = header; line = planLine }
+  given = record { header = header; line = planLine }
 
   root-sound : Sound k
   root-sound = sound text k (rd .line) (rd .place) (rd .reads)
@@ -50,7 +50,6 @@ module _ (text : List ℕ) (k : Case) (past : ℕ) (header : Header) (planLine :
     line = rd .line;
     place = rd .place;
     reads = rd .reads;
-    feeds = rd .feeds;
     head = rd .head;
     planned = rd .planned;
     low = let a = plan-line-low text k (rd .line) (rd .place) (rd .reads) in let b = rd .short in omega arith;

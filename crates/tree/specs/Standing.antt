@@ -4,12 +4,10 @@ use mathlib.Core.Path.{_≡_}
 use mathlib.Core.Bool.{true, false}
 use mathlib.Core.List.{List, [], _∷_}
 use Prim.Native.Nat.{ℕ, _+_, _-_, _*_, _≤_, _<_}
-use lib.Dec.{ltb}
 use lib.ListN.{length, getD, drop}
 use lib.Seq.{sets}
 use Rattle.rules.specs.declared.Answer.{Answer}
 use Rattle.rules.specs.declared.Answer.the-variants.{WrongClaim}
-use Rattle.rules.specs.Text.{feedFollows}
 use Rattle.rules.specs.Index as Ix
 use Rattle.rules.specs.Index.{at, hull}
 use Rattle.rules.specs.Case.{NodeLine, Case, Read, read, methodAt, oneMethod, readCase}
@@ -42,7 +40,6 @@ pub record Steady (text : List ℕ) (k : Case) (g : Given) (w : List ℕ) : Type
   pub line : ℕ
   pub place : ℕ
   pub reads : readCase text ≡ read k line place
-  pub feeds : (p : ℕ) → feedFollows text p ≡ ltb p (g .past)
   pub head : g .header ≡ k .head
   pub planned : g .line ≡ k .planLine
   pub low : k .planLine ≤ 65535

@@ -2,10 +2,8 @@
 use mathlib.Core.Path.{_≡_}
 use mathlib.Core.List.{List, []}
 use Prim.Native.Nat.{ℕ, _+_, _*_, _≤_, _<_}
-use lib.Dec.{ltb}
 use lib.ListN.{length, take}
 use Rattle.rules.specs.declared.Header.{Header}
-use Rattle.rules.specs.Text.{feedFollows}
 use Rattle.rules.specs.Case.{Case, Read, read, readCase}
 use Rattle.rules.specs.Tree.{Tree, Walk}
 use Rattle.reading.specs.Directory.{Finds}
@@ -14,7 +12,7 @@ use Rattle.tree.specs.declared.walk.TreeWalk.the-variants.{Right, Refuse
 use Rattle.tree.specs.Layout.{size, rows, marksOf, directoryOf, marksIn, planIn, rowsIn}
 
 -- The text reads as the case, and the work space holds its directory and its plan, with no position marked.
-pub record Ready (text : List ℕ) (k : Case) (past : ℕ) (header : Header) (planLine nodes : ℕ) (work : List ℕ) : Type 0 where
+pub record Ready (text : List ℕ) (k : Case) (header : Header) (planLine nodes : ℕ) (work : List ℕ) : Type 0 where
   pub line : ℕ
   pub place : ℕ
   pub reads : readCase text ≡ read k line place
@@ -23,7 +21,6 @@ pub record Ready (text : List ℕ) (k : Case) (past : ℕ) (header : Header) (pl
   pub initial : ℕ
   pub plan : ℕ
   pub finds : Finds text k work initial plan nodes
-  pub feeds : (p : ℕ) → feedFollows text p ≡ ltb p past
   pub short : length text ≤ 65535
   pub room : 16384 ≤ length work
   pub unmarked : marksIn (k .head .cues) work ≡ marksOf (k .head .cues) []

@@ -14,9 +14,8 @@ use rules::Answer;
 use rules::Header;
 use text::Cursor;
 
-// What a walk goes by: the place past the text's last line feed, the header's numbers, and the number of the P line.
+// What a walk goes by: the header's numbers, and the number of the P line.
 pub struct Given {
-    pub past: usize,
     pub header: Header,
     pub line: u32,
 }

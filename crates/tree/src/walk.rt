@@ -106,17 +106,15 @@ pub enum TreeWalk {
 // The root is at level 1; a surplus node is refused at the first line after the tree.
 pub fn walk_tree(
     text: &[u8],
-    past: usize,
     header: Header,
     plan_line: u32,
     nodes: Cursor,
     work: &mut [u32],
 ) -> TreeWalk
-    requires { ⌜ Ready (now text) (caseOf (now text)) past header «plan_line» (nodes .at) (now work) ⌝ }
+    requires { ⌜ Ready (now text) (caseOf (now text)) header «plan_line» (nodes .at) (now work) ⌝ }
     ensures { λ r. ⌜ TreeTold (caseOf (now (text .entry))) (now (work .entry)) (walkTree (caseOf (now (text .entry))) (mayClaim (caseOf (now (text .entry)) .plan))) r (now (work .exit)) ⌝ }
 {
     let g = Given {
-        past,
         header,
         line: plan_line,
     };

@@ -23,11 +23,8 @@ write-records-requires c κs = let a = c .before .before .before .before .before
     let b = c .before .before .before .before .before .first-broken in
     let p = c .before .before .before .before .before .before .before .before .before .before .before .before .before .pre in
     let v = b .last .1 .1 .1 .1 .1 .1 .0 in (
-      p .walked .opens .feeds,
-      (
-        records-ask (a .text .now) (a .o) (a .states .now) (a .work .now) p (b .result) (b .ensures .0) v (b .ensures .1),
-        nodes-ask (a .text .now) (a .o) (a .states .now) (a .work .now) p (b .result) (b .ensures .0) v (b .ensures .1),
-      ),
+      records-ask (a .text .now) (a .o) (a .states .now) (a .work .now) p (b .result) (b .ensures .0) v (b .ensures .1),
+      nodes-ask (a .text .now) (a .o) (a .states .now) (a .work .now) p (b .result) (b .ensures .0) v (b .ensures .1),
     )
 
 enum-known-kept : tie.Need-enum-known-kept
@@ -47,7 +44,7 @@ returns c = let a = c .before .before .before .before .before .before .before .b
     let b = c .before .before .before .before .before .before .before .before .first-broken in
     let p = c .before .before .before .before .before .before .before .before .before .before .before .before .before .before .before .before .pre in
     let v = b .last .1 .1 .1 .1 .1 .1 .0 in
-    let r = records-done (a .text .now) (a .o) (a .states .now) (a .work .now) p (b .result) (b .ensures .0) v (b .ensures .1) (c .before .before .before .before .enum-told .given .1) (c .before .before .write-records .last .1 .1 .1 .1 .0) (c .before .before .write-records .ensures) in
+    let r = records-done (a .text .now) (a .o) (a .states .now) (a .work .now) p (b .result) (b .ensures .0) v (b .ensures .1) (c .before .before .before .before .enum-told .given .1) (c .before .before .write-records .last .1 .1 .1 .0) (c .before .before .write-records .ensures) in
     (r .0, (r .1, r .2))
 
 same-length-3 : tie.Need-same-length-3

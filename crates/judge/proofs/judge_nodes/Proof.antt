@@ -30,7 +30,7 @@ judge-claims-requires c κs = let a = c .before .before .before .before .before 
     let p = c .before .before .before .before .before .before .before .before .before .before .before .before .before .before .before .before .before .before .pre in
     let b = c .before .before .before .before .before .before .walk-tree in
     walk-finds (a .text .now) (a .o) (p .initial) (a .work .now) (p .opens) (c .before .before .before .before .before .before .before .before .before .before .store-plan .last .1 .1 .1 .0) (c .before .before .before .before .before .before .before .before .before .before .store-plan .ensures) (p .unused)
-    (b .result) (b .last .1 .1 .1 .1 .1 .0) (b .ensures) (a .states .now) (c .before .before .enum-told .given .1) (b .kept .1 .1 .1 .1 .1 .0) (p .run)
+    (b .result) (b .last .1 .1 .1 .1 .0) (b .ensures) (a .states .now) (c .before .before .enum-told .given .1) (b .kept .1 .1 .1 .1 .0) (p .run)
 
 enum-known-answer : tie.Need-enum-known-answer
 enum-known-answer c = search needs
@@ -47,7 +47,7 @@ same-length-2 c = search needs
 returns : tie.Need-returns
 returns c = let a = c .before .before .before .before .before .before .before .before .before .before .before .before .before .before .before .before .before .before .before .before .before .before .before .args in
     let z = c .before .before .before .before .judge-claims in
-    let kept : length (c .before .before .before .before .before .before .before .before .before .before .before .walk-tree .last .1 .1 .1 .1 .1 .0) ≡ length (a .work .now) = c .before .before .before .before .before .before .before .before .before .before .before .walk-tree .kept .1 .1 .1 .1 .1 .0 ∙ c .before .before .before .before .before .before .before .before .before .before .before .before .before .before .before .store-plan .kept .1 .1 .1 .0 in
+    let kept : length (c .before .before .before .before .before .before .before .before .before .before .before .walk-tree .last .1 .1 .1 .1 .0) ≡ length (a .work .now) = c .before .before .before .before .before .before .before .before .before .before .before .walk-tree .kept .1 .1 .1 .1 .0 ∙ c .before .before .before .before .before .before .before .before .before .before .before .before .before .before .before .store-plan .kept .1 .1 .1 .0 in
     (z .ensures .0, (z .ensures .1 .0, z .ensures .1 .1 ∙ ap (λ (n : ℕ). recordsAfter n (judgeTree (caseOf (a .text .now)))) kept))
 
 same-length-3 : tie.Need-same-length-3
@@ -63,9 +63,9 @@ returns-2 c = let a = c .before .before .before .before .before .before .before 
     let x = c .before .before .before .before .before .before .before .before .answer .given in
     let z = c .before .before .before .before .refuse in
     let k = caseOf (a .text .now) in
-    let kept : length (b .last .1 .1 .1 .1 .1 .0) ≡ length (a .work .now) = b .kept .1 .1 .1 .1 .1 .0 ∙ c .before .before .before .before .before .before .before .before .before .before .before .before .before .before .before .before .store-plan .kept .1 .1 .1 .0 in
+    let kept : length (b .last .1 .1 .1 .1 .0) ≡ length (a .work .now) = b .kept .1 .1 .1 .1 .0 ∙ c .before .before .before .before .before .before .before .before .before .before .before .before .before .before .before .before .store-plan .kept .1 .1 .1 .0 in
     let refuses = walk-refuses (a .text .now) (a .o) (p .initial) (a .work .now) (p .opens) (c .before .before .before .before .before .before .before .before .before .before .before .before .before .before .before .before .store-plan .last .1 .1 .1 .0) (c .before .before .before .before .before .before .before .before .before .before .before .before .before .before .before .before .store-plan .ensures) (p .unused)
-    (b .result) (b .last .1 .1 .1 .1 .1 .0) (b .ensures) (x .0 .0) (x .1) in
+    (b .result) (b .last .1 .1 .1 .1 .0) (b .ensures) (x .0 .0) (x .1) in
     let q = tree-refused k (x .0 .0) refuses in
     let r = refused-all (length (a .states .now)) (length (a .work .now)) (judgeTree k) (x .0 .0) q in
     (z .ensures .0 ∙ r .0, (z .ensures .1 .0 ∙ r .1, z .ensures .1 .1 ∙ ap (λ (n : ℕ). replicate n 0) kept ∙ r .2))

@@ -41,7 +41,7 @@ returns c =
     let w = c .before .before .before .before .before .before .before .put-records .last .1 .1 .1 .0 in
     let size : length w ≡ length (c .before .before .before .before .before .before .before .before .before .before .before .args .work .now) = c .before .before .before .before .before .before .before .put-records .kept .1 .1 .1 .0 in
     part-cleared (5 * h .nodes) (length (c .before .before .before .before .before .before .before .before .before .before .before .args .work .now)) w _ (c .before .before .clear-work .last .0) (c .before .before .before .before .before .before .before .put-records .ensures) size
-    (let p = c .before .before .before .before .before .before .before .before .before .before .before .pre .1 .0 in omega arith)
+    (let p = c .before .before .before .before .before .before .before .before .before .before .before .pre .0 in omega arith)
     (c .before .before .clear-work .ensures ∙ ap (λ (m : ℕ). replicate m 0) (length-part w (5 * h .nodes)))
 
 pub write-records-spec : {M : Type 1} → statement M

@@ -12,8 +12,8 @@ walk-node-requires c κs = let s = c .before .before .before in
     let a = s .args in
     let k = caseOf (a .text .now) in (
       (
-        root-steady (a .text .now) k (a .past) (a .header) (a .plan-line) (a .nodes) (a .work .now) (s .pre),
-        root-follows (a .text .now) k (a .past) (a .header) (a .plan-line) (a .nodes) (a .work .now) (s .pre),
+        root-steady (a .text .now) k (a .header) (a .plan-line) (a .nodes) (a .work .now) (s .pre),
+        root-follows (a .text .now) k (a .header) (a .plan-line) (a .nodes) (a .work .now) (s .pre),
       ),
       omega arith,
     )
@@ -24,7 +24,7 @@ enum-known-walked c = search needs
 line-at-requires : tie.Need-line-at-requires
 line-at-requires c κs = let s = c .before .before .before .before .before .before .before .before .before .before .before .before in
     let a = s .args in
-    root-line (a .text .now) (caseOf (a .text .now)) (a .past) (a .header) (a .plan-line) (a .nodes) (a .work .now) (s .pre) (c .before .before .before .before .walked .given .0 .0 .node) (c .if1 .taken)
+    root-line (a .text .now) (caseOf (a .text .now)) (a .header) (a .plan-line) (a .nodes) (a .work .now) (s .pre) (c .before .before .before .before .walked .given .0 .0 .node) (c .if1 .taken)
 
 enum-known-walked-2 : tie.Need-enum-known-walked-2
 enum-known-walked-2 c = search needs
@@ -35,7 +35,7 @@ same-length c = search needs
 returns : tie.Need-returns
 returns c = let s = c .before .before .before .before .before .before .before .before .before .before .before .before .before in
     let a = s .args in
-    over (a .text .now) (caseOf (a .text .now)) (a .past) (a .header) (a .plan-line) (a .nodes) (a .work .now) (s .pre) (c .before .before .before .before .before .before .before .before .before .walk-node .result) (c .before .before .before .before .before .before .before .before .before .walk-node .last .1 .1 .0) (c .before .before .before .before .before .before .before .before .before .walk-node .ensures)
+    over (a .text .now) (caseOf (a .text .now)) (a .header) (a .plan-line) (a .nodes) (a .work .now) (s .pre) (c .before .before .before .before .before .before .before .before .before .walk-node .result) (c .before .before .before .before .before .before .before .before .before .walk-node .last .1 .1 .0) (c .before .before .before .before .before .before .before .before .before .walk-node .ensures)
     (c .before .before .before .before .before .walked .given .0 .0) (c .before .before .before .before .before .walked .given .0 .1 .0) (c .line-at .result) (c .before .before .before .before .before .walked .given .1) (c .before .if1 .taken) (c .line-at .ensures)
 
 same-length-2 : tie.Need-same-length-2
@@ -44,7 +44,7 @@ same-length-2 c = search needs
 returns-2 : tie.Need-returns-2
 returns-2 c = let s = c .before .before .before .before .before .before .before .before .before .before .before .before in
     let a = s .args in
-    right (a .text .now) (caseOf (a .text .now)) (a .past) (a .header) (a .plan-line) (a .nodes) (a .work .now) (s .pre) (c .before .before .before .before .before .before .before .before .walk-node .result) (c .before .before .before .before .before .before .before .before .walk-node .last .1 .1 .0) (c .before .before .before .before .before .before .before .before .walk-node .ensures)
+    right (a .text .now) (caseOf (a .text .now)) (a .header) (a .plan-line) (a .nodes) (a .work .now) (s .pre) (c .before .before .before .before .before .before .before .before .walk-node .result) (c .before .before .before .before .before .before .before .before .walk-node .last .1 .1 .0) (c .before .before .before .before .before .before .before .before .walk-node .ensures)
     (c .before .before .before .before .walked .given .0 .0) (c .before .before .before .before .walked .given .0 .1 .0) (c .before .before .before .before .walked .given .1) (c .if1 .left)
 
 same-length-3 : tie.Need-same-length-3
@@ -53,7 +53,7 @@ same-length-3 c = search needs
 returns-3 : tie.Need-returns-3
 returns-3 c = let s = c .before .before .before .before .before .before .before .before .before in
     let a = s .args in
-    refuses (a .text .now) (caseOf (a .text .now)) (a .past) (a .header) (a .plan-line) (a .nodes) (a .work .now) (s .pre) (c .before .before .before .before .before .walk-node .result) (c .before .before .before .before .before .walk-node .last .1 .1 .0) (c .before .before .before .before .before .walk-node .ensures)
+    refuses (a .text .now) (caseOf (a .text .now)) (a .header) (a .plan-line) (a .nodes) (a .work .now) (s .pre) (c .before .before .before .before .before .walk-node .result) (c .before .before .before .before .before .walk-node .last .1 .1 .0) (c .before .before .before .before .before .walk-node .ensures)
     (c .before .walked2 .given .0 .0) (c .before .walked2 .given .1)
 
 pub walk-tree-spec : {M : Type 1} → statement M
