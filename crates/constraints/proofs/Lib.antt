@@ -8,4 +8,3 @@ pub mod Finding
 pub mod Nodes
 pub mod Steps
 pub mod Numbers
-pub mod Whole

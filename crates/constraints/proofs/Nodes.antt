@@ -73,8 +73,8 @@ module _ (before after : List ℕ) (l : Leaves before after) where
 
 -- ---- the whole tree
 
-module _ {k : Case} {t : Tree} {text : List ℕ} {past : ℕ} {header : Header} {planLine nodes : ℕ} {states work : List ℕ}
-    (r : Ready k t text past header planLine nodes states work) where
+module _ {k : Case} {t : Tree} {text : List ℕ} {planLine nodes : ℕ} {states work : List ℕ}
+    (r : Ready k t text planLine nodes states work) where
   pub is-sound : Sound k
   is-sound = sound text k (r .reads .0) (r .reads .1) (r .reads .2)
 
@@ -85,15 +85,13 @@ module _ {k : Case} {t : Tree} {text : List ℕ} {past : ℕ} {header : Header} 
   size-is =
       sym (preorder-length t) ∙ sym (length-map (preorder t) rootLine) ∙ ap length (tree-is .preordered) ∙ is-sound .nodes-length
 
-  pub ready-leaves : (after : List ℕ) → Leaves work after → Ready k t text past header planLine nodes states after
+  pub ready-leaves : (after : List ℕ) → Leaves work after → Ready k t text planLine nodes states after
   ready-leaves after l = record {
     reads = r .reads;
-    heads = r .heads;
     plans = r .plans;
     initial = r .initial;
     plan = r .plan;
     finds = finds-leaves work after l text k (r .initial) (r .plan) nodes (is-sound .head-good) (r .finds);
-    feeds = r .feeds;
     room = subst (λ (n : ℕ). workNeed ≤ n) (sym (l .same-size)) (r .room);
     walks = r .walks;
     rowsHeld = ap (take (3 * size t)) (l .rows) ∙ r .rowsHeld;
@@ -180,8 +178,8 @@ method-good k m s h = each-at (GoodMethod (k .head)) (k .methods) m noMethod (s 
 
 -- ---- once its subtasks' nodes are stored
 
-module _ {k : Case} {t : Tree} {text : List ℕ} {past : ℕ} {header : Header} {planLine nodes : ℕ} {states work : List ℕ}
-    (r : Ready k t text past header planLine nodes states work) (n : ℕ) (h : n < size t) (m : ℕ) (w : MethodNode k m (nodeOfTree t n)) where
+module _ {k : Case} {t : Tree} {text : List ℕ} {planLine nodes : ℕ} {states work : List ℕ}
+    (r : Ready k t text planLine nodes states work) (n : ℕ) (h : n < size t) (m : ℕ) (w : MethodNode k m (nodeOfTree t n)) where
   abbrev x : Tree
   x = nodeOfTree t n
 

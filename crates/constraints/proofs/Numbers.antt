@@ -118,8 +118,8 @@ plan-early text k n place e =
     (line-says text noHeader T.header 0 1 0) (λ x m p q. body-says text (headerOf (x .1)) m p q))
 
 -- A node's line fits.
-pub line-fits : {k : Case} {t : Tree} {text : List ℕ} {past : ℕ} {header : Header} {planLine nodes : ℕ} {states start work : List ℕ} {place n : ℕ}
-    → Going k t text past header planLine nodes states start work place n → n < header .nodes → planLine + 1 + n < 1000000
+pub line-fits : {k : Case} {t : Tree} {text : List ℕ} {header : Header} {planLine nodes : ℕ} {states start work : List ℕ} {place n : ℕ}
+    → Going k t text header planLine nodes states start work place n → n < header .nodes → planLine + 1 + n < 1000000
 line-fits {k = k} {text = text} g h =
     let r = g .ready in
     let s = is-sound r .head-good in

@@ -44,8 +44,8 @@ use Rattle.constraints.proofs.Nodes.{is-sound, tree-is, size-is, ready-
 
 -- ---- one method
 
-module _ {k : Case} {t : Tree} {text : List ℕ} {past : ℕ} {header : Header} {planLine nodes : ℕ} {states work : List ℕ}
-    (r : Ready k t text past header planLine nodes states work) {label : ℕ} (b : label < k .head .methods) where
+module _ {k : Case} {t : Tree} {text : List ℕ} {planLine nodes : ℕ} {states work : List ℕ}
+    (r : Ready k t text planLine nodes states work) {label : ℕ} (b : label < k .head .methods) where
   pub method-inside : 1024 + label < length work
   unfolding workNeed
   method-inside =
@@ -73,8 +73,8 @@ pub still-loaded : {k : Case} {work : List ℕ} {label : ℕ} {x : Loaded} → l
 still-loaded {k} b f e = f (subst (λ (i : ℕ). i < k .head .methods) e b)
 
 -- A number past the methods' loads none.
-pub none-loaded : {k : Case} {t : Tree} {text : List ℕ} {past : ℕ} {header : Header} {planLine nodes : ℕ} {states work : List ℕ} {x : Loaded}
-    → Ready k t text past header planLine nodes states work → x .method ≡ 4294967295 → IfLoaded k work x
+pub none-loaded : {k : Case} {t : Tree} {text : List ℕ} {planLine nodes : ℕ} {states work : List ℕ} {x : Loaded}
+    → Ready k t text planLine nodes states work → x .method ≡ 4294967295 → IfLoaded k work x
 none-loaded r e b = let f = is-sound r .head-good .few-methods in absurd (omega arith)
 
 -- ---- one node
@@ -90,26 +90,26 @@ pub leaf-kept : (k : Case) (t : Tree) (line n letter label : ℕ) → Labels let
 leaf-kept k t line n letter label l e = none-of k t line n (no-constraints k letter label (nodeOfTree t n) l e)
 
 -- Node n, whose line names a method, among what the phases before left.
-pub record Standing (k : Case) (t : Tree) (text : List ℕ) (past : ℕ) (header : Header) (planLine nodes : ℕ) (states work : List ℕ) (n label : ℕ) : Type 0 where
-  pub ready : Ready k t text past header planLine nodes states work
+pub record Standing (k : Case) (t : Tree) (text : List ℕ) (planLine nodes : ℕ) (states work : List ℕ) (n label : ℕ) : Type 0 where
+  pub ready : Ready k t text planLine nodes states work
   pub below : n < size t
   pub node : MethodNode k label (nodeOfTree t n)
 
-abbrev pub standing : {k : Case} {t : Tree} {text : List ℕ} {past : ℕ} {header : Header} {planLine nodes : ℕ} {states work : List ℕ}
-    (r : Ready k t text past header planLine nodes states work) (n letter label : ℕ) → n < size t → Labels letter label (rootLine (nodeOfTree t n))
-    → namesMethod letter ≡ true → Standing k t text past header planLine nodes states work n label
+abbrev pub standing : {k : Case} {t : Tree} {text : List ℕ} {planLine nodes : ℕ} {states work : List ℕ}
+    (r : Ready k t text planLine nodes states work) (n letter label : ℕ) → n < size t → Labels letter label (rootLine (nodeOfTree t n))
+    → namesMethod letter ≡ true → Standing k t text planLine nodes states work n label
 standing {k} {t} r n letter label h labels names =
     record { ready = r; below = h; node = method-node k letter label (nodeOfTree t n) (node-proper r n h) labels names }
 
 -- Stores between the directory and the rows leave it so.
-pub standing-leaves : {k : Case} {t : Tree} {text : List ℕ} {past : ℕ} {header : Header} {planLine nodes : ℕ} {states work : List ℕ} {n label : ℕ}
-    → Standing k t text past header planLine nodes states work n label → (new : List ℕ) → Leaves work new
-    → Standing k t text past header planLine nodes states new n label
+pub standing-leaves : {k : Case} {t : Tree} {text : List ℕ} {planLine nodes : ℕ} {states work : List ℕ} {n label : ℕ}
+    → Standing k t text planLine nodes states work n label → (new : List ℕ) → Leaves work new
+    → Standing k t text planLine nodes states new n label
 standing-leaves w new l = record { ready = ready-leaves (w .ready) new l; below = w .below; node = w .node }
 
-module _ {k : Case} {t : Tree} {text : List ℕ} {past : ℕ} {header : Header} {planLine nodes : ℕ} {states work : List ℕ} {n label : ℕ}
-    (w : Standing k t text past header planLine nodes states work n label) where
-  abbrev r : Ready k t text past header planLine nodes states work
+module _ {k : Case} {t : Tree} {text : List ℕ} {planLine nodes : ℕ} {states work : List ℕ} {n label : ℕ}
+    (w : Standing k t text planLine nodes states work n label) where
+  abbrev r : Ready k t text planLine nodes states work
   r = w .ready
 
   abbrev h : n < size t
@@ -226,8 +226,9 @@ module _ {k : Case} {t : Tree} {text : List ℕ} {past : ℕ} {header : Header} 
 unfoldable pub broken-from : Case → Tree → ℕ → Option Answer
 broken-from k t n = firstBroken k (holdsIn (statesOf k)) (k .planLine + 1 + n) (drop n (preorder t))
 
-pub record Going (k : Case) (t : Tree) (text : List ℕ) (past : ℕ) (header : Header) (planLine nodes : ℕ) (states start work : List ℕ) (place n : ℕ) : Type 0 where
-  pub ready : Ready k t text past header planLine nodes states work
+pub record Going (k : Case) (t : Tree) (text : List ℕ) (header : Header) (planLine nodes : ℕ) (states start work : List ℕ) (place n : ℕ) : Type 0 where
+  pub heads : header ≡ k .head
+  pub ready : Ready k t text planLine nodes states work
   pub leaves : Leaves start work
   pub most : n ≤ size t
   pub lines : NodesFrom text k n place
@@ -241,13 +242,14 @@ orElse-some : (o later : Option Answer) (a : Answer) → Broken a ≡ keptAs o �
 orElse-some none later a e = let z : _≡_ {A = ℕ} 0 1 = cc in absurd (omega arith)
 orElse-some (some b) later a e = let same : b ≡ a = cc in ap some same
 
-module _ {k : Case} {t : Tree} {text : List ℕ} {past : ℕ} {header : Header} {planLine nodes : ℕ} {states start : List ℕ} where
-  pub going-starts : Ready k t text past header planLine nodes states start → Going k t text past header planLine nodes states start start nodes 0
+module _ {k : Case} {t : Tree} {text : List ℕ} {header : Header} {planLine nodes : ℕ} {states start : List ℕ} where
+  pub going-starts : header ≡ k .head → Ready k t text planLine nodes states start → Going k t text header planLine nodes states start start nodes 0
   unfolding brokenOfTree broken-from
-  going-starts r =
+  going-starts e r =
       let all : k .head .nodes ≡ k .head .nodes - 0 = omega arith in
       let first : k .planLine + 1 ≡ k .planLine + 1 + 0 = omega arith in
       record {
+        heads = e;
         ready = r;
         leaves = leaves-all start;
         most = omega arith;
@@ -262,9 +264,9 @@ module _ {k : Case} {t : Tree} {text : List ℕ} {past : ℕ} {header : Header} 
         same = ap (λ (l : ℕ). firstBroken k (holdsIn (statesOf k)) l (preorder t)) first;
       }
 
-  module _ {work : List ℕ} {place n : ℕ} (g : Going k t text past header planLine nodes states start work place n) where
+  module _ {work : List ℕ} {place n : ℕ} (g : Going k t text header planLine nodes states start work place n) where
     pub all-nodes : size t ≡ header .nodes
-    all-nodes = size-is (g .ready) ∙ ap (λ (x : Header). x .nodes) (sym (g .ready .heads))
+    all-nodes = size-is (g .ready) ∙ ap (λ (x : Header). x .nodes) (sym (g .heads))
 
     module _ (more : n < header .nodes) where
       pub below : n < size t
@@ -300,11 +302,12 @@ module _ {k : Case} {t : Tree} {text : List ℕ} {past : ℕ} {header : Header} 
           ∙ orElse-some (brokenOfNode k t (k .planLine + 1 + n) n) (broken-from k t (n + 1)) answer (b ∙ ap (λ (l : ℕ). keptAs (brokenOfNode k t l n)) at)))
 
       pub going-on : (line : ℕ) (new : List ℕ) (next : ℕ) → line ≡ planLine + 1 + n → All ≡ keptAs (brokenOfNode k t line n) → Leaves work new
-          → NodesFrom text k (n + 1) next → Going k t text past header planLine nodes states start new next (n + 1)
+          → NodesFrom text k (n + 1) next → Going k t text header planLine nodes states start new next (n + 1)
       going-on line new next e b l f =
           let at : line ≡ k .planLine + 1 + n = e ∙ ap (λ (p : ℕ). p + 1 + n) (g .ready .plans) in
           let h = below in
           record {
+            heads = g .heads;
             ready = ready-leaves (g .ready) new l;
             leaves = leaves-then (g .leaves) l;
             most = omega arith;

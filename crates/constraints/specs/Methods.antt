@@ -10,7 +10,7 @@ use Rattle.rules.specs.Case.{Constraint, constraintOf}
 use Rattle.reading.specs.declared.again.MethodAgain.{MethodAgain}
 use Rattle.constraints.specs.declared.method.Kept.{Kept}
 use Rattle.constraints.specs.declared.method.Kept.the-variants.{All, Broken}
-use Rattle.constraints.specs.Ready.{caseIn}
+use Rattle.reading.specs.TheCase.{caseOf}
 
 -- The first broken constraint, if there is one.
 abbrev pub keptAs : Option Answer → Kept
@@ -39,4 +39,4 @@ TestsRead text h s (suc count) place = thenRead (readLine text T.constraint h s 
 
 -- The constraints that follow the line of a method of the text's case.
 abbrev pub testsOf : List ℕ → MethodAgain → List Constraint
-testsOf text m = testsAt text (caseIn text .head) (m .subtasks) (m .constraints) (m .next .at)
+testsOf text m = testsAt text (caseOf text .head) (m .subtasks) (m .constraints) (m .next .at)

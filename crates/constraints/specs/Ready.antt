@@ -17,22 +17,17 @@ use Rattle.reading.specs.Directory.{Finds}
 use Rattle.reading.specs.TheCase.{caseOf}
 use Rattle.tree.specs.Layout.{size, rows, directoryOf, rowsIn, treeOf}
 
--- The case that a text reads as, and its claimed tree. They are asked of texts that read and of trees that are walked.
-unfoldable pub caseIn : List ℕ → Case
-caseIn text = caseOf text
-
+-- The claimed tree of the case that a text reads as. It is asked of texts that read and of trees that are walked.
 unfoldable pub treeIn : List ℕ → Tree
-treeIn text = treeOf (walkTree (caseIn text) (mayClaim (caseIn text .plan)))
+treeIn text = treeOf (walkTree (caseOf text) (mayClaim (caseOf text .plan)))
 
--- Text and header of a case, its directory of lines, its states and the rows of its tree, where they were left.
-pub record Ready (k : Case) (t : Tree) (text : List ℕ) (past : ℕ) (header : Header) (planLine nodes : ℕ) (states work : List ℕ) : Type 0 where
+-- The text of a case, its directory of lines, its states and the rows of its tree, where they were left.
+pub record Ready (k : Case) (t : Tree) (text : List ℕ) (planLine nodes : ℕ) (states work : List ℕ) : Type 0 where
   pub reads : (line place : ℕ) × (readCase text ≡ read k line place)
-  pub heads : header ≡ k .head
   pub plans : planLine ≡ k .planLine
   pub initial : ℕ
   pub plan : ℕ
   pub finds : Finds text k work initial plan nodes
-  pub feeds : (p : ℕ) → feedFollows text p ≡ ltb p past
   pub room : workNeed ≤ length work
   pub walks : (line : ℕ) × (left : List NodeLine) × (claimed : List ℕ) × (walkTree k (mayClaim (k .plan)) ≡ Walk.walked t line left claimed)
   pub rowsHeld : take (3 * size t) (rowsIn work) ≡ rows t 0

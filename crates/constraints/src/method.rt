@@ -11,7 +11,8 @@ ghost use Rattle.index.specs.Spans.{spanOf};
 ghost use Rattle.parts.specs.States.{inRow};
 ghost use Rattle.parts.specs.Spans.{spansIn};
 ghost use Rattle.parts.specs.Tests.{Tested, numbered};
-ghost use Rattle.constraints.specs.Ready.{caseIn, Leaves};
+ghost use Rattle.reading.specs.TheCase.{caseOf};
+ghost use Rattle.constraints.specs.Ready.{Leaves};
 ghost use Rattle.constraints.specs.Loaded.{testsFrom, testsPast, testsIn, Letters};
 ghost use Rattle.constraints.specs.Methods.{keptAs, TestsRead, testsOf};
 use index::Span;
@@ -80,7 +81,7 @@ fn put_test(work: &mut [u32], number: u32, letter: u8, first: u32, second: u32, 
 // A method's constraint lines, each read once, into the work space.
 pub fn load_tests(text: &[u8], m: MethodAgain, work: &mut [u32])
     requires { ⌜ (m .constraints ≤ 64) × (testsPast ≤ length (now work)) ⌝ }
-    requires { ⌜ TestsRead (now text) (caseIn (now text) .head) (m .subtasks) (m .constraints) (m .next .at) ⌝ }
+    requires { ⌜ TestsRead (now text) (caseOf (now text) .head) (m .subtasks) (m .constraints) (m .next .at) ⌝ }
     ensures leaves { λ _. ⌜ Leaves (now (work .entry)) (now (work .exit)) ⌝ }
     ensures tests { λ _. ⌜ testsIn (now (work .exit)) 0 (m .constraints) ≡ testsOf (now (text .entry)) m ⌝ }
     ensures letters { λ _. ⌜ Letters (now (work .exit)) (m .constraints) ⌝ }

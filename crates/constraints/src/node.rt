@@ -6,20 +6,19 @@ ghost use Rattle.rules.specs.Tree.{rootLine};
 ghost use Rattle.tree.specs.Layout.{size};
 ghost use Rattle.constraints.specs.Methods.{keptAs};
 ghost use Rattle.constraints.specs.Loaded.{Holds, IfLoaded};
-ghost use Rattle.constraints.specs.Ready.{caseIn, treeIn, Ready, Leaves, namesMethod, Labels, nodeOfTree, brokenOfNode, brokenOfTree};
+ghost use Rattle.reading.specs.TheCase.{caseOf};
+ghost use Rattle.constraints.specs.Ready.{treeIn, Ready, Leaves, namesMethod, Labels, nodeOfTree, brokenOfNode, brokenOfTree};
 use crate::method::Kept;
 use crate::method::Loaded;
 use crate::method::first_broken_of;
 use crate::method::load_tests;
 use parts::span_at;
 use parts::subtask_nodes;
+use reading::METHODS_FROM;
 use reading::read_again;
 use reading::read_method_again;
 use rules::Header;
 use text::Cursor;
-
-// Where the places of the method lines start in the work space.
-const METHODS: usize = 1024;
 
 // The number of no method: none is loaded yet.
 const NONE: u32 = 4294967295;
@@ -46,25 +45,18 @@ struct Turn {
 }
 
 // A method in the work space: the one that is loaded, or its lines are read.
-fn load(
-    text: &[u8],
-    past: usize,
-    header: Header,
-    method: u32,
-    loaded: Loaded,
-    work: &mut [u32],
-) -> Loaded
-    requires { ⌜ ((planLine nodes : ℕ) × (states : List ℕ) × Ready (caseIn (now text)) (treeIn (now text)) (now text) past header planLine nodes states (now work)) ⌝ }
-    requires { ⌜ method < caseIn (now text) .head .methods ⌝ }
-    requires { ⌜ IfLoaded (caseIn (now text)) (now work) loaded ⌝ }
+fn load(text: &[u8], method: u32, loaded: Loaded, work: &mut [u32]) -> Loaded
+    requires { ⌜ ((planLine nodes : ℕ) × (states : List ℕ) × Ready (caseOf (now text)) (treeIn (now text)) (now text) planLine nodes states (now work)) ⌝ }
+    requires { ⌜ method < caseOf (now text) .head .methods ⌝ }
+    requires { ⌜ IfLoaded (caseOf (now text)) (now work) loaded ⌝ }
     ensures method { λ r. ⌜ r .method ≡ method ⌝ }
-    ensures holds { λ r. ⌜ Holds (caseIn (now (text .entry))) (now (work .exit)) r ⌝ }
+    ensures holds { λ r. ⌜ Holds (caseOf (now (text .entry))) (now (work .exit)) r ⌝ }
     ensures leaves { λ _. ⌜ Leaves (now (work .entry)) (now (work .exit)) ⌝ }
 {
     if method == loaded.method {
         return loaded;
     }
-    let at = METHODS + method as usize;
+    let at = METHODS_FROM + method as usize;
     let place = work[at] as usize;
     let m = read_method_again(text, Cursor { at: place });
     load_tests(text, m, work);
@@ -76,21 +68,13 @@ fn load(
 }
 
 // The first broken constraint of a node. An empty task has constraints too, at its own span.
-fn node_kept(
-    text: &[u8],
-    past: usize,
-    header: Header,
-    x: Named,
-    loaded: Loaded,
-    states: &[u64],
-    work: &mut [u32],
-) -> Turn
-    requires { ⌜ ((planLine nodes : ℕ) × Ready (caseIn (now text)) (treeIn (now text)) (now text) past header planLine nodes (now states) (now work)) ⌝ }
+fn node_kept(text: &[u8], x: Named, loaded: Loaded, states: &[u64], work: &mut [u32]) -> Turn
+    requires { ⌜ ((planLine nodes : ℕ) × Ready (caseOf (now text)) (treeIn (now text)) (now text) planLine nodes (now states) (now work)) ⌝ }
     requires { ⌜ x .n < size (treeIn (now text)) ⌝ }
     requires { ⌜ Labels (x .letter) (x .label) (rootLine (nodeOfTree (treeIn (now text)) (x .n))) ⌝ }
-    requires { ⌜ IfLoaded (caseIn (now text)) (now work) loaded ⌝ }
-    ensures { λ r. ⌜ r .kept ≡ keptAs (brokenOfNode (caseIn (now (text .entry))) (treeIn (now (text .entry))) (x .line) (x .n)) ⌝ }
-    ensures { λ r. ⌜ IfLoaded (caseIn (now (text .entry))) (now (work .exit)) (r .loaded) ⌝ }
+    requires { ⌜ IfLoaded (caseOf (now text)) (now work) loaded ⌝ }
+    ensures { λ r. ⌜ r .kept ≡ keptAs (brokenOfNode (caseOf (now (text .entry))) (treeIn (now (text .entry))) (x .line) (x .n)) ⌝ }
+    ensures { λ r. ⌜ IfLoaded (caseOf (now (text .entry))) (now (work .exit)) (r .loaded) ⌝ }
     ensures { λ r. ⌜ Leaves (now (work .entry)) (now (work .exit)) ⌝ }
 {
     if !names_method(x.letter) {
@@ -99,7 +83,7 @@ fn node_kept(
             loaded,
         };
     }
-    let m = load(text, past, header, x.label, loaded, work);
+    let m = load(text, x.label, loaded, work);
     if m.count == 0 {
         return Turn {
             kept: Kept::All,
@@ -117,15 +101,15 @@ fn node_kept(
 // The first broken constraint of the claimed tree, "nodes in order, each method's in text order".
 pub fn first_broken(
     text: &[u8],
-    past: usize,
     header: Header,
     plan_line: u32,
     nodes: Cursor,
     states: &[u64],
     work: &mut [u32],
 ) -> Kept
-    requires { ⌜ Ready (caseIn (now text)) (treeIn (now text)) (now text) past header «plan_line» (nodes .at) (now states) (now work) ⌝ }
-    ensures { λ r. ⌜ r ≡ keptAs (brokenOfTree (caseIn (now (text .entry))) (treeIn (now (text .entry)))) ⌝ }
+    requires { ⌜ Ready (caseOf (now text)) (treeIn (now text)) (now text) «plan_line» (nodes .at) (now states) (now work) ⌝ }
+    requires { ⌜ header ≡ caseOf (now text) .head ⌝ }
+    ensures { λ r. ⌜ r ≡ keptAs (brokenOfTree (caseOf (now (text .entry))) (treeIn (now (text .entry)))) ⌝ }
     ensures { λ r. ⌜ Leaves (now (work .entry)) (now (work .exit)) ⌝ }
 {
     let mut at = nodes;
@@ -143,7 +127,7 @@ pub fn first_broken(
             letter: a.letter,
             label: a.first,
         };
-        let turn = node_kept(text, past, header, x, loaded, states, work);
+        let turn = node_kept(text, x, loaded, states, work);
         let kept = turn.kept;
         match kept {
             Kept::Broken { answer } => return Kept::Broken { answer },

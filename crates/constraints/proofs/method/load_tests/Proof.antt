@@ -1,14 +1,14 @@
 -- `load_tests`: those stored, with those still to be read, are all of them (Loading). Assumes nothing.
 use Prim.Native.Nat.{_-_}
 use Rattle.constraints.proofs.Loading.{Loading, loading-starts, loading-room, loading-goes-on, loading-ends, loading-letters}
-use Rattle.constraints.specs.Ready.{caseIn}
+use Rattle.reading.specs.TheCase.{caseOf}
 use borrow.Author.Needs.{needs}
 use native.Mathlib.Omega.{arith}
 use Rattle.constraints.proofs.method.load_tests.Statement.{statement}
 use Rattle.constraints.proofs.method.load_tests.Tie as tie
 
 abbrev Inv-loop : tie.InvT-loop
-Inv-loop text m work₀ at₀ number₀ work at number = Loading text (caseIn text .head) (m .subtasks) (m .constraints) work₀ work (at₀ .at) (at .at) number
+Inv-loop text m work₀ at₀ number₀ work at number = Loading text (caseOf text .head) (m .subtasks) (m .constraints) work₀ work (at₀ .at) (at .at) number
 
 abbrev μ-loop : tie.MeasureT-loop
 μ-loop text m work₀ at₀ number₀ work at number = m .constraints - number

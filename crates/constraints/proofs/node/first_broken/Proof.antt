@@ -4,7 +4,8 @@ use Rattle.constraints.proofs.Numbers.{line-fits}
 use Rattle.constraints.proofs.Steps.{Going, going-starts, below, going-line, going-breaks, going-on, going-ends, none-loaded}
 use Rattle.constraints.proofs.Stores.{leaves-then}
 use Rattle.constraints.specs.Loaded.{IfLoaded}
-use Rattle.constraints.specs.Ready.{caseIn, treeIn}
+use Rattle.reading.specs.TheCase.{caseOf}
+use Rattle.constraints.specs.Ready.{treeIn}
 use borrow.Author.Needs.{needs}
 use mathlib.Core.Path.{refl, sym, _∙_}
 use native.Mathlib.Omega.{arith}
@@ -12,26 +13,26 @@ use Rattle.constraints.proofs.node.first_broken.Statement.{statement}
 use Rattle.constraints.proofs.node.first_broken.Tie as tie
 
 abbrev Inv-loop : tie.InvT-loop
-Inv-loop text past header plan-line states work₀ at₀ loaded₀ n₀ work at loaded n =
-    Going (caseIn text) (treeIn text) text past header plan-line (at₀ .at) states work₀ work (at .at) n × IfLoaded (caseIn text) work loaded
+Inv-loop text header plan-line states work₀ at₀ loaded₀ n₀ work at loaded n =
+    Going (caseOf text) (treeIn text) text header plan-line (at₀ .at) states work₀ work (at .at) n × IfLoaded (caseOf text) work loaded
 
 abbrev μ-loop : tie.MeasureT-loop
-μ-loop text past header plan-line states work₀ at₀ loaded₀ n₀ work at loaded n = header .nodes - n
+μ-loop text header plan-line states work₀ at₀ loaded₀ n₀ work at loaded n = header .nodes - n
 
 loop-holds : tie.Need-loop-holds Inv-loop μ-loop
 loop-holds c =
     let s = c .before .before .before in
-    (going-starts (s .pre), none-loaded (s .pre) refl)
+    (going-starts (s .pre .1) (s .pre .0), none-loaded (s .pre .0) refl)
 
 read-again-requires : tie.Need-read-again-requires Inv-loop μ-loop
 read-again-requires c κs = search needs
 
-add-t17 : tie.Need-add-t17 Inv-loop μ-loop
-add-t17 c =
+add-t16 : tie.Need-add-t16 Inv-loop μ-loop
+add-t16 c =
     let f = line-fits (c .before .before .before .loop .inv .0) (c .before .if1 .taken) in omega arith
 
-add-t18 : tie.Need-add-t18 Inv-loop μ-loop
-add-t18 c =
+add-t17 : tie.Need-add-t17 Inv-loop μ-loop
+add-t17 c =
     let f = line-fits (c .before .before .before .loop .inv .0) (c .before .if1 .taken) in omega arith
 
 node-kept-requires : tie.Need-node-kept-requires Inv-loop μ-loop
@@ -72,7 +73,7 @@ loop-again c =
     let t = c .before .before .before .before .before .before .before .before .before .if1 .taken in
     let g = c .before .before .before .before .before .before .before .before .read-again in
     let k = c .before .before .before .before .before .before .node-kept in (
-      going-on (l .inv .0) t (c .before .before .before .before .before .before .before .before .before .before .before .before .before .before .before .args .plan-line + 1 + l .n) (k .last .1 .1 .1 .1 .1 .1 .0) (g .result .next .at) refl (sym (c .before .before .enum-told .given .1) ∙ k .ensures .0) (k .ensures .1 .1)
+      going-on (l .inv .0) t (c .before .before .before .before .before .before .before .before .before .before .before .before .before .before .before .args .plan-line + 1 + l .n) (k .last .1 .1 .1 .1 .0) (g .result .next .at) refl (sym (c .before .before .enum-told .given .1) ∙ k .ensures .0) (k .ensures .1 .1)
           (going-line (l .inv .0) t (g .result) (g .ensures) .1),
       k .ensures .1 .0,
     )
@@ -91,8 +92,8 @@ first-broken-spec =
     μ-loop
     loop-holds
     read-again-requires
+    add-t16
     add-t17
-    add-t18
     node-kept-requires
     enum-known-kept
     same-length

@@ -1,7 +1,8 @@
 -- `node_kept`: the method is in the work space, and the lists then hold what its tests read (Steps). Assumes nothing.
 use Rattle.constraints.proofs.Steps.{leaf-kept, standing, standing-leaves, few-enough, none-follow, few-second, room-before, nodes-inside, new-leaves, new-inside, new-room, new-holds, new-tested, new-kept}
 use Rattle.constraints.proofs.Stores.{leaves-all, leaves-then}
-use Rattle.constraints.specs.Ready.{caseIn, treeIn}
+use Rattle.reading.specs.TheCase.{caseOf}
+use Rattle.constraints.specs.Ready.{treeIn}
 use Rattle.index.specs.Spans.{spanOf}
 use borrow.Author.Needs.{needs}
 use borrow.Author.Tests.{not-true, not-false}
@@ -16,7 +17,7 @@ returns : tie.Need-returns
 returns c =
     let s = c .before .before .before .before .before in
     let a = s .args in (
-      leaf-kept (caseIn (a .text .now)) (treeIn (a .text .now)) (a .x .line) (a .x .n) (a .x .letter) (a .x .label) (s .pre .1 .1 .0)
+      leaf-kept (caseOf (a .text .now)) (treeIn (a .text .now)) (a .x .line) (a .x .n) (a .x .letter) (a .x .label) (s .pre .1 .1 .0)
           (sym (c .before .names-method .ensures) ∙ not-true (c .before .names-method .result) (c .if1 .taken)),
       (s .pre .1 .1 .1, leaves-all (a .work .now)),
     )
@@ -39,7 +40,7 @@ returns-2 c =
     let w = standing (s .pre .0 .2) (a .x .n) (a .x .letter) (a .x .label) (s .pre .1 .0) (s .pre .1 .1 .0)
     (sym (c .before .before .before .before .before .before .before .names-method .ensures) ∙ not-false (c .before .before .before .before .before .before .before .names-method .result) (c .before .before .before .before .before .before .if1 .left)) in
     let m = c .before .before .before .before .load in
-    let v = standing-leaves w (m .last .1 .1 .1 .1 .1 .0) (m .ensures .1 .1) in
+    let v = standing-leaves w (m .last .1 .1 .1 .0) (m .ensures .1 .1) in
     (none-follow v (m .result) (m .ensures .1 .0) (m .ensures .0) (a .x .line) (c .if2 .taken), ((λ b. m .ensures .1 .0), m .ensures .1 .1))
 
 subtask-nodes-requires : tie.Need-subtask-nodes-requires
@@ -49,7 +50,7 @@ subtask-nodes-requires c κs =
     let w = standing (s .pre .0 .2) (a .x .n) (a .x .letter) (a .x .label) (s .pre .1 .0) (s .pre .1 .1 .0)
     (sym (c .before .before .before .before .before .before .before .before .names-method .ensures) ∙ not-false (c .before .before .before .before .before .before .before .before .names-method .result) (c .before .before .before .before .before .before .before .if1 .left)) in
     let m = c .before .before .before .before .before .load in
-    let v = standing-leaves w (m .last .1 .1 .1 .1 .1 .0) (m .ensures .1 .1) in
+    let v = standing-leaves w (m .last .1 .1 .1 .0) (m .ensures .1 .1) in
     let held = m .ensures .1 .0 in
     let named = m .ensures .0 in
     (few-enough v, (few-second v (m .result) held named, (room-before v (m .result) held named, nodes-inside v (m .result) held named)))
@@ -61,7 +62,7 @@ span-at-requires c κs =
     let w = standing (s .pre .0 .2) (a .x .n) (a .x .letter) (a .x .label) (s .pre .1 .0) (s .pre .1 .1 .0)
     (sym (c .before .before .before .before .before .before .before .before .before .before .before .before .names-method .ensures) ∙ not-false (c .before .before .before .before .before .before .before .before .before .before .before .before .names-method .result) (c .before .before .before .before .before .before .before .before .before .before .before .if1 .left)) in
     let m = c .before .before .before .before .before .before .before .before .before .load in
-    let v = standing-leaves w (m .last .1 .1 .1 .1 .1 .0) (m .ensures .1 .1) in
+    let v = standing-leaves w (m .last .1 .1 .1 .0) (m .ensures .1 .1) in
     let n = c .before .before .before .subtask-nodes in
     new-inside v (m .result) (m .ensures .1 .0) (m .ensures .0) (n .last .0) (n .ensures)
 
@@ -72,7 +73,7 @@ first-broken-of-requires c κs =
     let w = standing (s .pre .0 .2) (a .x .n) (a .x .letter) (a .x .label) (s .pre .1 .0) (s .pre .1 .1 .0)
     (sym (c .before .before .before .before .before .before .before .before .before .before .before .before .before .before .names-method .ensures) ∙ not-false (c .before .before .before .before .before .before .before .before .before .before .before .before .before .before .names-method .result) (c .before .before .before .before .before .before .before .before .before .before .before .before .before .if1 .left)) in
     let m = c .before .before .before .before .before .before .before .before .before .before .before .load in
-    let v = standing-leaves w (m .last .1 .1 .1 .1 .1 .0) (m .ensures .1 .1) in
+    let v = standing-leaves w (m .last .1 .1 .1 .0) (m .ensures .1 .1) in
     let n = c .before .before .before .before .before .subtask-nodes in
     let o = c .before .span-at in
     let held = m .ensures .1 .0 in
@@ -92,7 +93,7 @@ returns-3 c =
     let w = standing (s .pre .0 .2) (a .x .n) (a .x .letter) (a .x .label) (s .pre .1 .0) (s .pre .1 .1 .0)
     (sym (c .before .before .before .before .before .before .before .before .before .before .before .before .before .before .before .names-method .ensures) ∙ not-false (c .before .before .before .before .before .before .before .before .before .before .before .before .before .before .before .names-method .result) (c .before .before .before .before .before .before .before .before .before .before .before .before .before .before .if1 .left)) in
     let m = c .before .before .before .before .before .before .before .before .before .before .before .before .load in
-    let v = standing-leaves w (m .last .1 .1 .1 .1 .1 .0) (m .ensures .1 .1) in
+    let v = standing-leaves w (m .last .1 .1 .1 .0) (m .ensures .1 .1) in
     let n = c .before .before .before .before .before .before .subtask-nodes in
     let o = c .before .before .span-at in
     let k = c .first-broken-of in
