@@ -17,16 +17,25 @@ use Rattle.rules.proofs.Judgement.Reading.{AlsoIf}
 use Rattle.text.specs.declared.Cursor.{Cursor}
 use Rattle.text.specs.declared.Field.{Field}
 use Rattle.text.specs.declared.Field.the-variants.{Number as ReadNumber, NotPlain, Missing}
+use Rattle.text.specs.declared.Letter.{Letter as ReadLetter}
 use Rattle.text.specs.declared.Letter.the-variants.{Byte, Wrong}
 use Rattle.text.specs.declared.Ending.{Ending as ReadEnding}
 use Rattle.text.specs.declared.Ending.the-variants.{Line, Surplus}
 use Rattle.text.specs.Cursor.{cursor, asField, asLetter, asEnding}
 use Rattle.reading.specs.declared.again.Again.{Again}
 use Rattle.reading.specs.declared.again.Numbered.{Numbered}
-use Rattle.reading.specs.Again.{numberOr, lineOr, numberHere, fieldFrom, numberFrom, againFrom, isShort, asAgain, AgainAt}
+use Rattle.reading.specs.Again.{afterLetter, numberOr, numberHere, lineOr, fieldFrom, numberFrom, againFrom, isShort, asAgain, AgainAt}
 use Rattle.reading.proofs.Turns.{apart}
 
--- ---- What the code makes of a field and of a line's end
+-- ---- What the code makes of a letter, of a field and of a line's end
+
+abbrev pub letterBy : Cursor → ReadLetter → ℕ
+letterBy c (Byte b d) = d .at
+letterBy c Wrong = c .at
+
+pub letter-of : (c : Cursor) (x : Letter) {f : ReadLetter} → f ≡ asLetter x → letterBy c f ≡ afterLetter (c .at) x
+letter-of c (letter b next) e = ap (letterBy c) e
+letter-of c noLetter e = ap (letterBy c) e
 
 abbrev pub numberedBy : Cursor → Field → Numbered
 numberedBy c (ReadNumber v d) = record { value = v; next = d }

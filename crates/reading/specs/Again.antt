@@ -5,7 +5,7 @@ use mathlib.Core.Bool.{Bool, true, false}
 use mathlib.Core.List.{List}
 use Prim.Native.Nat.{ℕ, zero, suc}
 use Rattle.rules.specs.declared.Header.{Header}
-use Rattle.rules.specs.Text.{Number, number, notPlain, missing, numberAt, Ending, ended, surplus, endingAt}
+use Rattle.rules.specs.Text.{Letter, letter, noLetter, letterAt, Number, number, notPlain, missing, numberAt, Ending, ended, surplus, endingAt}
 use Rattle.rules.specs.Table as T
 use Rattle.rules.specs.Table.{Role, Value, line, readLine}
 use Rattle.rules.specs.Case.{scalarAt}
@@ -15,10 +15,22 @@ use Rattle.reading.specs.declared.again.Again.{Again}
 use Rattle.reading.specs.declared.again.MethodAgain.{MethodAgain}
 use Rattle.reading.specs.declared.again.Numbered.{Numbered}
 
+-- Where the field after a line's letter starts: where the line does, if it has no letter.
+abbrev pub afterLetter : ℕ → Letter → ℕ
+afterLetter place (letter b next) = next
+afterLetter place noLetter = place
+
+unfoldable pub pastLetter : List ℕ → ℕ → ℕ
+pastLetter text place = afterLetter place (letterAt text place)
+
 abbrev pub numberOr : Cursor → Number → Numbered
 numberOr c (number v next) = record { value = v; next = cursor next }
 numberOr c notPlain = record { value = 0; next = c }
 numberOr c missing = record { value = 0; next = c }
+
+-- The number at a cursor.
+abbrev pub numberHere : List ℕ → Cursor → Numbered
+numberHere text c = numberOr c (numberAt text (c .at))
 
 abbrev pub lineOr : Cursor → Ending → Cursor
 lineOr c (ended next) = cursor next

@@ -1,7 +1,7 @@
 // Lines that reading has let pass, read again: nothing is checked a second time.
 ghost use mathlib.Core.Path.{_≡_};
 ghost use Rattle.rules.specs.Text.{endingAt};
-ghost use Rattle.reading.specs.Again.{numberHere, lineOr, fieldFrom, againFrom, methodFrom, AgainAt, MethodAgainAt};
+ghost use Rattle.reading.specs.Again.{pastLetter, numberHere, lineOr, fieldFrom, againFrom, methodFrom, AgainAt, MethodAgainAt};
 use text::Cursor;
 use text::Ending;
 use text::Field;
@@ -28,6 +28,16 @@ pub struct MethodAgain {
 pub struct Numbered {
     pub value: u32,
     pub next: Cursor,
+}
+
+// The first field after the letter of the line that starts at c.
+pub fn after_letter(text: &[u8], c: Cursor) -> Cursor
+    ensures { λ r. ⌜ r .at ≡ pastLetter (now (text .entry)) (c .at) ⌝ }
+{
+    match c.letter(text) {
+        Letter::Byte { byte: _, next } => next,
+        Letter::Wrong => c,
+    }
 }
 
 // The number after the cursor; 0 where the line has no further one, and the cursor stays.

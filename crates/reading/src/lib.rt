@@ -14,6 +14,7 @@ mod again;
 pub use again::Again;
 pub use again::MethodAgain;
 pub use again::Numbered;
+pub use again::after_letter;
 pub use again::number_again;
 pub use again::read_again;
 pub use again::read_method_again;

@@ -16,13 +16,11 @@ use Rattle.rules.specs.Case.{listOf, membersAt, setAt}
 use Rattle.state.specs.declared.State.{State}
 use Rattle.state.specs.Action.{actionOf}
 use Rattle.text.specs.declared.Cursor.{Cursor}
-use Rattle.text.specs.declared.Letter.{Letter as LineLetter}
-use Rattle.text.specs.declared.Letter.the-variants.{Byte, Wrong}
-use Rattle.text.specs.Cursor.{cursor, asLetter}
+use Rattle.text.specs.Cursor.{cursor}
 use Rattle.reading.specs.declared.again.Numbered.{Numbered}
-use Rattle.reading.specs.Again.{numberOr, numberHere}
+use Rattle.reading.specs.Again.{afterLetter, pastLetter, numberOr, numberHere}
 use Rattle.replay.specs.declared.again.SetRead.{SetRead}
-use Rattle.replay.specs.Again.{afterLetter, pastLetter, setThen, membersAgain, setAgain, ActionSets, InitialSet}
+use Rattle.replay.specs.Again.{setThen, membersAgain, setAgain, ActionSets, InitialSet}
 
 unread : {l : ℕ} {vs : List Value} {next field : ℕ} → LineRead.unreadable field ≡ line l vs next → ⊥
 unread e = let z : _≡_ {A = ℕ} 0 1 = cc in omega arith
@@ -274,17 +272,3 @@ put-next text count left s c x {s′} e q es =
 
 pub put-end : (text : List ℕ) (count : ℕ) (s : List ℕ) (c : Cursor) → count ≡ 0 → membersAgain text count s c ≡ setThen s c
 put-end text count s c e = ap (λ (n : ℕ). membersAgain text n s c) e
-
--- ---- What the code made of a letter
-
-abbrev pub letterBy : Cursor → LineLetter → ℕ
-letterBy c (Byte b d) = d .at
-letterBy c Wrong = c .at
-
-letter-by : (c : Cursor) (y : Letter) → letterBy c (asLetter y) ≡ afterLetter (c .at) y
-letter-by c (letter b next) = refl
-letter-by c noLetter = refl
-
-pub letter-read : (text : List ℕ) (c : Cursor) (r : LineLetter) → r ≡ asLetter (letterAt text (c .at)) → letterBy c r ≡ pastLetter text (c .at)
-unfolding pastLetter
-letter-read text c r e = ap (letterBy c) e ∙ letter-by c (letterAt text (c .at))

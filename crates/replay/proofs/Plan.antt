@@ -13,7 +13,7 @@ use Rattle.rules.specs.Table.{Value, scalar, members, Taken, taken, bad, out, t
 use Rattle.rules.specs.Case.{Case, listOf, membersAt}
 use Rattle.rules.proofs.Judgement.Each.{both-true}
 use Rattle.reading.specs.Directory.{LineIs}
-use Rattle.replay.specs.Again.{pastLetter}
+use Rattle.reading.specs.Again.{pastLetter}
 use Rattle.replay.proofs.Lines.{line-items, plan-only, FirstItem, item-first}
 
 -- These actions of the model stand one after the other from a place on.

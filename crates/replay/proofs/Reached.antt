@@ -23,13 +23,13 @@ use Rattle.state.specs.declared.Stepped.{Stepped}
 use Rattle.state.specs.Action.{actionOf}
 use Rattle.text.specs.declared.Cursor.{Cursor}
 use Rattle.reading.specs.declared.again.Numbered.{Numbered}
-use Rattle.reading.specs.Again.{numberOr, numberHere}
+use Rattle.reading.specs.Again.{pastLetter, numberOr, numberHere}
 use Rattle.reading.specs.Directory.{LineIs, Finds, directorySize}
 use Rattle.rows.specs.Rows.{putRow, putRows}
 use Rattle.replay.specs.declared.again.Sets.{Sets}
 use Rattle.replay.specs.declared.running.Ran.{Ran}
 use Rattle.replay.specs.declared.running.Ran.the-variants.{All, Stopped}
-use Rattle.replay.specs.Again.{pastLetter, ActionSets, InitialSet}
+use Rattle.replay.specs.Again.{ActionSets, InitialSet}
 use Rattle.reading.specs.TheCase.{caseOf}
 use Rattle.replay.specs.Running.{Left, ranOf, RanAs}
 use Rattle.replay.proofs.Plan.{Cues, plan-cues}

@@ -4,7 +4,6 @@ use mathlib.Core.List.{List}
 use Prim.Native.Nat.{ℕ, zero, suc}
 use Rattle.rules.specs.declared.Header.{Header}
 use Rattle.rules.specs.State.{empty, insert}
-use Rattle.rules.specs.Text.{Letter, letter, noLetter, letterAt}
 use Rattle.rules.specs.Table as T
 use Rattle.rules.specs.Table.{Value, line, readLine}
 use Rattle.rules.specs.Case as C
@@ -15,14 +14,6 @@ use Rattle.text.specs.declared.Cursor.{Cursor}
 use Rattle.reading.specs.Again.{numberHere}
 use Rattle.replay.specs.declared.again.SetRead.{SetRead}
 use Rattle.replay.specs.declared.again.Sets.{Sets}
-
--- Where the field after a line's letter starts: where the line does, if it has no letter.
-abbrev pub afterLetter : ℕ → Letter → ℕ
-afterLetter place (letter b next) = next
-afterLetter place noLetter = place
-
-unfoldable pub pastLetter : List ℕ → ℕ → ℕ
-pastLetter text place = afterLetter place (letterAt text place)
 
 -- A set of these words, with the place of the field after it.
 abbrev pub setThen : List ℕ → Cursor → SetRead

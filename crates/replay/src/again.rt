@@ -1,10 +1,9 @@
 // Lines that are read again where the directory says: the sets of an action line, the initial set.
 ghost use mathlib.Core.Path.{_≡_};
-ghost use Rattle.replay.specs.Again.{pastLetter, setAgain, ActionSets, InitialSet};
+ghost use Rattle.replay.specs.Again.{setAgain, ActionSets, InitialSet};
 use state::State;
 use state::WORDS;
 use text::Cursor;
-use text::Letter;
 
 // "An action has four sets: needed, forbidden, added, deleted."
 pub struct Sets {
@@ -18,16 +17,6 @@ pub struct Sets {
 struct SetRead {
     set: State,
     next: Cursor,
-}
-
-// The first field after the letter of the line that starts at c.
-pub fn after_letter(text: &[u8], c: Cursor) -> Cursor
-    ensures { λ r. ⌜ r .at ≡ pastLetter (now (text .entry)) (c .at) ⌝ }
-{
-    match c.letter(text) {
-        Letter::Byte { byte: _, next } => next,
-        Letter::Wrong => c,
-    }
 }
 
 // The set whose count is the number after the cursor: each member goes into it as it is read.
@@ -54,7 +43,7 @@ fn next_set(text: &[u8], c: Cursor) -> SetRead
 pub fn read_action(text: &[u8], c: Cursor) -> Sets
     ensures { λ r. ⌜ ActionSets (now (text .entry)) (c .at) r ⌝ }
 {
-    let start = after_letter(text, c);
+    let start = reading::after_letter(text, c);
     let n = next_set(text, start);
     let f = next_set(text, n.next);
     let a = next_set(text, f.next);
@@ -75,7 +64,7 @@ pub fn read_action(text: &[u8], c: Cursor) -> Sets
 pub fn read_initial(text: &[u8], c: Cursor) -> State
     ensures { λ r. ⌜ InitialSet (now (text .entry)) (c .at) r ⌝ }
 {
-    let start = after_letter(text, c);
+    let start = reading::after_letter(text, c);
     let i = next_set(text, start);
     i.set
 }

@@ -48,7 +48,7 @@ pub fn run(
     requires room { ⌜ wordCount * header .cues + wordCount ≤ length (now states) ⌝ }
     ensures { λ r. ⌜ RanAs (caseOf (now (text .entry))) r (now (states .entry)) (now (states .exit)) ⌝ }
 {
-    let mut at = again::after_letter(text, plan);
+    let mut at = reading::after_letter(text, plan);
     let mut s = first;
     let mut i: u32 = 0;
     while i < header.cues {

@@ -111,7 +111,7 @@ module _ (text : List ℕ) (k : Case) (w : List ℕ) (s : Sound k) (found : Meth
   unfolding noSubtasks
   no-subtasks =
       let c = headIn text w m .subtasks in
-      ap (λ (l : List ℕ). eqb (length l) 0) (head-here .subtasks) ∙ ap (λ (x : ℕ). eqb x 0) (length-numbers text (c .count) (c .at .at))
+      ap (λ (l : List ℕ). eqb (length l) 0) (head-here .subtasks) ∙ ap (λ (x : ℕ). eqb x 0) (length-numbers text (c .count) (c .at))
 
   fits-task : (t : ℕ) → fits k (D m) t ≡ (eqb (headIn text w m .task) t && not (eqb (headIn text w m .subtasks .count) 0))
   unfolding fits

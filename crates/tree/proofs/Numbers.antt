@@ -12,41 +12,15 @@ use Rattle.rules.specs.Table as T
 use Rattle.rules.specs.Table.{Role, Item, one, Row, table, rowIn, rowOf, roleNumber, inRange, taken, out, take, Value, scalar, members, numberOf, ItemRead, item, followTaken, withMember, leastAfter, readMembers, readList, readItem, LineRead, line, followItem, withValue, finishLine, readItems, readRow, readLetter, readLine}
 use Rattle.rules.specs.Case.{Method, Case, Valued, Read, read, refused, follow, readOf, oneLine, many, oneMethod, methodOf, scalarAt, membersAt}
 use Rattle.text.specs.declared.Cursor.{Cursor}
-use Rattle.text.specs.declared.Field.{Field}
-use Rattle.text.specs.declared.Field.the-variants.{Number as ReadNumber, NotPlain, Missing}
-use Rattle.text.specs.declared.Letter.{Letter as ReadLetter}
-use Rattle.text.specs.declared.Letter.the-variants.{Byte, Wrong}
-use Rattle.text.specs.Cursor.{cursor, asField, asLetter}
+use Rattle.text.specs.Cursor.{cursor}
+use Rattle.reading.specs.Again.{afterLetter, pastLetter, numberOr, numberHere}
 use Rattle.reading.specs.Directory.{LineIs}
-use Rattle.tree.specs.declared.number.Numbered.{Numbered}
-use Rattle.tree.specs.Numbers.{valueIn, nextIn, numbered, placeAfter, afterLetter, numbersAt, PlanAt}
+use Rattle.tree.specs.Numbers.{numbersAt, PlanAt}
 use Rattle.tree.specs.Fits.{methodHead, taskPlace, countPlace, subtaskPlace}
 
--- ---- What the code makes of a field and of a letter
-
-abbrev pub numberedBy : Field → Numbered
-numberedBy (ReadNumber v d) = record { value = v; next = d }
-numberedBy NotPlain = record { value = 0; next = cursor 0 }
-numberedBy Missing = record { value = 0; next = cursor 0 }
-
-pub numbered-of : (x : Number) {f : Field} → f ≡ asField x → numberedBy f ≡ numbered x
-unfolding valueIn nextIn
-numbered-of (number v next) e = ap numberedBy e
-numbered-of notPlain e = ap numberedBy e
-numbered-of missing e = ap numberedBy e
-
-abbrev pub placedBy : ReadLetter → Cursor
-placedBy (Byte b d) = d
-placedBy Wrong = cursor 0
-
-pub placed-of : (x : Letter) {f : ReadLetter} → f ≡ asLetter x → placedBy f ≡ afterLetter x
-unfolding placeAfter
-placed-of (letter b next) e = ap placedBy e
-placed-of noLetter e = ap placedBy e
-
-pub length-numbers : (text : List ℕ) (count place : ℕ) → length (numbersAt text count place) ≡ count
-length-numbers text zero place = refl
-length-numbers text (suc count) place = ap suc (length-numbers text count (nextIn (numberAt text place)))
+pub length-numbers : (text : List ℕ) (count : ℕ) (c : Cursor) → length (numbersAt text count c) ≡ count
+length-numbers text zero c = refl
+length-numbers text (suc count) c = ap suc (length-numbers text count (numberHere text c .next))
 
 -- ---- What an item of the table reads, and where the next one starts
 
@@ -55,16 +29,15 @@ ItemTells P (item v field next) = P v next
 ItemTells P (ItemRead.unreadable field) = Unit {0}
 ItemTells P (ItemRead.outside field) = Unit {0}
 
-taken-tells : (P : Value → ℕ → Type 0) (ok : ℕ → Bool) (x : Number) (field : ℕ) (rest : ℕ → ℕ → ItemRead)
-    → ItemTells P (rest (valueIn x) (nextIn x)) → ItemTells P (followTaken (take ok x) field rest)
-unfolding valueIn nextIn
-taken-tells P ok (number v next) field rest f = go (ok v)
+taken-tells : (P : Value → ℕ → Type 0) (ok : ℕ → Bool) (c : Cursor) (x : Number) (field : ℕ) (rest : ℕ → ℕ → ItemRead)
+    → ItemTells P (rest (numberOr c x .value) (numberOr c x .next .at)) → ItemTells P (followTaken (take ok x) field rest)
+taken-tells P ok c (number v next) field rest f = go (ok v)
   where
     go : (b : Bool) → ItemTells P (followTaken (elim b [ true ↦ taken v next | false ↦ out ]) field rest)
     go true = f
     go false = tt
-taken-tells P ok notPlain field rest f = tt
-taken-tells P ok missing field rest f = tt
+taken-tells P ok c notPlain field rest f = tt
+taken-tells P ok c missing field rest f = tt
 
 member-tells : (v : ℕ) (vs : List ℕ) (r : ItemRead) → ItemTells (λ x next. x ≡ members vs) r → ItemTells (λ x next. x ≡ members (v ∷ vs)) (withMember v r)
 member-tells v vs (item (scalar w) field next) h = absurd (let z : _≡_ {A = ℕ} 0 1 = cc in native.Mathlib.Nat.not-suc-le-zero (native.Mathlib.Nat.le-of-eq (sym z)))
@@ -73,16 +46,16 @@ member-tells v vs (ItemRead.unreadable field) h = tt
 member-tells v vs (ItemRead.outside field) h = tt
 
 module _ (text : List ℕ) (ok : ℕ → Bool) (ascending : Bool) where
-  members-tell : (count low field place : ℕ)
-      → ItemTells (λ x next. x ≡ members (numbersAt text count place)) (readMembers text ok ascending count low field place)
-  members-tell zero low field place = refl
-  members-tell (suc count) low field place =
-      let v = valueIn (numberAt text place) in
-      let place′ = nextIn (numberAt text place) in
-      taken-tells (λ x next. x ≡ members (numbersAt text (suc count) place)) (λ w. leb low w && ok w) (numberAt text place) field
+  members-tell : (count low field : ℕ) (c : Cursor)
+      → ItemTells (λ x next. x ≡ members (numbersAt text count c)) (readMembers text ok ascending count low field (c .at))
+  members-tell zero low field c = refl
+  members-tell (suc count) low field c =
+      let v = numberHere text c .value in
+      let d = numberHere text c .next in
+      taken-tells (λ x next. x ≡ members (numbersAt text (suc count) c)) (λ w. leb low w && ok w) c (numberAt text (c .at)) field
       (λ w next. withMember w (readMembers text ok ascending count (leastAfter ascending w) (field + 1) next))
-      (member-tells v (numbersAt text count place′) (readMembers text ok ascending count (leastAfter ascending v) (field + 1) place′)
-      (members-tell count (leastAfter ascending v) (field + 1) place′))
+      (member-tells v (numbersAt text count d) (readMembers text ok ascending count (leastAfter ascending v) (field + 1) (d .at))
+      (members-tell count (leastAfter ascending v) (field + 1) d))
 
 -- ---- What a line reads
 
@@ -142,11 +115,11 @@ module _ (text : List ℕ) (due : Role) (h : Header) (n : ℕ) (P : List Value �
       go true rest = chosen (eqb (roleNumber due) (roleNumber (r .role))) f
       go false rest = rest
 
-  line-tells : (place : ℕ) → ((l : ℕ) → RowsTell due (FromPlace l (placeAfter (letterAt text place))) table) → LineTells P (readLine text due h n place)
-  unfolding readLine rowOf placeAfter
+  line-tells : (place : ℕ) → ((l : ℕ) → RowsTell due (FromPlace l (pastLetter text place)) table) → LineTells P (readLine text due h n place)
+  unfolding readLine rowOf pastLetter
   line-tells place f = go (feedFollows text place)
     where
-      found : (x : Letter) → ((l : ℕ) → RowsTell due (FromPlace l (placeAfter x)) table) → LineTells P (readLetter text due h n x)
+      found : (x : Letter) → ((l : ℕ) → RowsTell due (FromPlace l (afterLetter place x)) table) → LineTells P (readLetter text due h n x)
       found (letter b next) g = rows-tell b next table (g b)
       found noLetter g = tt
 
@@ -157,13 +130,13 @@ module _ (text : List ℕ) (due : Role) (h : Header) (n : ℕ) (P : List Value �
 -- ---- The P line and the M line
 
 plan-tells : (text : List ℕ) (h : Header) (place : ℕ)
-    → LineTells (λ vs. membersAt vs 0 ≡ numbersAt text (h .cues) (placeAfter (letterAt text place))) (readLine text T.plan h 0 place)
+    → LineTells (λ vs. membersAt vs 0 ≡ numbersAt text (h .cues) (cursor (pastLetter text place))) (readLine text T.plan h 0 place)
 unfolding table roleNumber readItem membersAt
 plan-tells text h place =
-    let start = placeAfter (letterAt text place) in
+    let start = cursor (pastLetter text place) in
     let P : List Value → Type 0 = λ vs. membersAt vs 0 ≡ numbersAt text (h .cues) start in
     line-tells text T.plan h 0 P place (λ l. (
-      item-then P (λ x next. x ≡ members (numbersAt text (h .cues) start)) (readMembers text (inRange h 0 [] T.anAction) false (h .cues) 0 2 start)
+      item-then P (λ x next. x ≡ members (numbersAt text (h .cues) start)) (readMembers text (inRange h 0 [] T.anAction) false (h .cues) 0 2 (start .at))
           (λ v after next. withValue v (readItems text h 0 l [] ([] ++ (numberOf v ∷ [])) after next))
           (members-tell text (inRange h 0 [] T.anAction) false (h .cues) 0 2 start)
           (λ v after next e. value-tells P v (readItems text h 0 l [] ([] ++ (numberOf v ∷ [])) after next)
@@ -173,37 +146,39 @@ plan-tells text h place =
 
 -- The plan's actions are the numbers of its line.
 pub plan-numbers : (text : List ℕ) (k : Case) (cues place : ℕ) (w : List ℕ) → PlanAt text k cues place w
-    → numbersAt text cues (placeAfter (letterAt text place)) ≡ k .plan
+    → numbersAt text cues (cursor (pastLetter text place)) ≡ k .plan
 plan-numbers text k cues place w p =
-    ap (λ (c : ℕ). numbersAt text c (placeAfter (letterAt text place))) (p .count)
-    ∙ sym (subst (LineTells (λ vs. membersAt vs 0 ≡ numbersAt text (k .head .cues) (placeAfter (letterAt text place)))) (p .planLine .reads)
+    ap (λ (c : ℕ). numbersAt text c (cursor (pastLetter text place))) (p .count)
+    ∙ sym (subst (LineTells (λ vs. membersAt vs 0 ≡ numbersAt text (k .head .cues) (cursor (pastLetter text place)))) (p .planLine .reads)
     (plan-tells text (k .head) place))
     ∙ p .planCues
 
 -- What the numbers of a method's line are.
 abbrev HeadTold : List ℕ → ℕ → List Value → Type 0
 HeadTold text place vs =
-    (scalarAt vs 0 ≡ valueIn (numberAt text (taskPlace text place)))
-    × (membersAt vs 1 ≡ numbersAt text (valueIn (numberAt text (countPlace text place))) (subtaskPlace text place))
+    (scalarAt vs 0 ≡ numberHere text (taskPlace text place) .value)
+    × (membersAt vs 1 ≡ numbersAt text (numberHere text (countPlace text place) .value) (subtaskPlace text place))
 
 method-tells : (text : List ℕ) (h : Header) (place : ℕ) → LineTells (HeadTold text place) (readLine text T.method h 0 place)
 unfolding table roleNumber readItem readList membersAt scalarAt
 method-tells text h place =
-    let t = numberAt text (taskPlace text place) in
-    let c = numberAt text (countPlace text place) in
+    let t = numberHere text (taskPlace text place) in
+    let c = numberHere text (countPlace text place) in
     let P : List Value → Type 0 = HeadTold text place in
     line-tells text T.method h 0 P place (λ l. (
-      item-then P (λ x next. (x ≡ scalar (valueIn t)) × (next ≡ nextIn t)) (readItem text h 0 [] (one T.compound) 2 (taskPlace text place)) _
-          (taken-tells (λ x next. (x ≡ scalar (valueIn t)) × (next ≡ nextIn t)) (inRange h 0 [] T.compound) t 2 (λ v next. item (scalar v) 3 next) (refl, refl))
+      item-then P (λ x next. (x ≡ scalar (t .value)) × (next ≡ t .next .at)) (readItem text h 0 [] (one T.compound) 2 (taskPlace text place .at)) _
+          (taken-tells (λ x next. (x ≡ scalar (t .value)) × (next ≡ t .next .at)) (inRange h 0 [] T.compound) (taskPlace text place)
+          (numberAt text (taskPlace text place .at)) 2 (λ v next. item (scalar v) 3 next) (refl, refl))
           (λ v after next e.
           let is : List Item = T.subtaskList ∷ one (T.upTo 64) ∷ [] in
           value-tells P v (readItems text h 0 l is ([] ++ (numberOf v ∷ [])) after next)
-          (item-then (λ vs. P (v ∷ vs)) (λ x next. x ≡ members (numbersAt text (valueIn c) (nextIn c)))
+          (item-then (λ vs. P (v ∷ vs)) (λ x next. x ≡ members (numbersAt text (c .value) (c .next)))
           (readItem text h 0 ([] ++ (numberOf v ∷ [])) T.subtaskList after next) _
           (rw (e .1)
-          (taken-tells (λ x next. x ≡ members (numbersAt text (valueIn c) (nextIn c))) (inRange h 0 ([] ++ (numberOf v ∷ [])) (T.upTo 32)) c after
+          (taken-tells (λ x next. x ≡ members (numbersAt text (c .value) (c .next))) (inRange h 0 ([] ++ (numberOf v ∷ [])) (T.upTo 32))
+          (countPlace text place) (numberAt text (countPlace text place .at)) after
           (λ count start. readMembers text (inRange h 0 ([] ++ (numberOf v ∷ [])) T.task) false count 0 (after + 1) start)
-          (members-tell text (inRange h 0 ([] ++ (numberOf v ∷ [])) T.task) false (valueIn c) 0 (after + 1) (nextIn c))))
+          (members-tell text (inRange h 0 ([] ++ (numberOf v ∷ [])) T.task) false (c .value) 0 (after + 1) (c .next))))
           (λ u after′ next′ f.
           let rest = readItems text h 0 l (one (T.upTo 64) ∷ []) (([] ++ (numberOf v ∷ [])) ++ (numberOf u ∷ [])) after′ next′ in
           value-tells (λ vs. P (v ∷ vs)) u rest
@@ -264,7 +239,7 @@ many-first each count n place xs n″ p″ e =
 -- A method's line holds its task, its subtask count and its subtasks.
 pub record HeadIs (text : List ℕ) (place : ℕ) (m : Method) : Type 0 where
   pub task : m .task ≡ methodHead text place .task
-  pub subtasks : m .subtasks ≡ numbersAt text (methodHead text place .subtasks .count) (methodHead text place .subtasks .at .at)
+  pub subtasks : m .subtasks ≡ numbersAt text (methodHead text place .subtasks .count) (methodHead text place .subtasks .at)
 
 head-is : (text : List ℕ) (place : ℕ) (vs : List Value) (cs : List Valued) (m : Method) → HeadTold text place vs → methodOf vs cs ≡ m → HeadIs text place m
 unfolding methodOf methodHead

@@ -180,8 +180,8 @@ module _ (text : List ℕ) (k : Case) (t level : ℕ) (p : Place) (w : List ℕ)
     task-told m (Walks.refused a) r u v few h ev = h
 
     pub opens : (s : Subtasks) (r : Walked) (u v : List ℕ) → Judged text k p t level (Rattle.tree.specs.declared.fit.Fit.the-variants.Open s next)
-        → k .head .cues ≤ 1000 → WalksList text k (64 - level) (numbersAt text (s .count) (s .at .at)) (next .node) w r u → v ≡ noted n r u → Here r v
+        → k .head .cues ≤ 1000 → WalksList text k (64 - level) (numbersAt text (s .count) (s .at)) (next .node) w r u → v ≡ noted n r u → Here r v
     opens s r u v j few h ev claimed m =
         subst (λ (x : Walk). Told text k n w x r v) (sym (j .1 claimed))
-        (task-told (j .0) (listFrom k (64 - level) (numbersAt text (s .count) (s .at .at)) (n + 1) claimed) r u v few
-        (subst (λ (x : ℕ). ToldAll text k (next .node) w (listFrom k (64 - level) (numbersAt text (s .count) (s .at .at)) x claimed) r u) (b .one) (h claimed m)) ev)
+        (task-told (j .0) (listFrom k (64 - level) (numbersAt text (s .count) (s .at)) (n + 1) claimed) r u v few
+        (subst (λ (x : ℕ). ToldAll text k (next .node) w (listFrom k (64 - level) (numbersAt text (s .count) (s .at)) x claimed) r u) (b .one) (h claimed m)) ev)

@@ -6,16 +6,17 @@ use native.Mathlib.Nat.{add-zero}
 use native.Mathlib.Omega.{arith}
 use lib.ListN.{length, take, drop, length-drop}
 use lib.Seq.{sets}
-use Rattle.rules.specs.Text.{letterAt}
 use Rattle.rules.specs.Case.{Case}
+use Rattle.text.specs.Cursor.{cursor}
+use Rattle.reading.specs.Again.{pastLetter}
 use Rattle.tree.specs.Layout.{marksFrom, planFrom, rowsFrom, rowsPast, directoryOf, marksIn, planIn, rowsIn}
-use Rattle.tree.specs.Numbers.{placeAfter, numbersAt, PlanAt}
+use Rattle.tree.specs.Numbers.{numbersAt, PlanAt}
 use Rattle.tree.proofs.Numbers.{length-numbers, plan-numbers}
 use Rattle.tree.proofs.Stores.{drop-sets, drop-take, take-sets-all, slice-sets-after, slice-sets-before}
 
 module _ (text : List ℕ) (k : Case) (cues place : ℕ) (w : List ℕ) (p : PlanAt text k cues place w) where
   pub plan-length : length (k .plan) ≡ cues
-  plan-length = sym (ap length (plan-numbers text k cues place w p)) ∙ length-numbers text cues (placeAfter (letterAt text place))
+  plan-length = sym (ap length (plan-numbers text k cues place w p)) ∙ length-numbers text cues (cursor (pastLetter text place))
 
   pub plan-stored : planIn cues (sets w planFrom (k .plan)) ≡ k .plan
   unfolding planFrom

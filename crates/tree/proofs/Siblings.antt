@@ -220,13 +220,13 @@ stop-told text k n w a v (Walks.refused b) rest f = f
 -- ---- The loop
 
 abbrev tasksOf : List ℕ → Subtasks → List ℕ
-tasksOf text c = numbersAt text (c .count) (c .at .at)
+tasksOf text c = numbersAt text (c .count) (c .at)
 
 numbers-first : (text : List ℕ) (c : Subtasks) (first : First) → 0 < c .count → first ≡ firstOf text c
     → tasksOf text c ≡ first .task ∷ tasksOf text (first .rest)
 numbers-first text c first h e =
     let one : c .count ≡ suc (c .count - 1) = omega arith in
-    ap (λ (x : ℕ). numbersAt text x (c .at .at)) one ∙ ap (λ (x : First). x .task ∷ tasksOf text (x .rest)) (sym e)
+    ap (λ (x : ℕ). numbersAt text x (c .at)) one ∙ ap (λ (x : First). x .task ∷ tasksOf text (x .rest)) (sym e)
 
 pub fewer : (text : List ℕ) (c : Subtasks) (first : First) → 0 < c .count → first ≡ firstOf text c → first .rest .count < c .count
 fewer text c first h e = let z = ap (λ (x : First). x .rest .count) e in omega arith
@@ -304,7 +304,7 @@ module _ (text : List ℕ) (k : Case) (level : ℕ) where
     ends none =
         let z : c .count ≡ 0 = omega arith in
         subst (λ (l : List ℕ). Done l n w r₁ v₁)
-        (sym (b .split ∙ ap (λ (x : ℕ). b .first ++ numbersAt text x (c .at .at)) z ∙ append-nil (b .first))) (b .walks)
+        (sym (b .split ∙ ap (λ (x : ℕ). b .first ++ numbersAt text x (c .at)) z ∙ append-nil (b .first))) (b .walks)
 
     pub stops : (a : Answer) → r₁ ≡ Refused a → Done all n w (Refused a) v₁
     stops a e =

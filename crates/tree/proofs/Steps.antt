@@ -11,12 +11,13 @@ use lib.Seq.{sets}
 use Rattle.rules.specs.declared.Answer.{Answer}
 use Rattle.rules.specs.declared.Answer.the-variants.{WrongNode, TooDeep, WrongClaim}
 use Rattle.rules.specs.declared.Header.{Header}
-use Rattle.rules.specs.Text.{numberAt, letterAt}
 use Rattle.rules.specs.Case.{Case}
 use Rattle.rules.proofs.Judgement.Sound.{Sound, GoodNode, sound}
 use Rattle.text.specs.declared.Cursor.{Cursor}
+use Rattle.text.specs.Cursor.{cursor}
 use Rattle.reading.specs.declared.again.Again.{Again}
-use Rattle.reading.specs.Again.{AgainAt}
+use Rattle.reading.specs.declared.again.Numbered.{Numbered}
+use Rattle.reading.specs.Again.{pastLetter, numberHere, AgainAt}
 use Rattle.tree.specs.declared.fit.Given.{Given}
 use Rattle.tree.specs.declared.fit.Place.{Place}
 use Rattle.tree.specs.declared.fit.Subtasks.{Subtasks}
@@ -25,25 +26,24 @@ use Rattle.tree.specs.declared.fit.Entry.the-variants.{Task, Empty, Leaf
 use Rattle.tree.specs.declared.fit.MethodHead.{MethodHead}
 use Rattle.tree.specs.declared.fit.Fit.{Fit}
 use Rattle.tree.specs.declared.fit.Fit.the-variants.{Refused, Open, Empty as EmptyFit, Leaf as LeafFit}
-use Rattle.tree.specs.declared.number.Numbered.{Numbered}
 use Rattle.tree.specs.declared.rows.Walked.{Walked}
-use Rattle.tree.specs.Numbers.{numbered, afterLetter, numbersAt}
+use Rattle.tree.specs.Numbers.{numbersAt}
 use Rattle.tree.specs.Fits.{lineAt, Follows, entryOf, entryLine, WithMethod, methodHead, headIn, pickFit, fitOf, deepFit, atLevel, firstOf}
 use Rattle.tree.specs.Standing.{Steady, Beyond, Judged}
 use Rattle.tree.proofs.Judging.{EntryHere, entry-here, good-node, judged-lacking, judged}
 
 -- ---- Lines read again
 
-pub head-read : (text : List ℕ) (place : ℕ) (c : Cursor) (t n : Numbered) → c ≡ afterLetter (letterAt text place)
-    → t ≡ numbered (numberAt text (c .at)) → n ≡ numbered (numberAt text (t .next .at))
+pub head-read : (text : List ℕ) (place : ℕ) (c : Cursor) (t n : Numbered) → c .at ≡ pastLetter text place
+    → t ≡ numberHere text c → n ≡ numberHere text (t .next)
     → record { task = t .value; subtasks = record { count = n .value; at = n .next } } ≡ methodHead text place
 unfolding methodHead
 head-read text place c t n e f g =
-    let f′ = f ∙ ap (λ (x : Cursor). numbered (numberAt text (x .at))) e in
-    let g′ = g ∙ ap (λ (x : Numbered). numbered (numberAt text (x .next .at))) f′ in
+    let f′ = f ∙ ap (λ (p : ℕ). numberHere text (cursor p)) e in
+    let g′ = g ∙ ap (λ (x : Numbered). numberHere text (x .next)) f′ in
     λ j. record { task = f′ j .value; subtasks = record { count = g′ j .value; at = g′ j .next } }
 
-pub first-read : (text : List ℕ) (s : Subtasks) (n : Numbered) → n ≡ numbered (numberAt text (s .at .at))
+pub first-read : (text : List ℕ) (s : Subtasks) (n : Numbered) → n ≡ numberHere text (s .at)
     → record { task = n .value; rest = record { count = s .count - 1; at = n .next } } ≡ firstOf text s
 first-read text s n e = λ j. record { task = e j .value; rest = record { count = s .count - 1; at = e j .next } }
 
@@ -152,25 +152,25 @@ module _ (text : List ℕ) (k : Case) (g : Given) (w : List ℕ) (st : Steady te
 
 -- ---- Storing the plan
 
-pub store-begin : (text w : List ℕ) (cues place : ℕ) → sets w 4104 (numbersAt text cues place) ≡ sets w (4104 + 0) (numbersAt text (cues - 0) place)
-store-begin text w cues place =
+pub store-begin : (text w : List ℕ) (cues : ℕ) (c : Cursor) → sets w 4104 (numbersAt text cues c) ≡ sets w (4104 + 0) (numbersAt text (cues - 0) c)
+store-begin text w cues c =
     let e : cues ≡ cues - 0 = omega arith in
-    ap (λ (c : ℕ). sets w 4104 (numbersAt text c place)) e
+    ap (λ (x : ℕ). sets w 4104 (numbersAt text x c)) e
 
 -- One more action is stored.
-pub store-again : (text w : List ℕ) (i cues place : ℕ) (n : Numbered) → n ≡ numbered (numberAt text place) → i < cues
-    → sets w (4104 + i) (numbersAt text (cues - i) place) ≡ sets (set w (4104 + i) (n .value)) (4104 + (i + 1)) (numbersAt text (cues - (i + 1)) (n .next .at))
-store-again text w i cues place n e h =
-    let c : cues - i ≡ suc (cues - (i + 1)) = omega arith in
+pub store-again : (text w : List ℕ) (i cues : ℕ) (c : Cursor) (n : Numbered) → n ≡ numberHere text c → i < cues
+    → sets w (4104 + i) (numbersAt text (cues - i) c) ≡ sets (set w (4104 + i) (n .value)) (4104 + (i + 1)) (numbersAt text (cues - (i + 1)) (n .next))
+store-again text w i cues c n e h =
+    let l : cues - i ≡ suc (cues - (i + 1)) = omega arith in
     let s : suc (4104 + i) ≡ 4104 + (i + 1) = omega arith in
-    ap (λ (x : ℕ). sets w (4104 + i) (numbersAt text x place)) c
-    ∙ λ j. sets (set w (4104 + i) (sym e j .value)) (s j) (numbersAt text (cues - (i + 1)) (sym e j .next .at))
+    ap (λ (x : ℕ). sets w (4104 + i) (numbersAt text x c)) l
+    ∙ λ j. sets (set w (4104 + i) (sym e j .value)) (s j) (numbersAt text (cues - (i + 1)) (sym e j .next))
 
 -- All are stored.
-pub store-end : (text w w₀ : List ℕ) (i cues place start : ℕ) {plan : List ℕ} {first : ℕ} → i ≤ cues → cues ≤ i
-    → sets w₀ 4104 (numbersAt text cues start) ≡ sets w (4104 + i) (numbersAt text (cues - i) place) → start ≡ first
+pub store-end : (text w w₀ : List ℕ) (i cues : ℕ) (c start : Cursor) {plan : List ℕ} {first : Cursor} → i ≤ cues → cues ≤ i
+    → sets w₀ 4104 (numbersAt text cues start) ≡ sets w (4104 + i) (numbersAt text (cues - i) c) → start ≡ first
     → numbersAt text cues first ≡ plan → w ≡ sets w₀ 4104 plan
-store-end text w w₀ i cues place start h b e s p =
+store-end text w w₀ i cues c start h b e s p =
     let z : cues - i ≡ 0 = omega arith in
-    sym (e ∙ ap (λ (x : ℕ). sets w (4104 + i) (numbersAt text x place)) z)
+    sym (e ∙ ap (λ (x : ℕ). sets w (4104 + i) (numbersAt text x c)) z)
     ∙ ap (λ (l : List ℕ). sets w₀ 4104 l) (ap (numbersAt text cues) s ∙ p)

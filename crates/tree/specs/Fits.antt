@@ -5,10 +5,11 @@ use Prim.Native.Nat.{ℕ, _+_, _-_, _≤_, _<_}
 use lib.Dec.{eqb, ltb}
 use lib.ListN.{getD}
 use Rattle.rules.specs.declared.Answer.{Answer}
-use Rattle.rules.specs.Text.{numberAt, letterAt}
 use Rattle.rules.specs.Case.{NodeLine, D, E, L, Case}
+use Rattle.text.specs.declared.Cursor.{Cursor}
 use Rattle.text.specs.Cursor.{cursor}
 use Rattle.reading.specs.declared.again.Again.{Again}
+use Rattle.reading.specs.Again.{pastLetter, numberHere}
 use Rattle.reading.specs.Directory.{methodsFrom}
 use Rattle.tree.specs.declared.fit.Place.{Place}
 use Rattle.tree.specs.declared.fit.Subtasks.{Subtasks}
@@ -19,7 +20,6 @@ use Rattle.tree.specs.declared.fit.Fit.{Fit}
 use Rattle.tree.specs.declared.fit.Fit.the-variants.{Refused, Open, Empty as EmptyFit, Leaf as LeafFit}
 use Rattle.tree.specs.declared.walk.First.{First}
 use Rattle.tree.specs.Layout.{NodesFrom}
-use Rattle.tree.specs.Numbers.{valueIn, nextIn, placeAfter}
 
 -- The line of a node, where the P line has the number `plan`.
 unfoldable pub lineAt : ℕ → ℕ → ℕ
@@ -51,19 +51,19 @@ WithMethod n (Empty m g) = m < n
 WithMethod n (Leaf a i) = Unit {0}
 
 -- Where the compound task of a method line is, where its subtask count, and where its subtasks start.
-abbrev pub taskPlace : List ℕ → ℕ → ℕ
-taskPlace text place = placeAfter (letterAt text place)
+abbrev pub taskPlace : List ℕ → ℕ → Cursor
+taskPlace text place = cursor (pastLetter text place)
 
-abbrev pub countPlace : List ℕ → ℕ → ℕ
-countPlace text place = nextIn (numberAt text (taskPlace text place))
+abbrev pub countPlace : List ℕ → ℕ → Cursor
+countPlace text place = numberHere text (taskPlace text place) .next
 
-abbrev pub subtaskPlace : List ℕ → ℕ → ℕ
-subtaskPlace text place = nextIn (numberAt text (countPlace text place))
+abbrev pub subtaskPlace : List ℕ → ℕ → Cursor
+subtaskPlace text place = numberHere text (countPlace text place) .next
 
 unfoldable pub methodHead : List ℕ → ℕ → MethodHead
 methodHead text place = record {
-  task = valueIn (numberAt text (taskPlace text place));
-  subtasks = record { count = valueIn (numberAt text (countPlace text place)); at = cursor (subtaskPlace text place) };
+  task = numberHere text (taskPlace text place) .value;
+  subtasks = record { count = numberHere text (countPlace text place) .value; at = subtaskPlace text place };
 }
 
 abbrev pub headIn : List ℕ → List ℕ → ℕ → MethodHead
@@ -95,6 +95,6 @@ atLevel level fit deep = pickFit (ltb level 65) fit (deepFit fit deep)
 -- The first of a method's subtasks, and the others.
 abbrev pub firstOf : List ℕ → Subtasks → First
 firstOf text s = record {
-  task = valueIn (numberAt text (s .at .at));
-  rest = record { count = s .count - 1; at = cursor (nextIn (numberAt text (s .at .at))) };
+  task = numberHere text (s .at) .value;
+  rest = record { count = s .count - 1; at = numberHere text (s .at) .next };
 }

@@ -79,7 +79,7 @@ abbrev pub Judged : List ℕ → Case → Place → ℕ → ℕ → Fit → Type
 Judged text k p t level (RefusedFit a) = (claimed : List ℕ) → nodeFrom k (65 - level) t (p .node) claimed ≡ Walk.refused a
 Judged text k p t level (Open s next) =
     (m : ℕ) × ((claimed : List ℕ) → nodeFrom k (65 - level) t (p .node) claimed
-    ≡ asTask m (listFrom k (64 - level) (numbersAt text (s .count) (s .at .at)) (p .node + 1) claimed))
+    ≡ asTask m (listFrom k (64 - level) (numbersAt text (s .count) (s .at)) (p .node + 1) claimed))
     × (level < 65) × (0 < s .count) × Beyond text k p next
 Judged text k p t level (EmptyFit g next) =
     (m : ℕ) × ((claimed : List ℕ) → nodeFrom k (65 - level) t (p .node) claimed

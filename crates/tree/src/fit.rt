@@ -7,7 +7,6 @@ ghost use Rattle.reading.specs.Directory.{methodsFrom};
 ghost use Rattle.reading.specs.TheCase.{caseOf};
 ghost use Rattle.tree.specs.Fits.{entryOf, methodHead, fitOf, WithMethod, atLevel, Follows, lineAt};
 ghost use Rattle.tree.specs.Standing.{Steady, Judged};
-use crate::number;
 use reading::Again;
 use reading::read_again;
 use rules::Answer;
@@ -92,9 +91,9 @@ fn method_head(text: &[u8], work: &[u32], m: u32) -> MethodHead
 {
     let i = 1024 + m as usize;
     let at = work[i] as usize;
-    let c = number::after_letter(text, Cursor { at });
-    let task = number::number_at(text, c);
-    let count = number::number_at(text, task.next);
+    let c = reading::after_letter(text, Cursor { at });
+    let task = reading::number_again(text, c);
+    let count = reading::number_again(text, task.next);
     let at = count.next;
     MethodHead {
         task: task.value,

@@ -2,7 +2,7 @@
 mod fit;
 mod layout;
 mod marks;
-mod number;
+mod plan;
 mod rows;
 mod walk;
 
@@ -10,6 +10,6 @@ pub use layout::ROWS;
 pub use layout::SUBTASKS;
 pub use marks::Unclaimed;
 pub use marks::least_unclaimed;
-pub use number::store_plan;
+pub use plan::store_plan;
 pub use walk::TreeWalk;
 pub use walk::walk_tree;

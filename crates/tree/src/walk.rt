@@ -14,7 +14,6 @@ use crate::fit::Fit;
 use crate::fit::Given;
 use crate::fit::Place;
 use crate::fit::Subtasks;
-use crate::number;
 use crate::rows;
 use crate::rows::Walked;
 use rules::Answer;
@@ -32,7 +31,7 @@ fn first_of(text: &[u8], s: Subtasks) -> First
     ensures { λ r. ⌜ r ≡ firstOf (now (text .entry)) s ⌝ }
 {
     let at = s.at;
-    let n = number::number_at(text, at);
+    let n = reading::number_again(text, at);
     let next = n.next;
     First {
         task: n.value,
@@ -78,7 +77,7 @@ fn walk_subtasks(
 ) -> Walked
     requires { ⌜ Steady (now text) (caseOf (now text)) g (now work) × Follows (now text) (caseOf (now text)) p ⌝ }
     requires { ⌜ (level ≤ 64) × (0 < subtasks .count) ⌝ }
-    ensures { λ r. ⌜ WalksList (now (text .entry)) (caseOf (now (text .entry))) (64 - level) (numbersAt (now (text .entry)) (subtasks .count) (subtasks .at .at)) (p .node) (now (work .entry)) r (now (work .exit)) ⌝ }
+    ensures { λ r. ⌜ WalksList (now (text .entry)) (caseOf (now (text .entry))) (64 - level) (numbersAt (now (text .entry)) (subtasks .count) (subtasks .at)) (p .node) (now (work .entry)) r (now (work .exit)) ⌝ }
 {
     let first = first_of(text, subtasks);
     let mut rest = first.rest;

@@ -23,17 +23,17 @@ cast-at c = omega (arith, c .shared-slice-known3 .given (1024 + c .before .befor
 after-letter-requires : tie.Need-after-letter-requires
 after-letter-requires c κs = search needs
 
-number-at-requires : tie.Need-number-at-requires
-number-at-requires c κs = search needs
+number-again-requires : tie.Need-number-again-requires
+number-again-requires c κs = search needs
 
-number-at-requires-2 : tie.Need-number-at-requires-2
-number-at-requires-2 c κs = search needs
+number-again-requires-2 : tie.Need-number-again-requires-2
+number-again-requires-2 c κs = search needs
 
 returns : tie.Need-returns
 unfolding methodsFrom
 returns c = let a = c .before .before .before .before .before .before .before .args in
-    head-read (a .text .now) (getD (a .work .now) (1024 + a .m) 0) (c .before .before .before .after-letter .result) (c .before .before .number-at .result) (c .before .number-at2 .result)
-    (c .before .before .before .after-letter .ensures) (c .before .before .number-at .ensures) (c .before .number-at2 .ensures)
+    head-read (a .text .now) (getD (a .work .now) (1024 + a .m) 0) (c .before .before .before .after-letter .result) (c .before .before .number-again .result) (c .before .number-again2 .result)
+    (c .before .before .before .after-letter .ensures) (c .before .before .number-again .ensures) (c .before .number-again2 .ensures)
 
 pub method-head-spec : {M : Type 1} → statement M
 method-head-spec =
@@ -44,6 +44,6 @@ method-head-spec =
     shared-slice-read-at
     cast-at
     after-letter-requires
-    number-at-requires
-    number-at-requires-2
+    number-again-requires
+    number-again-requires-2
     returns)

@@ -198,11 +198,11 @@ walk-subtasks-loop-holds t c = λ all n w b. b
 
 -- At the loop the first of the call's subtasks are walked.
 walk-subtasks-begun : (t : ℕ) (c : walk-subtasks-lts.At-loop (walk-subtasks-calls t) (walk-subtasks-at t) walk-subtasks.Post walk-subtasks-Inv-loop walk-subtasks-μ-loop)
-    → let a = c .before .before .before .before .before .before .before .before .before .args in Begun (a .text .now) (caseOf (a .text .now)) (a .level) (numbersAt (a .text .now) (a .subtasks .count) (a .subtasks .at .at)) (c .loop .rest) (a .p .node) (a .work .now) (c .loop .walked) (c .loop .work)
+    → let a = c .before .before .before .before .before .before .before .before .before .args in Begun (a .text .now) (caseOf (a .text .now)) (a .level) (numbersAt (a .text .now) (a .subtasks .count) (a .subtasks .at)) (c .loop .rest) (a .p .node) (a .work .now) (c .loop .walked) (c .loop .work)
 walk-subtasks-begun t c =
     let s = c .before .before .before .before .before .before .before .before .before in
     let a = s .args in
-    c .loop .inv (numbersAt (a .text .now) (a .subtasks .count) (a .subtasks .at .at)) (a .p .node) (a .work .now)
+    c .loop .inv (numbersAt (a .text .now) (a .subtasks .count) (a .subtasks .at)) (a .p .node) (a .work .now)
     (begins (a .text .now) (caseOf (a .text .now)) (a .level) (a .subtasks) (c .before .before .before .before .before .before .first-of .result) (a .p .node) (a .work .now) (c .before .before .before .walk-node .result) (c .before .before .before .walk-node .last .1 .1 .0) (s .pre .1 .1 .1) (c .before .before .before .before .before .before .first-of .ensures) (c .before .before .before .walk-node .ensures) (c .before .before .before .walk-node .kept .1 .1 .0))
 
 walk-subtasks-enum-known-walked : (t : ℕ) → walk-subtasks-lts.Need-enum-known-walked (walk-subtasks-calls t) (walk-subtasks-at t) walk-subtasks.Post walk-subtasks-Inv-loop walk-subtasks-μ-loop

@@ -1,8 +1,9 @@
 -- `after_letter`: by what the cursor read. Assumes nothing.
-use Rattle.replay.proofs.Lines.{letter-read}
-use Rattle.replay.proofs.again.after_letter.Statement.{statement}
-use Rattle.replay.proofs.again.after_letter.Tie as tie
-use Rattle.text.specs.declared.Letter.the-variants.{Byte, Wrong}
+use Rattle.reading.proofs.Rereading.{letter-of}
+use Rattle.reading.specs.Again.{pastLetter}
+use Rattle.rules.specs.Text.{letterAt}
+use Rattle.reading.proofs.again.after_letter.Statement.{statement}
+use Rattle.reading.proofs.again.after_letter.Tie as tie
 use borrow.Author.Needs.{needs}
 use mathlib.Core.Path.{sym, _∙_}
 
@@ -16,14 +17,16 @@ enum-told : tie.Need-enum-told
 enum-told c = search needs
 
 returns : tie.Need-returns
+unfolding pastLetter
 returns c =
     let a = c .before .before .before .before .before .args in
-    letter-read (a .text .now) (a .c) (Byte (c .before .next .given .0 .0) (c .before .next .given .0 .1 .0)) (sym (c .before .next .given .1) ∙ c .before .before .before .letter .ensures)
+    letter-of (a .c) (letterAt (a .text .now) (a .c .at)) (sym (c .before .next .given .1) ∙ c .before .before .before .letter .ensures)
 
 returns-2 : tie.Need-returns-2
+unfolding pastLetter
 returns-2 c =
     let a = c .before .before .before .before .args in
-    letter-read (a .text .now) (a .c) Wrong (sym (c .enum-told .given .1) ∙ c .before .before .letter .ensures)
+    letter-of (a .c) (letterAt (a .text .now) (a .c .at)) (sym (c .enum-told .given .1) ∙ c .before .before .letter .ensures)
 
 pub after-letter-spec : {M : Type 1} → statement M
 after-letter-spec =

@@ -1,10 +1,10 @@
 -- The invariant: the plan's actions stored from the start are those left stored from here. Assumes nothing.
 use Prim.Native.Nat.{_+_, _-_, _≤_}
-use Rattle.text.specs.declared.Cursor.{Cursor}
+use Rattle.text.specs.Cursor.{cursor}
 use Rattle.tree.proofs.Numbers.{plan-numbers}
 use Rattle.tree.proofs.Steps.{store-begin, store-again, store-end}
-use Rattle.tree.proofs.number.store_plan.Statement.{statement}
-use Rattle.tree.proofs.number.store_plan.Tie as tie
+use Rattle.tree.proofs.plan.store_plan.Statement.{statement}
+use Rattle.tree.proofs.plan.store_plan.Tie as tie
 use Rattle.tree.specs.Layout.{planFrom}
 use Rattle.reading.specs.TheCase.{caseOf}
 use Rattle.tree.specs.Numbers.{numbersAt}
@@ -16,7 +16,7 @@ use native.Mathlib.Omega.{arith}
 
 abbrev Inv-loop : tie.InvT-loop
 Inv-loop text cues work₀ c₀ i₀ work c i = (i ≤ cues) × (length work ≡ length work₀)
-    × (sets work₀ 4104 (numbersAt text cues (c₀ .at)) ≡ sets work (4104 + i) (numbersAt text (cues - i) (c .at)))
+    × (sets work₀ 4104 (numbersAt text cues c₀) ≡ sets work (4104 + i) (numbersAt text (cues - i) c))
 
 abbrev μ-loop : tie.MeasureT-loop
 μ-loop text cues work₀ c₀ i₀ work c i = cues - i
@@ -25,10 +25,10 @@ after-letter-requires : tie.Need-after-letter-requires Inv-loop μ-loop
 after-letter-requires c κs = search needs
 
 loop-holds : tie.Need-loop-holds Inv-loop μ-loop
-loop-holds c = let a = c .before .before .before .args in (omega arith, refl, store-begin (a .text .now) (a .work .now) (a .cues) (c .after-letter .result .at))
+loop-holds c = let a = c .before .before .before .args in (omega arith, refl, store-begin (a .text .now) (a .work .now) (a .cues) (c .after-letter .result))
 
-number-at-requires : tie.Need-number-at-requires Inv-loop μ-loop
-number-at-requires c κs = search needs
+number-again-requires : tie.Need-number-again-requires Inv-loop μ-loop
+number-again-requires c κs = search needs
 
 cast-place : tie.Need-cast-place Inv-loop μ-loop
 cast-place c = search needs
@@ -52,8 +52,8 @@ loop-again : tie.Need-loop-again Inv-loop μ-loop
 loop-again c = let a = c .before .before .before .before .before .before .before .args in
     let l = c .before .before .before .loop in (
       omega (arith, c .before .before .loop-test .taken),
-      length-set (l .work) (4104 + l .i) (c .before .number-at .result .value) ∙ l .inv .1,
-      l .inv .2 ∙ store-again (a .text .now) (l .work) (l .i) (a .cues) (l .c .at) (c .before .number-at .result) (c .before .number-at .ensures) (c .before .before .loop-test .taken),
+      length-set (l .work) (4104 + l .i) (c .before .number-again .result .value) ∙ l .inv .1,
+      l .inv .2 ∙ store-again (a .text .now) (l .work) (l .i) (a .cues) (l .c) (c .before .number-again .result) (c .before .number-again .ensures) (c .before .before .loop-test .taken),
     )
 
 same-length : tie.Need-same-length Inv-loop μ-loop
@@ -64,8 +64,8 @@ unfolding planFrom
 returns c = let s = c .before .before .before .before .before in
     let a = s .args in
     let l = c .before .loop in
-    store-end (a .text .now) (l .work) (a .work .now) (l .i) (a .cues) (l .c .at) (c .before .before .after-letter .result .at) (l .inv .0) (c .loop-test .left) (l .inv .2)
-    (ap (λ (x : Cursor). x .at) (c .before .before .after-letter .ensures)) (plan-numbers (a .text .now) (caseOf (a .text .now)) (a .cues) (a .plan .at) (a .work .now) (s .pre))
+    store-end (a .text .now) (l .work) (a .work .now) (l .i) (a .cues) (l .c) (c .before .before .after-letter .result) (l .inv .0) (c .loop-test .left) (l .inv .2)
+    (ap cursor (c .before .before .after-letter .ensures)) (plan-numbers (a .text .now) (caseOf (a .text .now)) (a .cues) (a .plan .at) (a .work .now) (s .pre))
 
 pub store-plan-spec : {M : Type 1} → statement M
 store-plan-spec =
@@ -75,7 +75,7 @@ store-plan-spec =
     μ-loop
     after-letter-requires
     loop-holds
-    number-at-requires
+    number-again-requires
     cast-place
     add-place
     mul-work
