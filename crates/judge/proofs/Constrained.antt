@@ -33,45 +33,40 @@ module _ (text : List ℕ) (o : Opened) (states work : List ℕ) (x : P.Claimed 
   w : P.Walked text o states work
   w = x .walked
 
-  con-case : Con.caseIn text ≡ caseOf text
-  unfolding Con.caseIn
-  con-case = refl
-
   con-tree : Con.treeIn text ≡ w .tree
   unfolding Con.treeIn Lay.treeOf w
-  con-tree = (λ j. Lay.treeOf (walkTree (con-case j) (mayClaim (con-case j .plan)))) ∙ ap Lay.treeOf (w .walks)
+  con-tree = ap Lay.treeOf (w .walks)
 
-  pub constraints-ready : Ready (Con.caseIn text) (Con.treeIn text) text (o .past) (o .header) (o .«plan_line») (o .nodes .at) states work
+  pub constraints-ready : Ready (caseOf text) (Con.treeIn text) text (o .«plan_line») (o .nodes .at) states work × (o .header ≡ caseOf text .head)
   unfolding w
-  constraints-ready =
-      subst (λ (k : Case). Ready k (Con.treeIn text) text (o .past) (o .header) (o .«plan_line») (o .nodes .at) states work) (sym con-case)
-      (subst (λ (t : Tree). Ready (caseOf text) t text (o .past) (o .header) (o .«plan_line») (o .nodes .at) states work) (sym con-tree)
-      (record {
-        reads = (w .opens .line, w .opens .place, w .opens .reads);
-        heads = w .opens .head;
-        plans = w .opens .planned;
-        initial = w .initial;
-        plan = o .plan .at;
-        finds = w .opens .finds;
-        feeds = w .opens .feeds;
-        room = w .opens .workRoom;
-        walks = (w .past, w .left, w .claimed, w .walks);
-        rowsHeld = w .rowed;
-        stateSize = length states;
-        stateRoom = w .run .stateRoom;
-        statesHeld = w .run .statesHeld;
-      }))
+  constraints-ready = (
+    subst (λ (t : Tree). Ready (caseOf text) t text (o .«plan_line») (o .nodes .at) states work) (sym con-tree)
+        (record {
+          reads = (w .opens .line, w .opens .place, w .opens .reads);
+          plans = w .opens .planned;
+          initial = w .initial;
+          plan = o .plan .at;
+          finds = w .opens .finds;
+          room = w .opens .workRoom;
+          walks = (w .past, w .left, w .claimed, w .walks);
+          rowsHeld = w .rowed;
+          stateSize = length states;
+          stateRoom = w .run .stateRoom;
+          statesHeld = w .run .statesHeld;
+        }),
+    w .opens .head,
+  )
 
-  module _ (r : Kept) (said : r ≡ keptAs (brokenOfTree (Con.caseIn text) (Con.treeIn text))) where
-    broken : brokenOfTree (Con.caseIn text) (Con.treeIn text) ≡ firstBroken (caseOf text) (holdsIn (statesOf (caseOf text))) (caseOf text .planLine + 1) (preorder (w .tree))
+  module _ (r : Kept) (said : r ≡ keptAs (brokenOfTree (caseOf text) (Con.treeIn text))) where
+    broken : brokenOfTree (caseOf text) (Con.treeIn text) ≡ firstBroken (caseOf text) (holdsIn (statesOf (caseOf text))) (caseOf text .planLine + 1) (preorder (w .tree))
     unfolding brokenOfTree
-    broken = λ j. brokenOfTree (con-case j) (con-tree j)
+    broken = λ j. brokenOfTree (caseOf text) (con-tree j)
 
     pub kept-not : (a : Answer) → r ≡ Broken a → judgeTree (caseOf text) ≡ wrong a
     unfolding w
-    kept-not a e = go (brokenOfTree (Con.caseIn text) (Con.treeIn text)) refl
+    kept-not a e = go (brokenOfTree (caseOf text) (Con.treeIn text)) refl
       where
-        go : (y : Option Answer) → brokenOfTree (Con.caseIn text) (Con.treeIn text) ≡ y → judgeTree (caseOf text) ≡ wrong a
+        go : (y : Option Answer) → brokenOfTree (caseOf text) (Con.treeIn text) ≡ y → judgeTree (caseOf text) ≡ wrong a
         go none q = let v : Broken a ≡ All = sym e ∙ said ∙ ap keptAs q in let z : _≡_ {A = ℕ} 0 1 = cc in absurd (omega arith)
         go (some b) q =
             let v : Broken a ≡ Broken b = sym e ∙ said ∙ ap keptAs q in
@@ -81,9 +76,9 @@ module _ (text : List ℕ) (o : Opened) (states work : List ℕ) (x : P.Claimed 
 
     kept-all : r ≡ All → judgeTree (caseOf text) ≡ right (caseOf text) (w .tree)
     unfolding w
-    kept-all e = go (brokenOfTree (Con.caseIn text) (Con.treeIn text)) refl
+    kept-all e = go (brokenOfTree (caseOf text) (Con.treeIn text)) refl
       where
-        go : (y : Option Answer) → brokenOfTree (Con.caseIn text) (Con.treeIn text) ≡ y → judgeTree (caseOf text) ≡ right (caseOf text) (w .tree)
+        go : (y : Option Answer) → brokenOfTree (caseOf text) (Con.treeIn text) ≡ y → judgeTree (caseOf text) ≡ right (caseOf text) (w .tree)
         go none q = tree-right (caseOf text) (w .tree) (w .past) (w .left) (w .claimed) (w .walks) (x .claims) (sym broken ∙ q)
         go (some b) q = let v : All ≡ Broken b = sym e ∙ said ∙ ap keptAs q in let z : _≡_ {A = ℕ} 0 1 = cc in absurd (omega arith)
 

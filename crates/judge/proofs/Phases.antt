@@ -54,18 +54,17 @@ refused-all s w f r e =
 
 -- ---- Reading
 
-opened : Header → ℕ → ℕ → Cursor → Cursor → Opened
-opened h past l p ns = record { header = h; past = past; «plan_line» = l; plan = p; nodes = ns }
+opened : Header → ℕ → Cursor → Cursor → Opened
+opened h l p ns = record { header = h; «plan_line» = l; plan = p; nodes = ns }
 
 module _ (text d rest : List ℕ) (r : CaseRead) (as-read : ReadsAs text (readCase text) r d) where
-  pub read-opens : (h : Header) (l past : ℕ) (i p ns : Cursor) → r ≡ CaseIs h l i p ns → length text ≤ textMost → length d ≡ 3072 → workNeed ≤ length (d ++ rest)
-      → ((q : ℕ) → feedFollows text q ≡ ltb q past)
-      → Opens text (record { header = h; past = past; «plan_line» = l; plan = p; nodes = ns }) (i .at) (d ++ rest)
+  pub read-opens : (h : Header) (l : ℕ) (i p ns : Cursor) → r ≡ CaseIs h l i p ns → length text ≤ textMost → length d ≡ 3072 → workNeed ≤ length (d ++ rest)
+      → Opens text (record { header = h; «plan_line» = l; plan = p; nodes = ns }) (i .at) (d ++ rest)
   unfolding caseOf
-  read-opens h l past i p ns e short whole room feeds = go (readCase text) refl as-read
+  read-opens h l i p ns e short whole room = go (readCase text) refl as-read
     where
       go : (x : C.Read Case) → readCase text ≡ x → ReadsAs text x r d
-          → Opens text (record { header = h; past = past; «plan_line» = l; plan = p; nodes = ns }) (i .at) (d ++ rest)
+          → Opens text (record { header = h; «plan_line» = l; plan = p; nodes = ns }) (i .at) (d ++ rest)
       go (C.read k n place) q w =
           let here : caseOf text ≡ k = ap caseIn q in
           let same : CaseIs h l i p ns ≡ CaseIs (k .head) (k .planLine) (w .0) (w .1) (w .2) = sym e ∙ w .3 in
@@ -87,7 +86,6 @@ module _ (text d rest : List ℕ) (r : CaseRead) (as-read : ReadsAs text (readCa
             reads = q ∙ ap (λ (c : Case). C.read c n place) (sym here);
             head = head ∙ ap (λ (c : Case). c .head) (sym here);
             planned = line ∙ ap (λ (c : Case). c .planLine) (sym here);
-            feeds = feeds;
             finds = subst (λ (c : Case). Finds text c (d ++ rest) (i .at) (p .at) (ns .at)) (sym here)
                 (finds-front text k d rest (i .at) (p .at) (ns .at) (good .head-good .few-actions) (good .head-good .few-methods) whole found);
           }
@@ -139,7 +137,6 @@ module _ (text : List ℕ) (o : Opened) (initial : ℕ) (work : List ℕ) (x : O
         reads = x .reads;
         head = x .head;
         planned = x .planned;
-        feeds = x .feeds;
         finds = finds-kept text (caseOf text) work v initial (o .plan .at) (o .nodes .at) (good .few-actions) (good .few-methods) e (x .finds);
       }
 

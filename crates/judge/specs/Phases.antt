@@ -33,7 +33,6 @@ pub record Opens (text : List ℕ) (o : Opened) (initial : ℕ) (work : List ℕ
   pub reads : readCase text ≡ C.read (caseOf text) line place
   pub head : o .header ≡ caseOf text .head
   pub planned : o .«plan_line» ≡ caseOf text .planLine
-  pub feeds : (p : ℕ) → feedFollows text p ≡ ltb p (o .past)
   pub finds : Finds text (caseOf text) work initial (o .plan .at) (o .nodes .at)
 
 -- Past the directory the work space is zero.

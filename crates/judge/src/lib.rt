@@ -22,10 +22,9 @@ use text::Cursor;
 use tree::TreeWalk;
 use tree::Unclaimed;
 
-// A case that was read: its header, the place past the text's last line feed, the number of its P line, and where its lines start.
+// A case that was read: its header, the number of its P line, and where its lines start.
 pub struct Opened {
     pub header: Header,
-    pub past: usize,
     pub plan_line: u32,
     pub plan: Cursor,
     pub nodes: Cursor,
@@ -51,7 +50,7 @@ fn judge_constraints(text: &[u8], o: Opened, states: &mut [u64], work: &mut [u32
 {
     let header = o.header;
     let nodes = o.nodes;
-    let kept = constraints::first_broken(text, o.past, header, o.plan_line, nodes, states, work);
+    let kept = constraints::first_broken(text, header, o.plan_line, nodes, states, work);
     match kept {
         Kept::All => {
             records::write_records(text, header, nodes, work);
@@ -148,7 +147,6 @@ fn judge_lent(text: &[u8], states: &mut [u64], work: &mut [u32]) -> Answer
         } => {
             let o = Opened {
                 header,
-                past: text::past_last_feed(text),
                 plan_line,
                 plan,
                 nodes,

@@ -28,10 +28,6 @@ numberOr c (number v next) = record { value = v; next = cursor next }
 numberOr c notPlain = record { value = 0; next = c }
 numberOr c missing = record { value = 0; next = c }
 
--- The number at a cursor.
-abbrev pub numberHere : List ℕ → Cursor → Numbered
-numberHere text c = numberOr c (numberAt text (c .at))
-
 abbrev pub lineOr : Cursor → Ending → Cursor
 lineOr c (ended next) = cursor next
 lineOr c surplus = c

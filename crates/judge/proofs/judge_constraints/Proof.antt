@@ -22,7 +22,7 @@ write-records-requires : tie.Need-write-records-requires
 write-records-requires c κs = let a = c .before .before .before .before .before .before .before .before .before .before .before .before .before .args in
     let b = c .before .before .before .before .before .first-broken in
     let p = c .before .before .before .before .before .before .before .before .before .before .before .before .before .pre in
-    let v = b .last .1 .1 .1 .1 .1 .1 .0 in (
+    let v = b .last .1 .1 .1 .1 .1 .0 in (
       records-ask (a .text .now) (a .o) (a .states .now) (a .work .now) p (b .result) (b .ensures .0) v (b .ensures .1),
       nodes-ask (a .text .now) (a .o) (a .states .now) (a .work .now) p (b .result) (b .ensures .0) v (b .ensures .1),
     )
@@ -43,7 +43,7 @@ returns : tie.Need-returns
 returns c = let a = c .before .before .before .before .before .before .before .before .before .before .before .before .before .before .before .before .args in
     let b = c .before .before .before .before .before .before .before .before .first-broken in
     let p = c .before .before .before .before .before .before .before .before .before .before .before .before .before .before .before .before .pre in
-    let v = b .last .1 .1 .1 .1 .1 .1 .0 in
+    let v = b .last .1 .1 .1 .1 .1 .0 in
     let r = records-done (a .text .now) (a .o) (a .states .now) (a .work .now) p (b .result) (b .ensures .0) v (b .ensures .1) (c .before .before .before .before .enum-told .given .1) (c .before .before .write-records .last .1 .1 .1 .0) (c .before .before .write-records .ensures) in
     (r .0, (r .1, r .2))
 
@@ -59,7 +59,7 @@ returns-2 c = let a = c .before .before .before .before .before .before .before 
     let p = c .before .before .before .before .before .before .before .before .before .before .before .before .before .before .before .before .before .before .before .before .pre in
     let x = c .before .before .before .before .before .before .before .before .kept .given in
     let z = c .before .before .before .before .refuse in
-    let kept : length (b .last .1 .1 .1 .1 .1 .1 .0) ≡ length (a .work .now) = b .kept .1 .1 .1 .1 .1 .1 .0 in
+    let kept : length (b .last .1 .1 .1 .1 .1 .0) ≡ length (a .work .now) = b .kept .1 .1 .1 .1 .1 .0 in
     let q = kept-not (a .text .now) (a .o) (a .states .now) (a .work .now) p (b .result) (b .ensures .0) (x .0 .0) (x .1) in
     let r = refused-all (length (a .states .now)) (length (a .work .now)) (judgeTree (caseOf (a .text .now))) (x .0 .0) q in
     (z .ensures .0 ∙ r .0, (z .ensures .1 .0 ∙ r .1, z .ensures .1 .1 ∙ ap (λ (n : ℕ). replicate n 0) kept ∙ r .2))

@@ -33,23 +33,20 @@ read-case-requires c κs = let p = c .before .before .before .before .pre in
 enum-known-header : tie.Need-enum-known-header
 enum-known-header c = search needs
 
-past-last-feed-requires : tie.Need-past-last-feed-requires
-past-last-feed-requires c κs = search needs
-
 judge-run-requires : tie.Need-judge-run-requires
 unfolding workNeed
-judge-run-requires c κs = let a = c .before .before .before .before .before .before .before .before .before .before .before .before .before .args in
-    let p = c .before .before .before .before .before .before .before .before .before .before .before .before .before .pre in
-    let x = c .before .before .before .before .header .given in
-    let b = c .before .before .before .before .before .before .before .before .read-case in
+judge-run-requires c κs = let a = c .before .before .before .before .before .before .before .before .before .before .before .before .args in
+    let p = c .before .before .before .before .before .before .before .before .before .before .before .before .pre in
+    let x = c .before .before .before .header .given in
+    let b = c .before .before .before .before .before .before .before .read-case in
     let d = b .last .1 .0 in
     let room = p .workRoom in
     let kept : length d ≡ length (take 3072 (a .work .now)) = b .kept .1 .0 in
     let whole : length d ≡ 3072 = omega (arith, length-take 3072 (a .work .now)) in
     let size = front-size d (a .work .now) whole (omega arith) in
     record {
-      opens = read-opens (a .text .now) d (drop 3072 (a .work .now)) (b .result) (b .ensures) (x .0 .0) (x .0 .1 .0) (c .before .before .past-last-feed .result) (x .0 .1 .1 .0) (x .0 .1 .1 .1 .0)
-          (x .0 .1 .1 .1 .1 .0) (x .1) (p .short) whole (omega arith) (c .before .before .past-last-feed .ensures .0);
+      opens = read-opens (a .text .now) d (drop 3072 (a .work .now)) (b .result) (b .ensures) (x .0 .0) (x .0 .1 .0) (x .0 .1 .1 .0) (x .0 .1 .1 .1 .0)
+          (x .0 .1 .1 .1 .1 .0) (x .1) (p .short) whole (omega arith);
       stateRoom = p .stateRoom;
       statesZero = p .statesZero;
       unused = unused-front d (a .work .now) whole (omega arith) (p .workZero);
@@ -69,18 +66,18 @@ same-length-2 c = search needs
 
 returns : tie.Need-returns
 unfolding workNeed
-returns c = let a = c .before .before .before .before .before .before .before .before .before .before .before .before .before .before .before .before .before .before .args in
-    let p = c .before .before .before .before .before .before .before .before .before .before .before .before .before .before .before .before .before .before .pre in
-    let x = c .before .before .before .before .before .before .before .before .before .header .given in
-    let b = c .before .before .before .before .before .before .before .before .before .before .before .before .before .read-case in
+returns c = let a = c .before .before .before .before .before .before .before .before .before .before .before .before .before .before .before .before .before .args in
+    let p = c .before .before .before .before .before .before .before .before .before .before .before .before .before .before .before .before .before .pre in
+    let x = c .before .before .before .before .before .before .before .before .header .given in
+    let b = c .before .before .before .before .before .before .before .before .before .before .before .before .read-case in
     let z = c .before .before .before .before .judge-run in
     let d = b .last .1 .0 in
     let room = p .workRoom in
     let kept : length d ≡ length (take 3072 (a .work .now)) = b .kept .1 .0 in
     let whole : length d ≡ 3072 = omega (arith, length-take 3072 (a .work .now)) in
     let size = front-size d (a .work .now) whole (omega arith) in
-    let o = read-opens (a .text .now) d (drop 3072 (a .work .now)) (b .result) (b .ensures) (x .0 .0) (x .0 .1 .0) (c .before .before .before .before .before .before .before .past-last-feed .result) (x .0 .1 .1 .0) (x .0 .1 .1 .1 .0)
-    (x .0 .1 .1 .1 .1 .0) (x .1) (p .short) whole (omega arith) (c .before .before .before .before .before .before .before .past-last-feed .ensures .0) in
+    let o = read-opens (a .text .now) d (drop 3072 (a .work .now)) (b .result) (b .ensures) (x .0 .0) (x .0 .1 .0) (x .0 .1 .1 .0) (x .0 .1 .1 .1 .0)
+    (x .0 .1 .1 .1 .1 .0) (x .1) (p .short) whole (omega arith) in
     let same = text-reads judgeTree (a .text .now) (caseOf (a .text .now)) (o .line) (o .place) (p .short) (o .reads) in (
       z .ensures .0 ∙ ap answerOf (sym same),
       (z .ensures .1 .0 ∙ ap (λ (f : Found Tree). statesAfter (length (a .states .now)) f) (sym same), z .ensures .1 .1 ∙ (λ j. recordsAfter (size j) (sym same j))),
@@ -116,7 +113,6 @@ judge-lent-spec =
     slice-aggregate-read-case
     read-case-requires
     enum-known-header
-    past-last-feed-requires
     judge-run-requires
     enum-known-answer
     refuse-requires
