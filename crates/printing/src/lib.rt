@@ -1,22 +1,23 @@
 // The programs' line: "prints Y,k,n or R,number,line,item and a line feed".
+ghost use mathlib.Core.Path.{_≡_};
+ghost use Prim.Native.Nat.{_≤_};
+ghost use lib.ListN.{length, drop};
+ghost use Rattle.rules.specs.Verdict.{printedReport};
 use capi::Reply;
 use libc::STDOUT_FILENO;
+use report::LONGEST;
 
-fn print_field(v: u32) {
-    io::write_all(STDOUT_FILENO, b",");
-    io::print_decimal(STDOUT_FILENO, v as u64);
+// The line of a reply, at the end of `out`; answers where it starts.
+fn line_of(r: Reply, out: &mut [u8]) -> usize
+    requires { ⌜ 35 ≤ length (now out) ⌝ }
+    ensures { λ n. ⌜ drop n (now (out .exit)) ≡ printedReport (record { number = r .number; line = r .line; item = r .item; cues = r .cues; nodes = r .nodes }) ⌝ }
+    ensures { λ n. ⌜ n ≤ length (now (out .exit)) ⌝ }
+{
+    report::line(r.number, r.line, r.item, r.cues, r.nodes, out)
 }
 
 pub fn print_reply(r: Reply) {
-    if r.number == 0 {
-        io::write_all(STDOUT_FILENO, b"Y");
-        print_field(r.cues);
-        print_field(r.nodes);
-    } else {
-        io::write_all(STDOUT_FILENO, b"R");
-        print_field(r.number);
-        print_field(r.line);
-        print_field(r.item);
-    }
-    io::write_all(STDOUT_FILENO, b"\n");
+    let mut out = [0u8; LONGEST];
+    let n = line_of(r, &mut out);
+    io::write_all(STDOUT_FILENO, &out[n..]);
 }
