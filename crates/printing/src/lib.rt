@@ -16,6 +16,7 @@ fn line_of(r: Reply, out: &mut [u8]) -> usize
     report::line(r.number, r.line, r.item, r.cues, r.nodes, out)
 }
 
+// Nothing can be promised of a write; the bytes that it is handed are those of `line_of`.
 pub fn print_reply(r: Reply) {
     let mut out = [0u8; LONGEST];
     let n = line_of(r, &mut out);

@@ -7,6 +7,7 @@ use lib.ListN.{length, set, drop, length-set}
 use lib.Seq.{drop-length, drop-cons, getD-set-same, drop-set-lt}
 use Rattle.report.specs.Put.{Put}
 
+-- One byte, stored.
 pub put-byte : (l : List ℕ) (at b : ℕ) → 0 < at → at ≤ length l → Put (b ∷ []) 1 at l (at - 1) (set l (at - 1) b)
 put-byte l at b h m =
     let i = at - 1 in
@@ -21,14 +22,15 @@ put-byte l at b h m =
       high = omega arith;
     }
 
-module _ {a b : List ℕ} {m n at r s : ℕ} {before between after : List ℕ} (first : Put a m at before r between) (then : Put b n r between s after) where
-  pub put-put : Put (b ++ a) (m + n) at before s after
-  put-put =
-      record {
-        is = then .is ∙ ap (λ (x : List ℕ). b ++ x) (first .is) ∙ sym (append-assoc b a (drop at before));
-        low = omega arith;
-        high = omega arith;
-      }
+-- Bytes, and then others before them.
+pub put-put : {a b : List ℕ} {m n at r s : ℕ} {before between after : List ℕ} → Put a m at before r between → Put b n r between s after
+    → Put (b ++ a) (m + n) at before s after
+put-put {a} {b} {at = at} {before = before} p q =
+    record {
+      is = q .is ∙ ap (λ (x : List ℕ). b ++ x) (p .is) ∙ sym (append-assoc b a (drop at before));
+      low = omega arith;
+      high = omega arith;
+    }
 
 -- What is put before the end of a list is all that stands there.
 pub put-all : {bytes before after : List ℕ} {most at r : ℕ} → Put bytes most at before r after → at ≡ length before → drop r after ≡ bytes

@@ -41,8 +41,8 @@ returns c =
     let n = k .before .before .before .before in
     let t = n .before .before in
     let f = t .before .before .before in
-    let all = put-put (put-put (put-put (f .put .ensures) (n .put-field .ensures)) (k .put-field2 .ensures)) (p .put2 .ensures) in
-    (put-all all refl ∙ sym (printed-accepted _ (t .if1 .taken)), omega arith)
+    let fields = put-put (put-put (f .put .ensures) (n .put-field .ensures)) (k .put-field2 .ensures) in
+    (put-all (put-put fields (p .put2 .ensures)) refl ∙ sym (printed-accepted _ (t .if1 .taken)), omega arith)
 
 same-length-2 : tie.Need-same-length-2
 same-length-2 c = search needs
@@ -55,10 +55,8 @@ returns-2 c =
     let i = l .before .before .before .before in
     let t = i .before .before in
     let f = t .before .before .before in
-    let all =
-    put-put (put-put (put-put (put-put (f .put .ensures) (i .put-field3 .ensures)) (l .put-field4 .ensures)) (n .put-field5 .ensures)) (p .put3 .ensures)
-    in
-    (put-all all refl ∙ sym (printed-refused _ (t .if1 .left)), omega arith)
+    let fields = put-put (put-put (put-put (f .put .ensures) (i .put-field3 .ensures)) (l .put-field4 .ensures)) (n .put-field5 .ensures) in
+    (put-all (put-put fields (p .put3 .ensures)) refl ∙ sym (printed-refused _ (t .if1 .left)), omega arith)
 
 pub line-spec : {M : Type 1} → statement M
 line-spec =
