@@ -20,7 +20,7 @@ use reading::read_method_again;
 use rules::Header;
 use text::Cursor;
 
-// The number of no method: none is loaded yet.
+// The number of no method.
 const NONE: u32 = 4294967295;
 
 // Whether a node line's letter names a method: "D,m (method m, not empty); E,m,g (empty method m in gap g)".
@@ -42,6 +42,17 @@ struct Named {
 struct Turn {
     kept: Kept,
     loaded: Loaded,
+}
+
+// No method's constraints are in the work space yet.
+fn none_loaded() -> Loaded
+    ensures { λ r. ⌜ r .method ≡ 4294967295 ⌝ }
+{
+    Loaded {
+        method: NONE,
+        subtasks: 0,
+        count: 0,
+    }
 }
 
 // A method in the work space: the one that is loaded, or its lines are read.
@@ -113,11 +124,7 @@ pub fn first_broken(
     ensures { λ r. ⌜ Leaves (now (work .entry)) (now (work .exit)) ⌝ }
 {
     let mut at = nodes;
-    let mut loaded = Loaded {
-        method: NONE,
-        subtasks: 0,
-        count: 0,
-    };
+    let mut loaded = none_loaded();
     let mut n: u32 = 0;
     while n < header.nodes {
         let a = read_again(text, at);

@@ -19,10 +19,13 @@ Inv-loop text header plan-line states work₀ at₀ loaded₀ n₀ work at loade
 abbrev μ-loop : tie.MeasureT-loop
 μ-loop text header plan-line states work₀ at₀ loaded₀ n₀ work at loaded n = header .nodes - n
 
+none-loaded-requires : tie.Need-none-loaded-requires Inv-loop μ-loop
+none-loaded-requires c κs = search needs
+
 loop-holds : tie.Need-loop-holds Inv-loop μ-loop
 loop-holds c =
-    let s = c .before .before .before in
-    (going-starts (s .pre .1) (s .pre .0), none-loaded (s .pre .0) refl)
+    let s = c .before .before .before .before in
+    (going-starts (s .pre .1) (s .pre .0), none-loaded (s .pre .0) (c .none-loaded .ensures))
 
 read-again-requires : tie.Need-read-again-requires Inv-loop μ-loop
 read-again-requires c κs = search needs
@@ -37,7 +40,7 @@ add-t17 c =
 
 node-kept-requires : tie.Need-node-kept-requires Inv-loop μ-loop
 node-kept-requires c κs =
-    let a = c .before .before .before .before .before .before .before .before .args in
+    let a = c .before .before .before .before .before .before .before .before .before .args in
     let l = c .before .before .before .before .loop in
     let t = c .before .before .if1 .taken in
     let g = c .before .read-again in
@@ -53,7 +56,7 @@ returns : tie.Need-returns Inv-loop μ-loop
 returns c =
     let l = c .before .before .before .before .before .before .before .before .before .before .loop in
     let k = c .before .before .before .before .before .node-kept in (
-      going-breaks (l .inv .0) (c .before .before .before .before .before .before .before .before .if1 .taken) (c .before .before .before .before .before .before .before .before .before .before .before .before .before .before .args .plan-line + 1 + l .n) (c .before .kept .given .0 .0) refl (sym (c .before .kept .given .1) ∙ k .ensures .0),
+      going-breaks (l .inv .0) (c .before .before .before .before .before .before .before .before .if1 .taken) (c .before .before .before .before .before .before .before .before .before .before .before .before .before .before .before .args .plan-line + 1 + l .n) (c .before .kept .given .0 .0) refl (sym (c .before .kept .given .1) ∙ k .ensures .0),
       leaves-then (l .inv .0 .leaves) (k .ensures .1 .1),
     )
 
@@ -73,7 +76,7 @@ loop-again c =
     let t = c .before .before .before .before .before .before .before .before .before .if1 .taken in
     let g = c .before .before .before .before .before .before .before .before .read-again in
     let k = c .before .before .before .before .before .before .node-kept in (
-      going-on (l .inv .0) t (c .before .before .before .before .before .before .before .before .before .before .before .before .before .before .before .args .plan-line + 1 + l .n) (k .last .1 .1 .1 .1 .0) (g .result .next .at) refl (sym (c .before .before .enum-told .given .1) ∙ k .ensures .0) (k .ensures .1 .1)
+      going-on (l .inv .0) t (c .before .before .before .before .before .before .before .before .before .before .before .before .before .before .before .before .args .plan-line + 1 + l .n) (k .last .1 .1 .1 .1 .0) (g .result .next .at) refl (sym (c .before .before .enum-told .given .1) ∙ k .ensures .0) (k .ensures .1 .1)
           (going-line (l .inv .0) t (g .result) (g .ensures) .1),
       k .ensures .1 .0,
     )
@@ -90,6 +93,7 @@ first-broken-spec =
     (tie.spec
     Inv-loop
     μ-loop
+    none-loaded-requires
     loop-holds
     read-again-requires
     add-t16
