@@ -101,13 +101,15 @@ fn valued_line(text: &[u8], past: usize, at: Spot, due: Role, x: Context) -> Ent
     }
 }
 
-// The same where the line's numbers are not asked for.
+// The same where the line's numbers are not asked for: they are not copied.
 fn one_line(text: &[u8], past: usize, at: Spot, due: Role, x: Context) -> Group
     requires { ⌜ Due (now text) past at ⌝ }
     ensures { λ r. ⌜ r ≡ groupOf (oneLine (now (text .entry)) (x .header) (roleOf due) (x .subtasks) (at .line) (at .start .at)) ⌝ }
 {
-    let entry = valued_line(text, past, at, due, x);
-    entry.group
+    let line = at.line;
+    let read = lines::read_line(text, past, at.start, due, x);
+    let finish = read.finish;
+    after(finish, line)
 }
 
 // `count` lines of one role: the constraints of a method, or the nodes.
