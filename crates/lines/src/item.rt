@@ -39,8 +39,8 @@ enum Taken {
 }
 
 // Whether v is at least `low`, and in the range of its kind.
-fn admits(low: u64, kind: u64, x: Context, before: [u32; VALUES], v: u32) -> bool
-    ensures { λ r. ⌜ r ≡ leb low v && inKind x before kind v ⌝ }
+fn admits(low: u64, kind: u64, x: Context, before: &[u32; VALUES], v: u32) -> bool
+    ensures { λ r. ⌜ r ≡ leb low v && inKind x (now (before .entry)) kind v ⌝ }
 {
     if low <= v as u64 {
         range::in_range(kind, x, before, v)
@@ -53,11 +53,11 @@ fn take_number(
     text: &[u8],
     c: Cursor,
     x: Context,
-    before: [u32; VALUES],
+    before: &[u32; VALUES],
     kind: u64,
     low: u64,
 ) -> Taken
-    ensures { λ r. ⌜ r ≡ asTaken (take (λ v. leb low v && inKind x before kind v) (numberAt (now (text .entry)) (c .at))) ⌝ }
+    ensures { λ r. ⌜ r ≡ asTaken (take (λ v. leb low v && inKind x (now (before .entry)) kind v) (numberAt (now (text .entry)) (c .at))) ⌝ }
 {
     match c.number(text) {
         Field::Number { value, next } => {
@@ -87,13 +87,13 @@ fn members(
     text: &[u8],
     c: Cursor,
     x: Context,
-    before: [u32; VALUES],
+    before: &[u32; VALUES],
     kind: u64,
     count: u32,
     field: usize,
 ) -> Outcome
     requires { ⌜ field < 2 ^ 41 ⌝ }
-    ensures { λ r. ⌜ r ≡ collected 0 (readMembers (now (text .entry)) (inKind x before kind) (eqb kind 11) count 0 field (c .at)) ⌝ }
+    ensures { λ r. ⌜ r ≡ collected 0 (readMembers (now (text .entry)) (inKind x (now (before .entry)) kind) (eqb kind 11) count 0 field (c .at)) ⌝ }
 {
     let mut at = c;
     let mut low: u64 = 0;
@@ -129,13 +129,13 @@ fn list(
     text: &[u8],
     c: Cursor,
     x: Context,
-    before: [u32; VALUES],
+    before: &[u32; VALUES],
     counts: u64,
     kind: u64,
     field: usize,
 ) -> Outcome
     requires { ⌜ field < 2 ^ 40 ⌝ }
-    ensures { λ r. ⌜ r ≡ asOutcome (readList (now (text .entry)) (inKind x before counts) (inKind x before kind) (eqb kind 11) field (c .at)) ⌝ }
+    ensures { λ r. ⌜ r ≡ asOutcome (readList (now (text .entry)) (inKind x (now (before .entry)) counts) (inKind x (now (before .entry)) kind) (eqb kind 11) field (c .at)) ⌝ }
 {
     match take_number(text, c, x, before, counts, 0) {
         Taken::Number { value, next } => members(text, next, x, before, kind, value, field + 1),
@@ -148,12 +148,12 @@ fn single(
     text: &[u8],
     c: Cursor,
     x: Context,
-    before: [u32; VALUES],
+    before: &[u32; VALUES],
     kind: u64,
     field: usize,
 ) -> Outcome
     requires { ⌜ field < 2 ^ 40 ⌝ }
-    ensures { λ r. ⌜ r ≡ asOutcome (readItemIn (now (text .entry)) x before (one (kindOf kind)) field (c .at)) ⌝ }
+    ensures { λ r. ⌜ r ≡ asOutcome (readItemIn (now (text .entry)) x (now (before .entry)) (one (kindOf kind)) field (c .at)) ⌝ }
 {
     match take_number(text, c, x, before, kind, 0) {
         Taken::Number { value, next } => Outcome::Done {
@@ -171,12 +171,12 @@ pub fn read_item(
     text: &[u8],
     c: Cursor,
     x: Context,
-    before: [u32; VALUES],
+    before: &[u32; VALUES],
     item: u64,
     field: usize,
 ) -> Outcome
     requires { ⌜ field < 2 ^ 40 ⌝ }
-    ensures { λ r. ⌜ r ≡ asOutcome (readItemIn (now (text .entry)) x before (itemOf item) field (c .at)) ⌝ }
+    ensures { λ r. ⌜ r ≡ asOutcome (readItemIn (now (text .entry)) x (now (before .entry)) (itemOf item) field (c .at)) ⌝ }
 {
     match item {
         20 => list(text, c, x, before, 18, PROPOSITION, field),

@@ -94,7 +94,7 @@ fn items(text: &[u8], c: Cursor, x: Context, letter: u8, shape: u64) -> LineRead
     let mut rest = shape;
     let mut i: usize = 0;
     while rest != 0 {
-        match item::read_item(text, at, x, values, rest % 256, field) {
+        match item::read_item(text, at, x, &values, rest % 256, field) {
             Outcome::Done {
                 value,
                 field: after,

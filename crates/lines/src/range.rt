@@ -51,8 +51,8 @@ fn is_other(j: u32, count: u32, i: u32) -> bool
 }
 
 // Whether v is in the range of the kind of number that a shape's byte stands for, after the numbers before it in its line.
-pub fn in_range(kind: u64, x: Context, before: [u32; VALUES], v: u32) -> bool
-    ensures { λ r. ⌜ r ≡ inKind x before kind v ⌝ }
+pub fn in_range(kind: u64, x: Context, before: &[u32; VALUES], v: u32) -> bool
+    ensures { λ r. ⌜ r ≡ inKind x (now (before .entry)) kind v ⌝ }
 {
     let h = x.header;
     match kind {

@@ -35,24 +35,24 @@ returns c =
     let a = c .before .before .before .before .before .before .args in
     let v = c .before .before .value .given .0 in
     c .members .ensures
-    ∙ sym (follow-any (inKind (a .x) (a .before) (a .counts)) (numberAt (a .text .now) (a .c .at)) (Number (v .0) (v .1 .0)) (a .field)
-    (λ v next. readMembers (a .text .now) (inKind (a .x) (a .before) (a .kind)) (eqb (a .kind) 11) v 0 (a .field + 1) next)
+    ∙ sym (follow-any (inKind (a .x) (a .before .now) (a .counts)) (numberAt (a .text .now) (a .c .at)) (Number (v .0) (v .1 .0)) (a .field)
+    (λ v next. readMembers (a .text .now) (inKind (a .x) (a .before .now) (a .kind)) (eqb (a .kind) 11) v 0 (a .field + 1) next)
     (sym (c .before .before .value .given .1) ∙ c .before .before .before .before .take-number .ensures))
 
 returns-2 : tie.Need-returns-2
 unfolding readList asOutcome
 returns-2 c =
     let a = c .before .before .before .before .args in
-    sym (follow-any (inKind (a .x) (a .before) (a .counts)) (numberAt (a .text .now) (a .c .at)) Bad (a .field)
-    (λ v next. readMembers (a .text .now) (inKind (a .x) (a .before) (a .kind)) (eqb (a .kind) 11) v 0 (a .field + 1) next)
+    sym (follow-any (inKind (a .x) (a .before .now) (a .counts)) (numberAt (a .text .now) (a .c .at)) Bad (a .field)
+    (λ v next. readMembers (a .text .now) (inKind (a .x) (a .before .now) (a .kind)) (eqb (a .kind) 11) v 0 (a .field + 1) next)
     (sym (c .enum-told .given .1) ∙ c .before .before .take-number .ensures))
 
 returns-3 : tie.Need-returns-3
 unfolding readList asOutcome
 returns-3 c =
     let a = c .before .before .before .before .args in
-    sym (follow-any (inKind (a .x) (a .before) (a .counts)) (numberAt (a .text .now) (a .c .at)) Out (a .field)
-    (λ v next. readMembers (a .text .now) (inKind (a .x) (a .before) (a .kind)) (eqb (a .kind) 11) v 0 (a .field + 1) next)
+    sym (follow-any (inKind (a .x) (a .before .now) (a .counts)) (numberAt (a .text .now) (a .c .at)) Out (a .field)
+    (λ v next. readMembers (a .text .now) (inKind (a .x) (a .before .now) (a .kind)) (eqb (a .kind) 11) v 0 (a .field + 1) next)
     (sym (c .enum-told2 .given .1) ∙ c .before .before .take-number .ensures))
 
 pub list-spec : {M : Type 1} → statement M

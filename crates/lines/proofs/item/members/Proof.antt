@@ -23,7 +23,7 @@ abbrev μ-loop : tie.MeasureT-loop
 loop-holds : tie.Need-loop-holds Inv-loop μ-loop
 loop-holds c =
     let a = c .before .args in
-    (omega arith, members-start (a .text .now) (inKind (a .x) (a .before) (a .kind)) (eqb (a .kind) 11) (a .count) (a .field) (a .c .at))
+    (omega arith, members-start (a .text .now) (inKind (a .x) (a .before .now) (a .kind)) (eqb (a .kind) 11) (a .count) (a .field) (a .c .at))
 
 take-number-requires : tie.Need-take-number-requires Inv-loop μ-loop
 take-number-requires c κs = search needs
@@ -49,7 +49,7 @@ loop-again c =
     let next : a .field + (l .i + 1) ≡ a .field + l .i + 1 = omega arith in (
       omega arith,
       l .inv .1
-          ∙ members-again (a .text .now) (inKind (a .x) (a .before) (a .kind)) (eqb (a .kind) 11) (l .i) (a .count - l .i) (a .count - (l .i + 1))
+          ∙ members-again (a .text .now) (inKind (a .x) (a .before .now) (a .kind)) (eqb (a .kind) 11) (l .i) (a .count - l .i) (a .count - (l .i + 1))
           (l .low) (a .field + l .i) (l .at .at) (v .0) (v .1 .0) left
           (sym (c .before .before .value .given .1) ∙ c .before .before .before .before .take-number .ensures) (c .least-after .ensures) next,
     )
@@ -68,7 +68,7 @@ returns c =
     let a = c .before .before .before .before .before .before .args in
     let l = c .before .before .before .before .loop in
     sym (l .inv .1
-    ∙ members-next (a .text .now) (inKind (a .x) (a .before) (a .kind)) (eqb (a .kind) 11) (l .i) (a .count - l .i) (a .count - (l .i + 1))
+    ∙ members-next (a .text .now) (inKind (a .x) (a .before .now) (a .kind)) (eqb (a .kind) 11) (l .i) (a .count - l .i) (a .count - (l .i + 1))
     (l .low) (a .field + l .i) (l .at .at) Bad (omega arith) (sym (c .enum-told .given .1) ∙ c .before .before .take-number .ensures))
 
 enum-told-2 : tie.Need-enum-told-2 Inv-loop μ-loop
@@ -85,7 +85,7 @@ returns-2 c =
     let a = c .before .before .before .before .before .before .args in
     let l = c .before .before .before .before .loop in
     sym (l .inv .1
-    ∙ members-next (a .text .now) (inKind (a .x) (a .before) (a .kind)) (eqb (a .kind) 11) (l .i) (a .count - l .i) (a .count - (l .i + 1))
+    ∙ members-next (a .text .now) (inKind (a .x) (a .before .now) (a .kind)) (eqb (a .kind) 11) (l .i) (a .count - l .i) (a .count - (l .i + 1))
     (l .low) (a .field + l .i) (l .at .at) Out (omega arith) (sym (c .enum-told2 .given .1) ∙ c .before .before .take-number .ensures))
 
 cast-t19 : tie.Need-cast-t19 Inv-loop μ-loop
@@ -100,7 +100,7 @@ returns-3 c =
     let l = c .before .loop in
     let none : a .count - l .i ≡ 0 = omega arith in
     sym (l .inv .1
-    ∙ members-end (a .text .now) (inKind (a .x) (a .before) (a .kind)) (eqb (a .kind) 11) (l .i) (a .count - l .i) (l .low) (a .field + l .i) (l .at) none)
+    ∙ members-end (a .text .now) (inKind (a .x) (a .before .now) (a .kind)) (eqb (a .kind) 11) (l .i) (a .count - l .i) (l .low) (a .field + l .i) (l .at) none)
 
 pub members-spec : {M : Type 1} → statement M
 members-spec =

@@ -30,21 +30,21 @@ unfolding readItem asOutcome
 returns c =
     let a = c .before .before .before .before .before .args in
     let v = c .before .value .given .0 in
-    sym (follow-any (inKind (a .x) (a .before) (a .kind)) (numberAt (a .text .now) (a .c .at)) (Number (v .0) (v .1 .0)) (a .field)
+    sym (follow-any (inKind (a .x) (a .before .now) (a .kind)) (numberAt (a .text .now) (a .c .at)) (Number (v .0) (v .1 .0)) (a .field)
     (λ v next. item (scalar v) (a .field + 1) next) (sym (c .before .value .given .1) ∙ c .before .before .before .take-number .ensures))
 
 returns-2 : tie.Need-returns-2
 unfolding readItem asOutcome
 returns-2 c =
     let a = c .before .before .before .before .args in
-    sym (follow-any (inKind (a .x) (a .before) (a .kind)) (numberAt (a .text .now) (a .c .at)) Bad (a .field)
+    sym (follow-any (inKind (a .x) (a .before .now) (a .kind)) (numberAt (a .text .now) (a .c .at)) Bad (a .field)
     (λ v next. item (scalar v) (a .field + 1) next) (sym (c .enum-told .given .1) ∙ c .before .before .take-number .ensures))
 
 returns-3 : tie.Need-returns-3
 unfolding readItem asOutcome
 returns-3 c =
     let a = c .before .before .before .before .args in
-    sym (follow-any (inKind (a .x) (a .before) (a .kind)) (numberAt (a .text .now) (a .c .at)) Out (a .field)
+    sym (follow-any (inKind (a .x) (a .before .now) (a .kind)) (numberAt (a .text .now) (a .c .at)) Out (a .field)
     (λ v next. item (scalar v) (a .field + 1) next) (sym (c .enum-told2 .given .1) ∙ c .before .before .take-number .ensures))
 
 pub single-spec : {M : Type 1} → statement M

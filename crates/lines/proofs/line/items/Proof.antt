@@ -19,28 +19,28 @@ loop-holds c =
     let a = c .before .args in begins (a .text .now) (a .x) (a .letter) (a .shape) (a .c .at) (a .c) refl (c .before .pre)
 
 read-item-requires : tie.Need-read-item-requires Inv-loop μ-loop
-read-item-requires c κs = let p = c .before .loop .inv in omega arith
+read-item-requires c κs = let p = c .before .before .loop .inv in omega arith
 
 enum-known-value : tie.Need-enum-known-value Inv-loop μ-loop
 enum-known-value c = search needs
 
 mul-values : tie.Need-mul-values Inv-loop μ-loop
-mul-values c = let h = more-items (c .before .before .before .before .before .loop .i) (c .before .before .before .before .before .loop .rest) (c .before .before .before .before .before .loop .inv .small) (c .before .before .before .before .loop-test .taken) in omega arith
+mul-values c = let h = more-items (c .before .before .before .before .before .before .loop .i) (c .before .before .before .before .before .before .loop .rest) (c .before .before .before .before .before .before .loop .inv .small) (c .before .before .before .before .before .loop-test .taken) in omega arith
 
 array-write-values : tie.Need-array-write-values Inv-loop μ-loop
-array-write-values c = let h = more-items (c .before .before .before .before .before .loop .i) (c .before .before .before .before .before .loop .rest) (c .before .before .before .before .before .loop .inv .small) (c .before .before .before .before .loop-test .taken) in omega arith
+array-write-values c = let h = more-items (c .before .before .before .before .before .before .loop .i) (c .before .before .before .before .before .before .loop .rest) (c .before .before .before .before .before .before .loop .inv .small) (c .before .before .before .before .before .loop-test .taken) in omega arith
 
 add-i : tie.Need-add-i Inv-loop μ-loop
-add-i c = let p = c .before .before .before .before .before .loop .inv in omega arith
+add-i c = let p = c .before .before .before .before .before .before .loop .inv in omega arith
 
 loop-less : tie.Need-loop-less Inv-loop μ-loop
-loop-less c = let h = more-items (c .before .before .before .before .before .loop .i) (c .before .before .before .before .before .loop .rest) (c .before .before .before .before .before .loop .inv .small) (c .before .before .before .before .loop-test .taken) in omega arith
+loop-less c = let h = more-items (c .before .before .before .before .before .before .loop .i) (c .before .before .before .before .before .before .loop .rest) (c .before .before .before .before .before .before .loop .inv .small) (c .before .before .before .before .before .loop-test .taken) in omega arith
 
 loop-again : tie.Need-loop-again Inv-loop μ-loop
 loop-again c =
-    let a = c .before .before .before .before .before .before .before .args in
-    let l = c .before .before .before .before .before .loop in
-    progress (a .text .now) (a .x) (a .letter) (a .shape) (a .c .at) (l .at) (l .values) (l .field) (l .rest) (l .i) (l .inv) (c .before .before .before .before .loop-test .taken)
+    let a = c .before .before .before .before .before .before .before .before .args in
+    let l = c .before .before .before .before .before .before .loop in
+    progress (a .text .now) (a .x) (a .letter) (a .shape) (a .c .at) (l .at) (l .values) (l .field) (l .rest) (l .i) (l .inv) (c .before .before .before .before .before .loop-test .taken)
     (c .before .value .given .0 .0) (c .before .value .given .0 .1 .0) (c .before .value .given .0 .1 .1 .0) (search needs)
     (sym (c .before .value .given .1) ∙ c .before .before .before .read-item .ensures)
 
@@ -52,10 +52,10 @@ refused-requires c κs = search needs
 
 returns : tie.Need-returns Inv-loop μ-loop
 returns c =
-    let a = c .before .before .before .before .before .before .before .before .args in
-    let l = c .before .before .before .before .before .before .loop in
+    let a = c .before .before .before .before .before .before .before .before .before .args in
+    let l = c .before .before .before .before .before .before .before .loop in
     c .refused .ensures
-    ∙ sym (goes-on (a .text .now) (a .x) (a .letter) (a .shape) (a .c .at) (l .at) (l .values) (l .field) (l .rest) (l .i) (l .inv) (c .before .before .before .before .before .loop-test .taken)
+    ∙ sym (goes-on (a .text .now) (a .x) (a .letter) (a .shape) (a .c .at) (l .at) (l .values) (l .field) (l .rest) (l .i) (l .inv) (c .before .before .before .before .before .before .loop-test .taken)
     (Bad (c .before .before .wrong .given .0 .0)) (sym (c .before .before .wrong .given .1) ∙ c .before .before .before .before .read-item .ensures))
 
 enum-known-wrong-2 : tie.Need-enum-known-wrong-2 Inv-loop μ-loop
@@ -66,10 +66,10 @@ refused-requires-2 c κs = search needs
 
 returns-2 : tie.Need-returns-2 Inv-loop μ-loop
 returns-2 c =
-    let a = c .before .before .before .before .before .before .before .before .args in
-    let l = c .before .before .before .before .before .before .loop in
+    let a = c .before .before .before .before .before .before .before .before .before .args in
+    let l = c .before .before .before .before .before .before .before .loop in
     c .refused2 .ensures
-    ∙ sym (goes-on (a .text .now) (a .x) (a .letter) (a .shape) (a .c .at) (l .at) (l .values) (l .field) (l .rest) (l .i) (l .inv) (c .before .before .before .before .before .loop-test .taken)
+    ∙ sym (goes-on (a .text .now) (a .x) (a .letter) (a .shape) (a .c .at) (l .at) (l .values) (l .field) (l .rest) (l .i) (l .inv) (c .before .before .before .before .before .before .loop-test .taken)
     (Range (c .before .before .wrong2 .given .0 .0)) (sym (c .before .before .wrong2 .given .1) ∙ c .before .before .before .before .read-item .ensures))
 
 finished-requires : tie.Need-finished-requires Inv-loop μ-loop

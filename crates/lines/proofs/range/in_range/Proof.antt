@@ -13,11 +13,11 @@ use Rattle.lines.proofs.range.is_compound.Reads as is-compound-reads
 use Rattle.lines.proofs.range.is_other.Reads as is-other-reads
 use Rattle.lines.proofs.range.is_task.Reads as is-task-reads
 
-array-read-is-compound : tie.Need-array-read-is-compound
-array-read-is-compound c = search needs
+element-copy-out-is-compound : tie.Need-element-copy-out-is-compound
+element-copy-out-is-compound c = search needs
 
-array-read-is-compound-2 : tie.Need-array-read-is-compound-2
-array-read-is-compound-2 c = search needs
+element-copy-out-is-compound-2 : tie.Need-element-copy-out-is-compound-2
+element-copy-out-is-compound-2 c = search needs
 
 is-compound-requires : tie.Need-is-compound-requires
 is-compound-requires c κs = search needs
@@ -28,8 +28,8 @@ between-requires c κs = search needs
 is-compound-requires-2 : tie.Need-is-compound-requires-2
 is-compound-requires-2 c κs = search needs
 
-array-read-is-other : tie.Need-array-read-is-other
-array-read-is-other c = search needs
+element-copy-out-is-other : tie.Need-element-copy-out-is-other
+element-copy-out-is-other c = search needs
 
 is-other-requires : tie.Need-is-other-requires
 is-other-requires c κs = search needs
@@ -57,7 +57,7 @@ returns-3 c = rw (c .match .keys3)
 
 returns-4 : tie.Need-returns-4
 unfolding inRange kindOf
-returns-4 c = rw (c .before .match .keys4) (c .is-compound .ensures)
+returns-4 c = rw (c .before .before .before .match .keys4) (c .is-compound .ensures)
 
 returns-5 : tie.Need-returns-5
 unfolding inRange kindOf
@@ -81,7 +81,7 @@ returns-9 c = rw (c .before .match .keys9)
 
 returns-10 : tie.Need-returns-10
 unfolding inRange kindOf
-returns-10 c = rw (c .before .match .keys10) (c .is-other .ensures)
+returns-10 c = rw (c .before .before .match .keys10) (c .is-other .ensures)
 
 returns-11 : tie.Need-returns-11
 unfolding inRange kindOf
@@ -125,12 +125,12 @@ pub in-range-spec : {M : Type 1} → statement M
 in-range-spec =
     tie.close
     (tie.spec
-    array-read-is-compound
-    array-read-is-compound-2
+    element-copy-out-is-compound
+    element-copy-out-is-compound-2
     is-compound-requires
     between-requires
     is-compound-requires-2
-    array-read-is-other
+    element-copy-out-is-other
     is-other-requires
     fits-requires
     between-requires-2
