@@ -1,9 +1,12 @@
 #!/bin/sh
-# Medians of the linked calls and of the plain rendering in one run, with their ratio. At the top of the repository:
+# Medians of the linked calls and of the plain rendering in one run, with their ratio; then the stack that the linked calls touch. At the top of
+# the repository:
 #   sh bench/run.sh [ROUNDS]
 set -eu
 cd "$(dirname "$0")/.."
 rt staticlib capi >/dev/null
-touch bench/src/main.rs
-RUSTFLAGS="-L native=$PWD/target/staticlib" cargo run --quiet --release --offline --manifest-path bench/Cargo.toml \
-    --features linked -- "${1:-201}"
+touch bench/src/main.rs bench/src/bin/stack.rs
+export RUSTFLAGS="-L native=$PWD/target/staticlib"
+run="cargo run --quiet --release --offline --manifest-path bench/Cargo.toml --features linked"
+$run -- "${1:-201}"
+$run --bin stack

@@ -33,8 +33,8 @@ typedef struct cuecheck_node {
 } cuecheck_node;
 
 /* Judges a case. The lists may hold anything, but must not overlap. Accepted, states has states 0 to k and nodes a record for each node, in the
-   tree's order, and zero after; refused, both are zero. work is zero after each call. Lend its thread 1 MiB of stack: the deepest and widest
-   tree measured needs 564 KiB. */
+   tree's order, and zero after; refused, both are zero. work is zero after each call. It needs 21 KiB of stack for the deepest tree
+   (64 levels; measured). */
 cuecheck_reply cuecheck_check(const uint8_t *text, size_t text_len,
                               uint64_t *states, size_t states_len,
                               cuecheck_node *nodes, size_t nodes_len,

@@ -84,11 +84,11 @@ AgainAt text place r =
     (due : Role) → isShort due ≡ true → (h : Header) (n l : ℕ) (vs : List Value) (next : ℕ) → readLine text due h n place ≡ line l vs next
     → r ≡ asAgain l vs next
 
--- Whatever method line reading lets pass at a place says so many subtasks and constraints: an M line's numbers are its task, its subtasks'
--- count and its constraints'.
+-- An M line's numbers: its task, how many subtasks, how many constraints.
 abbrev pub asMethod : List Value → ℕ → MethodAgain
 asMethod vs next = record { subtasks = scalarAt vs 1; constraints = scalarAt vs 2; next = cursor next }
 
+-- Whatever method line reading lets pass at a place is this one.
 unfoldable pub MethodAgainAt : List ℕ → ℕ → MethodAgain → Type 0
 MethodAgainAt text place r =
     (h : Header) (n l : ℕ) (vs : List Value) (next : ℕ) → readLine text T.method h n place ≡ line l vs next → r ≡ asMethod vs next

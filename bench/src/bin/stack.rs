@@ -1,0 +1,63 @@
+//! The stack that the calls touch, in bytes: a thread's stack is painted below the call, and what is no longer paint is counted.
+//!
+//! RUSTFLAGS="-L native=target/staticlib" cargo run --release --offline --features linked --bin stack
+
+use cuecheck::{Node, NODES, STATES, WORK};
+
+const PAINTED: usize = 1 << 20;
+const PAINT: u8 = 0xA5;
+
+/// What is left unpainted below the frame, and counted as touched.
+const GAP: usize = 512;
+
+/// A tree of so many levels, each task but the last with 32 subtasks: 31 empty ones and the next level, first or last.
+fn levels(count: usize, deep_last: bool) -> String {
+    let others = ",1".repeat(31);
+    let subtasks = if deep_last { format!("{others},0") } else { format!(",0{others}") };
+    let empties = "E,1,0\n".repeat(31);
+    let mut nodes = "E,2,0\n".to_string();
+    for _ in 1..count {
+        nodes = if deep_last { format!("D,0\n{empties}{nodes}") } else { format!("D,0\n{nodes}{empties}") };
+    }
+    let n = nodes.lines().count();
+    format!("N,0,0,2,3,0,0,{n}\nI,0\nM,0,32{subtasks},0\nM,1,0,0\nM,0,0,0\nP\n{nodes}")
+}
+
+/// Paints the stack below this frame, calls, and counts from the lowest byte that lost its paint.
+#[inline(never)]
+fn touched(call: &mut dyn FnMut()) -> usize {
+    let mut mark = 0u8;
+    let top = &raw mut mark as usize - GAP;
+    let low = top - PAINTED;
+    // SAFETY: the thread's stack is larger than what is painted, and nothing lives below this frame.
+    unsafe { (low..top).for_each(|at| (at as *mut u8).write_volatile(PAINT)) };
+    call();
+    // SAFETY: as above.
+    let kept = (low..top).take_while(|at| unsafe { (*at as *const u8).read_volatile() } == PAINT).count();
+    PAINTED - kept + GAP
+}
+
+fn measured(text: String) -> (u32, usize, usize) {
+    let run = move || {
+        let (mut states, mut nodes, mut work) = (vec![0; STATES], vec![Node::default(); NODES], vec![0; WORK]);
+        let mut number = 0;
+        let check = touched(&mut || number = cuecheck::check(text.as_bytes(), &mut states, &mut nodes, &mut work).number);
+        let replay = touched(&mut || _ = cuecheck::replay(text.as_bytes(), &mut states, &mut work));
+        (number, check, replay)
+    };
+    std::thread::Builder::new().stack_size(8 * PAINTED).spawn(run).expect("a thread").join().expect("a measure")
+}
+
+fn main() {
+    println!("{:<34}{:>8}{:>10}{:>10}", "case", "answer", "check", "replay");
+    let cases = [
+        ("64 levels, the deep one first", levels(64, false)),
+        ("64 levels, the deep one last", levels(64, true)),
+        ("65 levels, the deep one last", levels(65, true)),
+        ("2 levels", levels(2, true)),
+    ];
+    for (name, text) in cases {
+        let (number, check, replay) = measured(text);
+        println!("{name:<34}{number:>8}{check:>10}{replay:>10}");
+    }
+}
