@@ -9,7 +9,6 @@ use Prim.Native.Nat.{ℕ, _+_, _-_, _*_, _≤_, _<_}
 use native.Mathlib.Omega.{arith}
 use lib.ListN.{length, getD, take, drop, length-map, List·getD-append}
 use lib.Seq.{sets, getD-take, getD-drop}
-use Rattle.rules.specs.declared.Header.{Header}
 use Rattle.rules.specs.State.{wordCount}
 use Rattle.rules.specs.Index.{Span}
 use Rattle.rules.specs.Table as T

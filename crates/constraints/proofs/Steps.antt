@@ -13,8 +13,7 @@ use Rattle.rules.specs.declared.Header.{Header}
 use Rattle.rules.specs.declared.Answer.{Answer}
 use Rattle.rules.specs.Index.{Span, spanOfPart}
 use Rattle.rules.specs.Table as T
-use Rattle.rules.specs.Table.{readLine}
-use Rattle.rules.specs.Case.{Constraint, Method, methodAt, NodeLine, L, Case, oneLine, many, oneMethod}
+use Rattle.rules.specs.Case.{Constraint, Method, methodAt, NodeLine, L, Case, oneLine, many}
 use Rattle.rules.specs.Tree.{Tree, leaf, preorder, rootLine, span, subtaskSpans}
 use Rattle.rules.specs.Constraint.{holdsIn, constraintsOf, partsOf, firstBrokenOf, orElse, firstBroken}
 use Rattle.rules.specs.Verdict.{workNeed, statesOf}
@@ -22,7 +21,6 @@ use Rattle.rules.proofs.Judgement.Each.{Each}
 use Rattle.rules.proofs.Judgement.Sound.{GoodConstraint}
 use Rattle.reading.specs.Directory.{methodsFrom}
 use Rattle.tree.specs.Layout.{planFrom, subtasksFrom, size, NodesFrom}
-use Rattle.text.specs.declared.Cursor.{Cursor}
 use Rattle.reading.specs.declared.again.Again.{Again}
 use Rattle.reading.specs.Again.{AgainAt, MethodAgainAt}
 use Rattle.reading.specs.declared.again.MethodAgain.{MethodAgain}

@@ -1,15 +1,14 @@
 -- From the claims to the constraints, and from there to the answer and the records. Assumes nothing.
 use mathlib.Core.Path.{_≡_, refl, sym, ap, subst, _∙_}
-use mathlib.Core.List.{List, [], _∷_, _++_, map}
+use mathlib.Core.List.{List, _++_}
 use mathlib.Core.Option.{Option, none, some}
-use Prim.Native.Nat.{ℕ, _+_, _-_, _*_, _≤_, _<_}
+use Prim.Native.Nat.{ℕ, _+_, _-_, _*_, _≤_}
 use native.Mathlib.Omega.{arith}
-use lib.ListN.{length, take, drop, replicate}
+use lib.ListN.{length, take, replicate}
 use Rattle.rules.specs.declared.Header.{Header}
 use Rattle.rules.specs.declared.Answer.{Answer}
 use Rattle.rules.specs.declared.Answer.the-variants.{Accepted}
-use Rattle.rules.specs.Case.{Case, readCase}
-use Rattle.rules.specs.Tree.{Tree, preorder, mayClaim, Walk, walkTree}
+use Rattle.rules.specs.Tree.{Tree, preorder, mayClaim}
 use Rattle.rules.specs.Constraint.{holdsIn, firstBroken}
 use Rattle.rules.specs.Verdict.{Found, right, wrong, workNeed, statesOf, answerOf, statesAfter, judgeTree}
 use Rattle.rules.proofs.Judgement.Walk.{walk-shows}

@@ -1,19 +1,16 @@
 -- The records of an accepted case: its node lines read again are those of the tree that the walk found. Assumes nothing.
 use mathlib.Core.Path.{_≡_, refl, sym, ap, subst, _∙_}
 use mathlib.Core.List.{List, [], _∷_, _++_, map}
-use Prim.Native.Nat.{ℕ, zero, suc, _+_, _-_, _*_, _≤_, _<_}
+use Prim.Native.Nat.{ℕ, zero, suc, _+_, _-_, _*_, _≤_}
 use native.Mathlib.Omega.{arith}
-use lib.ListN.{length, take, replicate, length-map, length-take}
+use lib.ListN.{length, take, replicate, length-map}
 use lib.Seq.{length-take-le}
 use Rattle.rules.specs.declared.Header.{Header}
 use Rattle.rules.specs.Table as T
-use Rattle.rules.specs.Table.{readLine}
-use Rattle.rules.specs.Case.{NodeLine, Case, Valued, Read, read, refused, follow, readOf, nodeOf, oneLine, many}
-use Rattle.rules.specs.Tree.{Tree, preorder, rootLine, mayClaim, Walk, walkTree}
-use Rattle.rules.specs.Verdict.{Found, right, wrong, filled}
+use Rattle.rules.specs.Case.{Case, Valued, Read, read, follow, readOf, nodeOf, oneLine, many}
+use Rattle.rules.specs.Tree.{Tree, preorder, rootLine}
+use Rattle.rules.specs.Verdict.{right, filled}
 use Rattle.rules.proofs.Judgement.Preorder.{linesOf}
-use Rattle.rules.proofs.Judgement.Walk.{walk-shows}
-use Rattle.reading.specs.Directory.{Finds}
 use Rattle.reading.proofs.Places.{line-read}
 use Rattle.tree.specs.Layout.{size, rows, rowsIn}
 use Rattle.records.specs.Records.{Head, headOf, recordsOf, recordsAfter, putRecord, putRecords}

@@ -1,21 +1,18 @@
 -- From what one phase leaves to what the next asks. Assumes nothing.
 use mathlib.Core.Path.{_≡_, refl, sym, ap, subst, _∙_}
-use mathlib.Core.List.{List, [], _∷_, _++_, flatten}
+use mathlib.Core.List.{List, _++_, flatten}
 use mathlib.Core.Option.{Option, none, some}
-use Prim.Native.Nat.{ℕ, zero, suc, _+_, _-_, _*_, _≤_, _<_}
+use Prim.Native.Nat.{ℕ, zero, suc, _+_, _-_, _≤_}
 use native.Mathlib.Omega.{arith}
-use lib.Dec.{ltb}
-use lib.ListN.{length, take, drop, replicate, length-append, length-drop}
+use lib.ListN.{length, drop, replicate, length-append, length-drop}
 use lib.Seq.{drop-at, sets, length-sets}
 use Rattle.rules.specs.declared.Header.{Header}
 use Rattle.rules.specs.declared.Answer.{Answer}
-use Rattle.rules.specs.declared.Answer.the-variants.{Accepted, Inapplicable}
-use Rattle.rules.specs.State.{wordCount, firstStop}
-use Rattle.rules.specs.Text.{feedFollows}
+use Rattle.rules.specs.State.{firstStop}
 use Rattle.rules.specs.Case as C
-use Rattle.rules.specs.Case.{Case, NodeLine, readCase}
-use Rattle.rules.specs.Tree.{Tree, preorder, mayClaim, Walk, walkTree, leastUnclaimed}
-use Rattle.rules.specs.Verdict.{Found, right, wrong, stateNeed, workNeed, textMost, statesOf, filled, answerOf, statesAfter, judgeTree}
+use Rattle.rules.specs.Case.{Case, readCase}
+use Rattle.rules.specs.Tree.{Tree, mayClaim, Walk, walkTree, leastUnclaimed}
+use Rattle.rules.specs.Verdict.{Found, right, wrong, stateNeed, workNeed, textMost, statesOf, filled, answerOf, statesAfter}
 use Rattle.rules.proofs.Judgement.Sound.{Sound, sound}
 use Rattle.text.specs.declared.Cursor.{Cursor}
 use Rattle.reading.specs.Directory.{Finds, ReadsAs, directorySize}
@@ -28,9 +25,9 @@ use Rattle.replay.specs.Running.{Left, ranOf, RanAs}
 use Rattle.replay.specs.declared.running.Ran.{Ran}
 use Rattle.replay.specs.declared.running.Ran.the-variants.{All, Stopped}
 use Rattle.replay.proofs.Calls.{left-worded}
-use Rattle.tree.specs.Layout.{marksFrom, planFrom, size, rows, directoryOf, marksIn, marksOf, planIn, rowsIn}
+use Rattle.tree.specs.Layout.{planFrom, directoryOf, marksIn, planIn}
 use Rattle.tree.specs.Numbers.{PlanAt}
-use Rattle.tree.specs.Whole.{Ready, TreeKept, TreeTold}
+use Rattle.tree.specs.Whole.{Ready, TreeTold}
 use Rattle.tree.specs.Marks.{leastUnmarked, asUnclaimed}
 use Rattle.tree.specs.declared.marks.Unclaimed.{Unclaimed}
 use Rattle.tree.specs.declared.marks.Unclaimed.the-variants.{None, At}

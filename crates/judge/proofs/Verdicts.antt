@@ -1,19 +1,19 @@
 -- The verdict row by row: what the rows up to here have answered settles it, or leaves it to the rows after. Assumes nothing.
-use mathlib.Core.Path.{_≡_, refl, sym, ap, _∙_}
+use mathlib.Core.Path.{_≡_, refl, ap, _∙_}
 use mathlib.Core.Bool.{Bool, true, false}
-use mathlib.Core.List.{List, [], _∷_}
+use mathlib.Core.List.{List}
 use mathlib.Core.Option.{Option, none, some}
-use Prim.Native.Nat.{ℕ, _+_, _*_, _≤_, _<_}
+use Prim.Native.Nat.{ℕ, _+_, _≤_, _<_}
 use borrow.Author.Tests.{lt-ltb, le-ltb}
 use lib.Dec.{ltb}
 use lib.ListN.{length}
 use Rattle.rules.specs.declared.Answer.{Answer}
 use Rattle.rules.specs.declared.Answer.the-variants.{ShortList, LongText, Inapplicable, Unclaimed}
-use Rattle.rules.specs.State.{wordCount, firstStop}
-use Rattle.rules.specs.Case.{NodeLine, Case, Read, read, refused, readCase}
+use Rattle.rules.specs.State.{firstStop}
+use Rattle.rules.specs.Case.{NodeLine, Case, read, refused, readCase}
 use Rattle.rules.specs.Tree.{Tree, preorder, Walk, mayClaim, walkTree, leastUnclaimed}
 use Rattle.rules.specs.Constraint.{holdsIn, firstBroken}
-use Rattle.rules.specs.Verdict.{Found, right, wrong, stateNeed, nodeNeed, workNeed, Lent, checkLists, firstShort, statesOf, noneBroken, judgeConstraints, allClaimed, treeWalked, judgeTree, planRuns, judgeRun, textRead, textMost, judgeText, listsLent, check}
+use Rattle.rules.specs.Verdict.{Found, right, wrong, stateNeed, nodeNeed, workNeed, checkLists, firstShort, statesOf, noneBroken, judgeConstraints, allClaimed, treeWalked, judgeTree, planRuns, judgeRun, textRead, textMost, judgeText, listsLent, check}
 
 -- ---- Rows 6 to 13
 

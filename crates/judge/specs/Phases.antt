@@ -3,12 +3,10 @@ use mathlib.Core.Path.{_≡_}
 use mathlib.Core.List.{List, flatten}
 use mathlib.Core.Option.{none}
 use Prim.Native.Nat.{ℕ, _-_, _*_, _≤_}
-use lib.Dec.{ltb}
 use lib.ListN.{length, take, drop, replicate}
 use Rattle.rules.specs.State.{firstStop}
-use Rattle.rules.specs.Text.{feedFollows}
 use Rattle.rules.specs.Case as C
-use Rattle.rules.specs.Case.{Case, NodeLine, readCase}
+use Rattle.rules.specs.Case.{NodeLine, readCase}
 use Rattle.rules.specs.Tree.{Tree, mayClaim, Walk, walkTree, leastUnclaimed}
 use Rattle.rules.specs.Verdict.{stateNeed, workNeed, textMost, statesOf, filled}
 use Rattle.reading.specs.Directory.{Finds, directorySize}

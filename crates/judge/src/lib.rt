@@ -1,9 +1,8 @@
 // The core of the check call, over plain lists: the rows of 01's table in their order. What it leaves in the work space are the numbers of
 // the node records, which the call then copies into the node list.
 ghost use mathlib.Core.Path.{_≡_};
-ghost use Prim.Native.Nat.{ℕ, _≤_};
 ghost use lib.ListN.{length, replicate};
-ghost use Rattle.rules.specs.Verdict.{stateNeed, workNeed, textMost, check, checkLists, answerOf, statesAfter, judgeText, judgeRun, judgeTree};
+ghost use Rattle.rules.specs.Verdict.{check, checkLists, answerOf, statesAfter, judgeText, judgeRun, judgeTree};
 ghost use Rattle.records.specs.Records.{recordsAfter};
 ghost use Rattle.reading.specs.TheCase.{caseOf};
 ghost use Rattle.judge.specs.Phases.{Cleared, Read, Ran as HasRun, Walked, Claimed};

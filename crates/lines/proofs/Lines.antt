@@ -2,17 +2,15 @@
 -- are those that the array holds, which is zero past them. Assumes nothing.
 use mathlib.Core.Path.{_≡_, refl, sym, ap, _∙_, fun-ext}
 use mathlib.Core.Bool.{Bool, true, false, _&&_, not}
-use mathlib.Core.List.{List, [], _∷_, _++_, map}
-use mathlib.Core.Logic.{_⊎_, inl, inr}
-use Prim.Native.Nat.{ℕ, zero, suc, _+_, _-_, _*_, _/_, _%_, _^_, _≤_, _<_}
+use mathlib.Core.List.{List, [], _∷_, _++_}
+use Prim.Native.Nat.{ℕ, zero, suc, _+_, _-_, _/_, _%_, _^_, _≤_, _<_}
 use native.Mathlib.Nat.{div-lt-iff-lt-mul, pow-suc, zero-add}
 use native.Mathlib.Decide.{decLt}
-use native.Mathlib.Numerals.{add-one}
 use native.Mathlib.Omega.{arith}
 use borrow.Author.Tests.{ne-eqb, eq-eqb}
 use lib.Dec.{eqb, leb, ltb, lit<}
 use lib.ListN.{length, getD, take, set, length-take, List·getD-eq-default}
-use lib.Seq.{sets, getD-take, getD-set-other, take-suc-set}
+use lib.Seq.{getD-take, getD-set-other, take-suc-set}
 use Rattle.rules.specs.declared.Header.{Header}
 use Rattle.rules.specs.Text.{Ending, ended, surplus, numberAt}
 use Rattle.rules.specs.Table as T
@@ -20,7 +18,7 @@ use Rattle.rules.specs.Table.{Kind, Item, one, inRange, scalar, members, number
 use Rattle.text.specs.declared.Cursor.{Cursor}
 use Rattle.text.specs.declared.Ending.{Ending as LineEnd}
 use Rattle.text.specs.declared.Ending.the-variants.{Line, Surplus}
-use Rattle.text.specs.Cursor.{cursor, asEnding}
+use Rattle.text.specs.Cursor.{asEnding}
 use Rattle.lines.specs.declared.item.Outcome.{Outcome}
 use Rattle.lines.specs.declared.item.Outcome.the-variants.{Done, Bad, Range}
 use Rattle.lines.specs.declared.line.Finish.the-variants.{Done as LineDone, Bad as LineBad, Range as LineRange}

@@ -1,18 +1,18 @@
 -- The invariant of the loop over a line's items: the line from its start reads as it does from here, after the items read so far.
 -- Assumes nothing.
 use mathlib.Core.Path.{_≡_, refl, sym, ap, subst, _∙_}
-use mathlib.Core.List.{List, [], _∷_}
+use mathlib.Core.List.{List, []}
 use Prim.Native.Nat.{ℕ, zero, suc, _+_, _-_, _*_, _/_, _%_, _^_, _≤_, _<_}
 use native.Mathlib.Decide.{decLt}
 use native.Mathlib.Numerals.{add-one}
 use native.Mathlib.Omega.{arith}
-use lib.ListN.{length, getD, take, set, length-set}
+use lib.ListN.{length, take, set, length-set}
 use Rattle.rules.specs.Text.{endingAt}
-use Rattle.rules.specs.Table.{finishLine, readItem, readItems}
+use Rattle.rules.specs.Table.{finishLine, readItems}
 use Rattle.text.specs.declared.Cursor.{Cursor}
 use Rattle.lines.specs.declared.range.Context.{Context}
 use Rattle.lines.specs.declared.item.Outcome.{Outcome}
-use Rattle.lines.specs.declared.item.Outcome.the-variants.{Done, Bad, Range}
+use Rattle.lines.specs.declared.item.Outcome.the-variants.{Done}
 use Rattle.lines.specs.declared.line.LineRead.{LineRead}
 use Rattle.lines.specs.Shapes.{itemOf, itemsIn, itemsOf}
 use Rattle.lines.specs.Reading.{readItemIn, asOutcome, noValues, stored}

@@ -1,12 +1,11 @@
 -- The tests of the ranges, as the code makes them. Assumes nothing.
 use mathlib.Core.Path.{_≡_, refl, sym, ap, _∙_}
-use mathlib.Core.Bool.{Bool, true, false, _&&_}
+use mathlib.Core.Bool.{Bool, true, false}
 use mathlib.Core.List.{List, [], _∷_}
 use Prim.Native.Nat.{ℕ, _+_, _-_, _≤_, _<_}
 use native.Mathlib.Omega.{arith}
-use borrow.Author.Tests.{le-leb, lt-leb, lt-ltb, le-ltb, ltb-true, ltb-false, ne-eqb}
-use lib.Dec.{leb, ltb}
-use Rattle.rules.specs.declared.Header.{Header}
+use borrow.Author.Tests.{le-leb, lt-leb, lt-ltb, ltb-true, ltb-false, ne-eqb}
+use lib.Dec.{ltb}
 use Rattle.rules.specs.Table.{one, task, isCompound}
 use Rattle.lines.specs.Shapes.{Code, lookUp, kinds, kindOf, items, itemOf}
 

@@ -1,14 +1,14 @@
 -- A whole line by the row of its letter: the shape of a byte tells the row's role and items. Assumes nothing.
 use mathlib.Core.Path.{_≡_, refl, sym, ap, _∙_}
 use mathlib.Core.Bool.{Bool, true, false}
-use mathlib.Core.List.{List, [], _∷_}
+use mathlib.Core.List.{List, []}
 use mathlib.Core.Option.{Option, none, some}
-use Prim.Native.Nat.{ℕ, _+_, _/_, _%_, _^_, _≤_, _<_}
+use Prim.Native.Nat.{ℕ, _/_, _%_, _≤_, _<_}
 use native.Mathlib.Omega.{arith}
 use borrow.Author.Tests.{eq-eqb, ne-eqb, le-ltb, lt-ltb}
-use lib.Dec.{eqb, ltb}
+use lib.Dec.{ltb}
 use Rattle.rules.specs.declared.Header.{Header}
-use Rattle.rules.specs.Text.{Letter, letter, noLetter, letterAt, feedFollows}
+use Rattle.rules.specs.Text.{letter, noLetter, letterAt, feedFollows}
 use Rattle.rules.specs.Table as T
 use Rattle.rules.specs.Table.{Role, Item, Row, roleNumber, rowOf, readItems, readRow, readLetter, readLine}
 use Rattle.lines.specs.Shapes.{itemsOf, shapeRow, rowShown}

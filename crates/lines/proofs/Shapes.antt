@@ -8,7 +8,7 @@ use native.Mathlib.Nat.{zero-add}
 use native.Mathlib.Omega.{arith}
 use borrow.Author.Tests.{ne-eqb}
 use lib.Dec.{T, leb, eqb, leb→le}
-use lib.ListN.{length, getD, List·getD-map}
+use lib.ListN.{getD, List·getD-map}
 use Rattle.rules.specs.Table.{Item, Row, rowIn, rowOf, table, roleNumber}
 use Rattle.lines.specs.Shapes.{shapeRow, rowShown, itemsOf, itemOf, kindOf}
 

@@ -1,7 +1,7 @@
 // The items of a line: a number, or a list with its members.
 ghost use mathlib.Core.Path.{_≡_};
 ghost use mathlib.Core.Bool.{_&&_};
-ghost use Prim.Native.Nat.{ℕ, _<_, _^_};
+ghost use Prim.Native.Nat.{_<_, _^_};
 ghost use lib.Dec.{leb, eqb};
 ghost use Rattle.rules.specs.Text.{numberAt};
 ghost use Rattle.rules.specs.Table.{one, take, leastAfter, readMembers, readList};

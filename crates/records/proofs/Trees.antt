@@ -2,8 +2,7 @@
 -- reached it. Assumes nothing.
 use mathlib.Core.Path.{_≡_, refl, sym, ap, subst, _∙_}
 use mathlib.Core.List.{List, [], _∷_, _++_, map, flatten, append-assoc, append-nil}
-use Prim.Native.Nat.{ℕ, zero, suc, _+_, _-_, _*_, _≤_, _<_}
-use native.Mathlib.Numerals.{add-one}
+use Prim.Native.Nat.{ℕ, suc, _+_, _-_, _*_, _≤_}
 use native.Mathlib.Omega.{arith}
 use lib.ListN.{length, getD, take, drop, set, length-append, length-take, take-append-drop}
 use lib.Seq.{sets, sets-eq, take-at, drop-append-le, getD-drop, drop-drop, getD-set-other}
@@ -11,7 +10,7 @@ use Rattle.rules.specs.Index.{Span}
 use Rattle.rules.specs.Case.{NodeLine, D, E, L}
 use Rattle.rules.specs.Tree.{Tree, leaf, empty, task, Trees, noTree, more, preorder, preorders, rootLine, span}
 use Rattle.rules.specs.Verdict.{nodeRecord}
-use Rattle.tree.specs.Layout.{rowsFrom, rowsPast, rowsIn, size, sizes, row, rows, rowsAll}
+use Rattle.tree.specs.Layout.{rowsFrom, rowsPast, rowsIn, size, rows, rowsAll}
 use Rattle.records.specs.Records.{Head, headOf, numbersOf, recordOf, recordsOf, putRecord, putRecords}
 use Rattle.records.proofs.Turns.{length-put}
 

@@ -1,9 +1,9 @@
 -- The node records as plain numbers, five in a row for each node, in the work space. Assumes nothing.
-use mathlib.Core.Bool.{Bool, true, false}
-use mathlib.Core.List.{List, [], _∷_, _++_, map, flatten}
-use Prim.Native.Nat.{ℕ, _+_, _-_, _*_}
+use mathlib.Core.Bool.{true, false}
+use mathlib.Core.List.{List, [], _∷_, map, flatten}
+use Prim.Native.Nat.{ℕ, _+_, _*_}
 use lib.Dec.{eqb}
-use lib.ListN.{length, getD, take, replicate}
+use lib.ListN.{getD, replicate}
 use lib.Seq.{sets}
 use Rattle.rules.specs.declared.Node.{Node}
 use Rattle.rules.specs.Case.{NodeLine, D, E, L}

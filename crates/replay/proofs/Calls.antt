@@ -14,7 +14,7 @@ use Rattle.rules.specs.declared.Answer.the-variants.{Accepted, ShortList, LongT
 use Rattle.rules.specs.State.{Action, wordCount, empty, insert, insertAll, next, actionAt, states, firstStop}
 use Rattle.rules.specs.Table.{Value}
 use Rattle.rules.specs.Case.{Case, Read, read, refused, setAt, membersAt, readCase}
-use Rattle.rules.specs.Verdict.{Found, right, wrong, stateNeed, workNeed, textMost, Lent, firstShort, replayLists, statesOf, planRuns, judgeRun, textRead, judgeText, listsLent, replay, answerOf, statesAfter}
+use Rattle.rules.specs.Verdict.{Found, right, wrong, stateNeed, workNeed, textMost, replayLists, statesOf, planRuns, judgeRun, textRead, judgeText, listsLent, replay, answerOf, statesAfter}
 use Rattle.rules.proofs.Tables.{length-tabulate}
 use Rattle.rules.proofs.Members.{length-insert, length-next}
 use Rattle.rules.proofs.Judgement.Each.{each-nil, each-cons}

@@ -9,7 +9,7 @@ use lib.Dec.{leb, ltb}
 use Rattle.rules.specs.declared.Header.{Header}
 use Rattle.rules.specs.Text.{Number, number, notPlain, missing, numberAt}
 use Rattle.rules.specs.Table as T
-use Rattle.rules.specs.Table.{Value, scalar, members, Taken, taken, bad, out, take, ItemRead, item, line, inRange, followTaken, withMember, readMembers, readItem, readItems}
+use Rattle.rules.specs.Table.{Value, scalar, members, Taken, taken, out, take, ItemRead, item, line, inRange, followTaken, withMember, readMembers, readItem, readItems}
 use Rattle.rules.specs.Case.{Case, listOf, membersAt}
 use Rattle.rules.proofs.Judgement.Each.{both-true}
 use Rattle.reading.specs.Directory.{LineIs}

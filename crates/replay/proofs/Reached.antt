@@ -1,21 +1,19 @@
 -- Running the plan: the run from the start is the run from here, after the cues taken so far. Assumes nothing.
-use mathlib.Core.Path.{_≡_, refl, sym, ap, ap₂, subst, _∙_}
+use mathlib.Core.Path.{_≡_, refl, sym, ap, subst, _∙_}
 use mathlib.Core.Bool.{Bool, true, false, false≢true}
 use mathlib.Core.List.{List, [], _∷_}
-use mathlib.Core.Option.{Option, none, some}
-use Prim.Native.Nat.{ℕ, suc, _+_, _*_, _≤_, _<_}
+use mathlib.Core.Option.{Option, some}
+use Prim.Native.Nat.{ℕ, _+_, _≤_, _<_}
 use native.Mathlib.Numerals.{add-one}
 use native.Mathlib.Omega.{arith}
 use lib.ListN.{length, getD, drop, drop-of-length-le}
 use lib.Seq.{drop-cons}
 use Rattle.rules.specs.declared.Header.{Header}
-use Rattle.rules.specs.State as S
 use Rattle.rules.specs.State.{Action, applies, next, step, actionAt, states, firstStop}
-use Rattle.rules.specs.Text.{number, numberAt}
+use Rattle.rules.specs.Text.{number}
 use Rattle.rules.specs.Table as T
 use Rattle.rules.specs.Table.{line, readLine}
 use Rattle.rules.specs.Case.{Case}
-use Rattle.rules.specs.Case as C
 use Rattle.rules.specs.Verdict.{statesOf}
 use Rattle.rules.proofs.Judgement.Sound.{Sound, sound}
 use Rattle.state.specs.declared.State.{State}
@@ -24,10 +22,9 @@ use Rattle.state.specs.Action.{actionOf}
 use Rattle.text.specs.declared.Cursor.{Cursor}
 use Rattle.reading.specs.declared.again.Numbered.{Numbered}
 use Rattle.reading.specs.Again.{pastLetter, numberOr, numberHere}
-use Rattle.reading.specs.Directory.{LineIs, Finds, directorySize}
+use Rattle.reading.specs.Directory.{directorySize}
 use Rattle.rows.specs.Rows.{putRow, putRows}
 use Rattle.replay.specs.declared.again.Sets.{Sets}
-use Rattle.replay.specs.declared.running.Ran.{Ran}
 use Rattle.replay.specs.declared.running.Ran.the-variants.{All, Stopped}
 use Rattle.replay.specs.Again.{ActionSets, InitialSet}
 use Rattle.reading.specs.TheCase.{caseOf}

@@ -1,6 +1,6 @@
 // The open call, in the order of the table.
 ghost use mathlib.Core.Path.{_≡_};
-ghost use Prim.Native.Nat.{ℕ, _≤_};
+ghost use Prim.Native.Nat.{_≤_};
 ghost use lib.ListN.{length, replicate};
 ghost use Rattle.rules.specs.Verdict.{stateNeed, workNeed, textMost, replayLists, replay, answerOf, statesAfter, workAfter};
 ghost use Rattle.reading.specs.TheCase.{caseOf};

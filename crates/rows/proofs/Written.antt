@@ -7,7 +7,7 @@ use mathlib.Core.List.{List·Memᴰ·head as here}
 use Prim.Native.Nat.{ℕ, zero, suc, _+_, _-_, _*_, _≤_, _<_}
 use native.Mathlib.Decide.{decLt}
 use native.Mathlib.Omega.{arith}
-use lib.ListN.{length, getD, take, drop, replicate, length-append, length-drop, length-replicate, take-append-drop}
+use lib.ListN.{length, getD, take, drop, replicate, length-append, length-drop, take-append-drop}
 use lib.Seq.{take-at, drop-at, drop-drop, take-append-le, drop-append-le, drop-append-add, length-take-le, ext-getD}
 use Rattle.rules.specs.State.{State, wordCount}
 use Rattle.rules.specs.Verdict.{filled}

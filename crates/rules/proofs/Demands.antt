@@ -1,11 +1,11 @@
 -- Demands 2 and 3 of the verdict. Demand 2 is `accepts-iff`; demand 3 follows, since what reading guarantees lets the rules and the
 -- rewritings of a case agree. The widest form asks only that the answer is none of 1, 2, 3, 4 and 7. Assumes nothing.
-use mathlib.Core.Path.{_≡_, refl, sym, _∙_, ap, subst}
+use mathlib.Core.Path.{_≡_, refl, _∙_, ap, subst}
 use mathlib.Core.Bool.{Bool, true, false}
-use mathlib.Core.List.{List, [], List·Memᴰ as Mem}
+use mathlib.Core.List.{List, []}
 use mathlib.Core.Logic.{_↔_}
 use mathlib.Core.Option.{Option, none, some}
-use Prim.Native.Nat.{ℕ, _+_, _≤_, _<_}
+use Prim.Native.Nat.{ℕ, _≤_, _<_}
 use native.Mathlib.Decide.{decLe}
 use native.Mathlib.Nat.{lt-of-not-le}
 use lib.Dec.{ltb}
@@ -13,18 +13,17 @@ use lib.ListN.{length}
 use borrow.Author.Tests.{ltb-false, le-ltb}
 use Rattle.rules.specs.declared.Answer.{Answer}
 use Rattle.rules.specs.declared.Answer.the-variants.{Accepted, ShortList, LongText, Unreadable, OutOfRange, Inapplicable, WrongNode, TooDeep, WrongClaim, Unclaimed, OrderBroken, BeforeBroken, AfterBroken, BetweenBroken}
-use Rattle.rules.specs.Case.{NodeLine, L, Case, Read, read, refused, readCase}
-use Rattle.rules.specs.Tree.{Tree, Walk, isIn, mayClaim, levelCount, walkTree}
-use Rattle.rules.specs.Verdict.{Found, right, wrong, Lent, firstShort, statesOf, treeWalked, judgeTree, planRuns, judgeRun, textRead, textMost, judgeText, listsLent, check, answerOf, readable, insideLimits}
+use Rattle.rules.specs.Case.{L, Case, Read, read, refused, readCase}
+use Rattle.rules.specs.Tree.{Tree, Walk, isIn, mayClaim, levelCount}
+use Rattle.rules.specs.Verdict.{Found, wrong, Lent, firstShort, statesOf, treeWalked, judgeTree, planRuns, judgeRun, textRead, textMost, judgeText, listsLent, check, answerOf}
 use Rattle.rules.specs.Rules.{PlanRuns, Rules}
-use Rattle.rules.specs.Rewriting.{Rewriting}
 use Rattle.rules.specs.Demands.{IsAccepted, RulesOf, RewritingOf, Demand2, Demand3}
 use Rattle.rules.proofs.Judgement.Sound.{Sound, sound}
 use Rattle.rules.proofs.Judgement.Preorder.{height}
 use Rattle.rules.proofs.Judgement.WalkFinds.{walk-too-deep}
 use Rattle.rules.proofs.Judgement.Claims.{claims-ahead}
 use Rattle.rules.proofs.Judgement.Run.{no-stop}
-use Rattle.rules.proofs.Judgement.Theorem.{accepts-iff, accepts-rules, rules-accept, position-claimed}
+use Rattle.rules.proofs.Judgement.Theorem.{accepts-iff, rules-accept, position-claimed}
 use Rattle.rules.proofs.Rewritings.Statement.{Placed}
 use Rattle.rules.proofs.Rewritings.Theorem.{agreement, record-decides}
 

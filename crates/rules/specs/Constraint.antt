@@ -7,7 +7,7 @@ use Rattle.rules.specs.declared.Answer.{Answer}
 use Rattle.rules.specs.declared.Answer.the-variants.{OrderBroken, BeforeBroken, AfterBroken, BetweenBroken}
 use Rattle.rules.specs.State.{State, member, every, stateAt}
 use Rattle.rules.specs.Index.{Span, Part, partOf, only, spanOfPart, c, f, isBefore}
-use Rattle.rules.specs.Case.{Constraint, O, B, F, W, Method, methodAt, Case}
+use Rattle.rules.specs.Case.{Constraint, O, B, F, W, methodAt, Case}
 use Rattle.rules.specs.Tree.{Tree, leaf, empty, task, span, subtaskSpans}
 
 -- Whether proposition p is in state l.

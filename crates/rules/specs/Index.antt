@@ -1,5 +1,5 @@
 -- Indexes and spans (01, "Indexes"). Every index here is doubled: twice 01's index. Assumes nothing.
-use mathlib.Core.Bool.{Bool, true, false, cond}
+use mathlib.Core.Bool.{Bool, cond}
 use mathlib.Core.List.{List, [], _∷_, _++_, map, foldr}
 use Prim.Native.Nat.{ℕ, zero, suc, _+_, _*_, _/_, min, max}
 use lib.Dec.{eqb, ltb}

@@ -1,8 +1,8 @@
 -- The marks of the positions claimed: one more claim is one more mark, and the least position without a mark is the least unclaimed.
 -- Assumes nothing.
 use mathlib.Core.Path.{_≡_, refl, sym, ap, _∙_}
-use mathlib.Core.Bool.{Bool, true, false, cond, _||_, not}
-use mathlib.Core.List.{List, [], _∷_}
+use mathlib.Core.Bool.{Bool, true, false, cond, _||_}
+use mathlib.Core.List.{List, _∷_}
 use mathlib.Core.Option.{Option, none, some}
 use Prim.Native.Nat.{ℕ, zero, suc, _+_, _-_, _≤_, _<_}
 use native.Mathlib.Decide.{ℕ-discrete}
@@ -13,7 +13,7 @@ use lib.Dec.{eqb}
 use lib.ListN.{length, getD, set, take, length-set, length-take, drop-of-length-le}
 use lib.Seq.{slice, slice-cons, ext-getD, getD-set-same, getD-set-other}
 use Rattle.rules.specs.State.{tabulate}
-use Rattle.rules.specs.Tree.{isIn, mayClaim, leastUnclaimed}
+use Rattle.rules.specs.Tree.{isIn, leastUnclaimed}
 use Rattle.rules.proofs.Tables.{length-tabulate, getD-tabulate}
 use Rattle.tree.specs.Layout.{marksFrom, planFrom, marksOf, marksIn, planIn}
 use Rattle.tree.specs.Marks.{leastUnmarked}

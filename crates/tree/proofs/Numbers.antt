@@ -1,5 +1,5 @@
 -- Numbers read again: what a line's row of the table read is what the code finds by taking the numbers from left to right. Assumes nothing.
-use mathlib.Core.Path.{_≡_, refl, sym, ap, ap₂, subst, _∙_}
+use mathlib.Core.Path.{_≡_, refl, sym, ap, subst, _∙_}
 use mathlib.Core.Bool.{Bool, true, false, _&&_}
 use mathlib.Core.List.{List, [], _∷_, _++_}
 use mathlib.Core.Option.{some}
@@ -7,14 +7,13 @@ use Prim.Native.Nat.{ℕ, zero, suc, _+_}
 use lib.Dec.{eqb, leb}
 use lib.ListN.{length}
 use Rattle.rules.specs.declared.Header.{Header}
-use Rattle.rules.specs.Text.{Number, number, notPlain, missing, numberAt, Letter, letter, noLetter, letterAt, Ending, ended, surplus, endingAt, feedFollows}
+use Rattle.rules.specs.Text.{Number, number, notPlain, missing, numberAt, Letter, letter, noLetter, letterAt, feedFollows}
 use Rattle.rules.specs.Table as T
-use Rattle.rules.specs.Table.{Role, Item, one, Row, table, rowIn, rowOf, roleNumber, inRange, taken, out, take, Value, scalar, members, numberOf, ItemRead, item, followTaken, withMember, leastAfter, readMembers, readList, readItem, LineRead, line, followItem, withValue, finishLine, readItems, readRow, readLetter, readLine}
+use Rattle.rules.specs.Table.{Role, Item, one, Row, table, rowIn, rowOf, roleNumber, inRange, taken, out, take, Value, scalar, members, numberOf, ItemRead, item, followTaken, withMember, leastAfter, readMembers, readList, readItem, LineRead, line, followItem, withValue, readItems, readRow, readLetter, readLine}
 use Rattle.rules.specs.Case.{Method, Case, Valued, Read, read, refused, follow, readOf, oneLine, many, oneMethod, methodOf, scalarAt, membersAt}
 use Rattle.text.specs.declared.Cursor.{Cursor}
 use Rattle.text.specs.Cursor.{cursor}
 use Rattle.reading.specs.Again.{afterLetter, pastLetter, numberOr, numberHere}
-use Rattle.reading.specs.Directory.{LineIs}
 use Rattle.tree.specs.Numbers.{numbersAt, PlanAt}
 use Rattle.tree.specs.Fits.{methodHead, taskPlace, countPlace, subtaskPlace}
 

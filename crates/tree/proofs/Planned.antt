@@ -10,7 +10,7 @@ use Rattle.rules.specs.Case.{Case}
 use Rattle.text.specs.Cursor.{cursor}
 use Rattle.reading.specs.Again.{pastLetter}
 use Rattle.tree.specs.Layout.{marksFrom, planFrom, rowsFrom, rowsPast, directoryOf, marksIn, planIn, rowsIn}
-use Rattle.tree.specs.Numbers.{numbersAt, PlanAt}
+use Rattle.tree.specs.Numbers.{PlanAt}
 use Rattle.tree.proofs.Numbers.{length-numbers, plan-numbers}
 use Rattle.tree.proofs.Stores.{drop-sets, drop-take, take-sets-all, slice-sets-after, slice-sets-before}
 

@@ -1,19 +1,17 @@
 -- The nodes of a tree in preorder and their rows: what stands where, for whoever reads the work space after the walk. Assumes nothing.
-use mathlib.Core.Path.{_≡_, refl, sym, ap, subst, _∙_}
+use mathlib.Core.Path.{_≡_, refl, sym, ap, _∙_}
 use mathlib.Core.List.{List, [], _∷_, _++_, append-nil, append-assoc}
 use Prim.Native.Nat.{ℕ, zero, suc, _+_, _-_, _*_, _≤_, _<_}
 use native.Mathlib.Decide.{decLt}
 use native.Mathlib.Nat.{add-zero, zero-add}
-use native.Mathlib.Numerals.{add-one}
 use native.Mathlib.Omega.{arith}
 use lib.ListN.{length, getD, take, drop, length-append, length-drop, length-map, List·getD-append}
-use lib.Seq.{slice, drop-drop, drop-append-le, drop-append-add, take-append-le, getD-append-add, getD-drop, getD-take}
-use Rattle.rules.specs.Index.{Span}
+use lib.Seq.{drop-drop, drop-append-le, drop-append-add, take-append-le, getD-append-add, getD-drop, getD-take}
 use Rattle.rules.specs.Case.{NodeLine, Case}
 use Rattle.rules.specs.Tree.{Tree, leaf, empty, task, Trees, noTree, more, preorder, preorders, rootLine, span, ClaimTest, Walk, walkTree}
 use Rattle.rules.proofs.Judgement.Walk.{walk-shows}
 use Rattle.tree.specs.Layout.{rowsFrom, rowsPast, size, sizes, row, rows, rowsAll, nodeAt, ChildrenFrom, rowsIn}
-use Rattle.tree.proofs.Stores.{length-rows, length-rowsAll, size-some, slice-at}
+use Rattle.tree.proofs.Stores.{length-rows, size-some, slice-at}
 
 -- ---- How many nodes
 

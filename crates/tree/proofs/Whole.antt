@@ -1,19 +1,19 @@
 -- The root's walk, told of the whole claimed tree: one law for each way out of `walk_tree`. Assumes nothing.
 use mathlib.Core.Path.{_≡_, refl, sym, ap, subst, _∙_}
-use mathlib.Core.List.{List, [], _∷_, _++_}
-use Prim.Native.Nat.{ℕ, zero, suc, _+_, _-_, _*_, _≤_, _<_}
+use mathlib.Core.List.{List, []}
+use Prim.Native.Nat.{ℕ, _+_, _-_, _*_, _≤_, _<_}
 use native.Mathlib.Omega.{arith}
-use lib.ListN.{length, getD, take, drop, length-drop, drop-of-length-le}
+use lib.ListN.{take, drop, length-drop, drop-of-length-le}
 use lib.Seq.{sets, take-take, drop-cons, getD-take}
 use Rattle.rules.specs.declared.Answer.{Answer}
 use Rattle.rules.specs.declared.Answer.the-variants.{WrongNode}
 use Rattle.rules.specs.declared.Header.{Header}
 use Rattle.rules.specs.Table as T
-use Rattle.rules.specs.Case.{NodeLine, D, Case, Read, read, oneLine, many, methodAt, oneMethod}
+use Rattle.rules.specs.Case.{NodeLine, D, Case, oneLine, many, oneMethod}
 use Rattle.rules.specs.Tree.{Tree, Walk, mayClaim, walkNode, noneOver, levelCount, walkTree}
 use Rattle.rules.proofs.Judgement.Sound.{Sound, sound}
 use Rattle.index.specs.declared.Span.{Span}
-use Rattle.reading.specs.Directory.{methodsFrom, Finds}
+use Rattle.reading.specs.Directory.{methodsFrom}
 use Rattle.tree.specs.declared.fit.Given.{Given}
 use Rattle.tree.specs.declared.fit.Place.{Place}
 use Rattle.tree.specs.declared.rows.Walked.{Walked}
@@ -21,10 +21,10 @@ use Rattle.tree.specs.declared.rows.Walked.the-variants.{Next, Refused}
 use Rattle.tree.specs.declared.walk.TreeWalk.{TreeWalk}
 use Rattle.tree.specs.declared.walk.TreeWalk.the-variants.{Right, Refused as TreeRefused}
 use Rattle.text.specs.declared.Cursor.{Cursor}
-use Rattle.tree.specs.Layout.{marksFrom, rowsFrom, rowsPast, size, rows, directoryOf, marksIn, marksOf, planIn, rowsIn, NodesFrom}
+use Rattle.tree.specs.Layout.{marksFrom, rowsFrom, rowsPast, size, rows, directoryOf, rowsIn}
 use Rattle.tree.specs.Fits.{lineAt, Follows}
-use Rattle.tree.specs.Standing.{MethodsAt, Steady, nodeFrom, Passed, Told, WalksNode}
-use Rattle.tree.specs.Whole.{Ready, TreeKept, TreeTold}
+use Rattle.tree.specs.Standing.{MethodsAt, Steady, nodeFrom, Told, WalksNode}
+use Rattle.tree.specs.Whole.{Ready, TreeTold}
 use Rattle.tree.proofs.Stores.{drop-take, take-sets-all, length-rows}
 use Rattle.tree.proofs.Within.{plan-line-low}
 

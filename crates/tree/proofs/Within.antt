@@ -10,10 +10,10 @@ use native.Mathlib.Omega.{arith}
 use lib.Dec.{eqb, leb, ltb}
 use lib.ListN.{length, drop, drop-of-length-le}
 use Rattle.rules.specs.declared.Header.{Header}
-use Rattle.rules.specs.Text.{isComma, isFeed, fieldOf, isPlain, valueOf, Number, number, notPlain, missing, numberOf, numberAfter, numberAt, Letter, letter, noLetter, letterOf, letterAt, Ending, ended, surplus, endingOf, endingAt, hasFeed, feedFollows}
+use Rattle.rules.specs.Text.{isComma, isFeed, fieldOf, isPlain, valueOf, Number, number, notPlain, missing, numberOf, numberAfter, numberAt, letterOf, letterAt, ended, surplus, endingOf, endingAt, hasFeed, feedFollows}
 use Rattle.rules.specs.Table as T
 use Rattle.rules.specs.Table.{Role, Item, one, Row, rowOf, roleNumber, inRange, taken, out, take, Value, scalar, members, ItemRead, item, followTaken, withMember, leastAfter, readMembers, readList, readItem, LineRead, line, followItem, withValue, finishLine, readItems, readRow, readLetter, readLine}
-use Rattle.rules.specs.Case.{Case, Valued, Read, read, refused, follow, readOf, oneLine, many, oneMethod, methodOf, scalarAt, membersAt, setAt, actionOf, nodeOf, headerOf, noHeader, noSurplus, readBody, readCase}
+use Rattle.rules.specs.Case.{Case, Valued, Read, read, refused, follow, readOf, oneLine, many, oneMethod, scalarAt, membersAt, setAt, actionOf, nodeOf, headerOf, noHeader, noSurplus, readBody, readCase}
 
 -- ---- A field and an item move on
 

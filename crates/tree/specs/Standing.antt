@@ -6,24 +6,21 @@ use mathlib.Core.List.{List, [], _∷_}
 use Prim.Native.Nat.{ℕ, _+_, _-_, _*_, _≤_, _<_}
 use lib.ListN.{length, getD, drop}
 use lib.Seq.{sets}
-use Rattle.rules.specs.declared.Answer.{Answer}
 use Rattle.rules.specs.declared.Answer.the-variants.{WrongClaim}
 use Rattle.rules.specs.Index as Ix
 use Rattle.rules.specs.Index.{at, hull}
-use Rattle.rules.specs.Case.{NodeLine, Case, Read, read, methodAt, oneMethod, readCase}
-use Rattle.rules.specs.Tree.{Tree, leaf, empty, Trees, noTree, more, span, spans, Walk, Walks, asTask, walkSubtasks, mayClaim, walkNode}
-use Rattle.index.specs.declared.Doubled.{Doubled}
+use Rattle.rules.specs.Case.{NodeLine, Case, read, methodAt, oneMethod, readCase}
+use Rattle.rules.specs.Tree.{leaf, empty, Trees, noTree, more, span, spans, Walk, Walks, asTask, walkSubtasks, mayClaim, walkNode}
 use Rattle.index.specs.declared.Span.{Span}
 use Rattle.index.specs.Spans.{spanOf}
 use Rattle.reading.specs.Directory.{methodsFrom}
 use Rattle.tree.specs.declared.fit.Given.{Given}
 use Rattle.tree.specs.declared.fit.Place.{Place}
-use Rattle.tree.specs.declared.fit.Subtasks.{Subtasks}
 use Rattle.tree.specs.declared.fit.Fit.{Fit}
 use Rattle.tree.specs.declared.fit.Fit.the-variants.{Refused as RefusedFit, Open, Empty as EmptyFit, Leaf as LeafFit}
 use Rattle.tree.specs.declared.rows.Walked.{Walked}
 use Rattle.tree.specs.declared.rows.Walked.the-variants.{Next, Refused}
-use Rattle.tree.specs.Layout.{rowsFrom, size, sizes, row, rows, rowsAll, marksOf, directoryOf, marksIn, planIn, NodesFrom}
+use Rattle.tree.specs.Layout.{rowsFrom, size, sizes, row, rows, rowsAll, marksOf, directoryOf, marksIn, planIn}
 use Rattle.tree.specs.Numbers.{numbersAt}
 use Rattle.tree.specs.Fits.{lineAt, Follows}
 

@@ -1,10 +1,10 @@
 -- What the walk of the whole tree asks and promises. Assumes nothing.
 use mathlib.Core.Path.{_≡_}
 use mathlib.Core.List.{List, []}
-use Prim.Native.Nat.{ℕ, _+_, _*_, _≤_, _<_}
+use Prim.Native.Nat.{ℕ, _*_, _≤_}
 use lib.ListN.{length, take}
 use Rattle.rules.specs.declared.Header.{Header}
-use Rattle.rules.specs.Case.{Case, Read, read, readCase}
+use Rattle.rules.specs.Case.{Case, read, readCase}
 use Rattle.rules.specs.Tree.{Tree, Walk}
 use Rattle.reading.specs.Directory.{Finds}
 use Rattle.tree.specs.declared.walk.TreeWalk.{TreeWalk}

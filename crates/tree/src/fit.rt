@@ -8,6 +8,7 @@ ghost use Rattle.reading.specs.TheCase.{caseOf};
 ghost use Rattle.tree.specs.Fits.{entryOf, methodHead, fitOf, WithMethod, atLevel, Follows, lineAt};
 ghost use Rattle.tree.specs.Standing.{Steady, Judged};
 use reading::Again;
+use reading::METHODS_FROM;
 use reading::read_again;
 use rules::Answer;
 use rules::Header;
@@ -89,7 +90,7 @@ fn method_head(text: &[u8], work: &[u32], m: u32) -> MethodHead
     requires { ⌜ (m < 2048) × (3072 ≤ length (now work)) ⌝ }
     ensures { λ r. ⌜ r ≡ methodHead (now (text .entry)) (getD (now (work .entry)) (methodsFrom + m) 0) ⌝ }
 {
-    let i = 1024 + m as usize;
+    let i = METHODS_FROM + m as usize;
     let at = work[i] as usize;
     let c = reading::after_letter(text, Cursor { at });
     let task = reading::number_again(text, c);

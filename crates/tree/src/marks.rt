@@ -1,6 +1,6 @@
 // Which positions are claimed, once the tree is walked.
 ghost use mathlib.Core.Path.{_≡_};
-ghost use Prim.Native.Nat.{ℕ, _≤_};
+ghost use Prim.Native.Nat.{_≤_};
 ghost use lib.ListN.{length};
 ghost use Rattle.tree.specs.Layout.{marksIn};
 ghost use Rattle.tree.specs.Marks.{asUnclaimed, leastUnmarked};

@@ -1,6 +1,6 @@
 // What a walk leaves in the work space: a row for each node, and a mark for each position claimed.
 ghost use mathlib.Core.Path.{_≡_};
-ghost use Prim.Native.Nat.{ℕ, _+_, _*_, _≤_, _<_};
+ghost use Prim.Native.Nat.{_+_, _*_, _≤_, _<_};
 ghost use lib.ListN.{length};
 ghost use Rattle.index.specs.Spans.{spanOf};
 ghost use Rattle.rules.specs.Index.{ofGap, at};

@@ -1,8 +1,7 @@
 // The walk of the claimed tree (01, "The tree"): "A node is walked by walking its subtasks, and the subtasks by walking each node among
 // them in turn."
 ghost use mathlib.Core.Path.{_≡_};
-ghost use mathlib.Core.List.{_∷_};
-ghost use Prim.Native.Nat.{ℕ, _+_, _-_, _≤_, _<_};
+ghost use Prim.Native.Nat.{_+_, _-_, _≤_, _<_};
 ghost use Rattle.reading.specs.TheCase.{caseOf};
 ghost use Rattle.tree.specs.Numbers.{numbersAt};
 ghost use Rattle.tree.specs.Fits.{Follows, firstOf};

@@ -5,7 +5,7 @@ use Rattle.capi.specs.Replies.{replyOf}
 use Rattle.rules.specs.Verdict.{reported}
 use Rattle.rules.specs.declared.Answer.{Answer}
 use borrow.Author.Needs.{needs}
-use mathlib.Core.Path.{_≡_, ap, _∙_}
+use mathlib.Core.Path.{ap, _∙_}
 
 replay-requires : tie.Need-replay-requires
 replay-requires c κs = search needs

@@ -4,7 +4,6 @@ use Rattle.capi.proofs.cuecheck_step.Statement.{statement}
 use Rattle.capi.proofs.cuecheck_step.Tie as tie
 use Rattle.rules.specs.State.{step}
 use borrow.Author.Needs.{needs}
-use mathlib.Core.Path.{_≡_}
 
 step-requires : tie.Need-step-requires
 step-requires c κs = search needs

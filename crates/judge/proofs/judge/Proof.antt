@@ -6,11 +6,10 @@ use Rattle.judge.proofs.judge.Statement.{statement}
 use Rattle.judge.proofs.judge.Tie as tie
 use Rattle.records.specs.Records.{recordsAfter}
 use Rattle.rules.specs.State.{wordCount}
-use Rattle.rules.specs.Verdict.{answerOf, statesAfter, textMost, workNeed, stateNeed, nodeNeed, check, checkLists, judgeText, judgeTree}
+use Rattle.rules.specs.Verdict.{answerOf, statesAfter, textMost, workNeed, stateNeed, nodeNeed, check, checkLists, judgeTree}
 use Rattle.rules.specs.declared.Answer.the-variants.{ShortList, LongText}
 use borrow.Author.Needs.{needs}
 use lib.ListN.{length, replicate}
-use mathlib.Core.List.{List}
 use mathlib.Core.Path.{_≡_, ap, sym, _∙_}
 use native.Mathlib.Omega.{arith}
 

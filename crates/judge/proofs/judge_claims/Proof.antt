@@ -9,10 +9,8 @@ use Rattle.rules.specs.Verdict.{workNeed, judgeTree}
 use Rattle.rules.specs.declared.Answer.the-variants.{Unclaimed}
 use Rattle.rules.specs.declared.Header.{Header}
 use borrow.Author.Needs.{needs}
-use lib.ListN.{length, replicate}
-use mathlib.Core.List.{List}
-use mathlib.Core.Path.{_≡_, ap, sym, subst, _∙_}
-use native.Mathlib.Omega.{arith}
+use lib.ListN.{length}
+use mathlib.Core.Path.{ap, sym, subst, _∙_}
 
 least-unclaimed-requires : tie.Need-least-unclaimed-requires
 unfolding workNeed

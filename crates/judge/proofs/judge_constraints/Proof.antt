@@ -8,7 +8,6 @@ use Rattle.reading.specs.TheCase.{caseOf}
 use Rattle.rules.specs.Verdict.{judgeTree}
 use borrow.Author.Needs.{needs}
 use lib.ListN.{length, replicate}
-use mathlib.Core.List.{List}
 use mathlib.Core.Path.{_≡_, ap, _∙_}
 
 first-broken-requires : tie.Need-first-broken-requires

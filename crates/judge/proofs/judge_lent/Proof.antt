@@ -1,5 +1,5 @@
 -- `judge_lent`: the text reads as its case, and the run follows; or it is refused, and both lists are cleared. Assumes nothing.
-use Prim.Native.Nat.{ℕ, _≤_}
+use Prim.Native.Nat.{ℕ}
 use Rattle.judge.proofs.Phases.{refused-all, read-opens, read-refuses, unused-front, front-size}
 use Rattle.judge.proofs.Verdicts.{text-refused, text-reads}
 use Rattle.judge.proofs.judge_lent.Statement.{statement}
@@ -8,10 +8,9 @@ use Rattle.reading.specs.Directory.{directorySize}
 use Rattle.records.specs.Records.{recordsAfter}
 use Rattle.reading.specs.TheCase.{caseOf}
 use Rattle.rules.specs.Tree.{Tree}
-use Rattle.rules.specs.Verdict.{answerOf, statesAfter, textMost, workNeed, stateNeed, judgeText, judgeTree, Found}
+use Rattle.rules.specs.Verdict.{answerOf, statesAfter, textMost, workNeed, judgeText, judgeTree, Found}
 use borrow.Author.Needs.{needs}
 use lib.ListN.{length, take, drop, replicate, length-take}
-use mathlib.Core.List.{List, _++_}
 use mathlib.Core.Path.{_≡_, ap, sym, _∙_}
 use native.Mathlib.Omega.{arith}
 

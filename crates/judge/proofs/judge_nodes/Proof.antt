@@ -6,10 +6,9 @@ use Rattle.judge.proofs.judge_nodes.Statement.{statement}
 use Rattle.judge.proofs.judge_nodes.Tie as tie
 use Rattle.records.specs.Records.{recordsAfter}
 use Rattle.reading.specs.TheCase.{caseOf}
-use Rattle.rules.specs.Verdict.{statesAfter, judgeTree}
+use Rattle.rules.specs.Verdict.{judgeTree}
 use borrow.Author.Needs.{needs}
 use lib.ListN.{length, replicate}
-use mathlib.Core.List.{List}
 use mathlib.Core.Path.{_≡_, ap, _∙_}
 
 store-plan-requires : tie.Need-store-plan-requires

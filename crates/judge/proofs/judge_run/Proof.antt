@@ -1,5 +1,5 @@
 -- `judge_run`: every cue applies, and the tree follows; or one does not, and both lists are cleared. Assumes nothing.
-use Prim.Native.Nat.{ℕ, _≤_}
+use Prim.Native.Nat.{ℕ}
 use Rattle.judge.proofs.Phases.{refused-all, open-left, run-stops, run-passes}
 use Rattle.judge.proofs.Verdicts.{run-refused, run-right}
 use Rattle.judge.proofs.judge_run.Statement.{statement}
@@ -13,7 +13,6 @@ use Rattle.rules.specs.Verdict.{answerOf, statesAfter, stateNeed, judgeRun, jud
 use Rattle.rules.specs.declared.Answer.the-variants.{Inapplicable}
 use borrow.Author.Needs.{needs}
 use lib.ListN.{length, replicate}
-use mathlib.Core.List.{List}
 use mathlib.Core.Path.{_≡_, ap, sym, _∙_}
 use native.Mathlib.Omega.{arith}
 

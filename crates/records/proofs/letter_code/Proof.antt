@@ -3,7 +3,6 @@ use Rattle.records.proofs.Codes.{code-leaf}
 use Rattle.records.proofs.letter_code.Statement.{statement}
 use Rattle.records.proofs.letter_code.Tie as tie
 use Rattle.records.specs.Records.{letterCode}
-use borrow.Author.Tests.{ne-eqb}
 
 returns : tie.Need-returns
 unfolding letterCode

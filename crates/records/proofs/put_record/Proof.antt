@@ -7,7 +7,6 @@ use Rattle.records.specs.Records.{putRecord}
 use Rattle.tree.specs.Layout.{rowsFrom}
 use borrow.Author.Needs.{needs}
 use lib.ListN.{length-set}
-use mathlib.Core.Path.{_≡_, refl, sym, ap, _∙_}
 use native.Mathlib.Omega.{arith}
 
 mul-row : tie.Need-mul-row

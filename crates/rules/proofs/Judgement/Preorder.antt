@@ -1,15 +1,11 @@
 -- The lines of a tree in preorder, its levels, and what its leaves claim: all by recursion on the tree or on the lines.
-use mathlib.Core.Path.{_≡_, refl, sym, _∙_, ap, subst}
-use mathlib.Core.Bool.{true, false}
-use mathlib.Core.List.{List, [], _∷_, _++_, map, map-append, append-assoc}
+use mathlib.Core.Path.{_≡_, refl}
+use mathlib.Core.Bool.{true}
+use mathlib.Core.List.{List, [], _∷_, _++_, map, map-append}
 use Prim.Native.Nat.{ℕ, suc, _+_, _≤_, max}
-use native.Mathlib.Omega.{arith}
-use lib.ListN.{length, length-append}
-use Rattle.rules.specs.declared.Answer.{Answer}
-use Rattle.rules.specs.declared.Answer.the-variants.{WrongNode, TooDeep, WrongClaim}
-use Rattle.rules.specs.Case.{methodAt, NodeLine, D, E, L, Case}
-use Rattle.rules.specs.Tree.{Tree, leaf, empty, task, Trees, noTree, more, preorder, preorders, rootLine, fits, ClaimTest, levelCount}
-use Rattle.rules.specs.Rules.{FitsTask, FitsTasks}
+use Rattle.rules.specs.Case.{NodeLine, D, E, L, Case}
+use Rattle.rules.specs.Tree.{Tree, leaf, empty, task, Trees, noTree, more, preorder, preorders, rootLine, ClaimTest, levelCount}
+use Rattle.rules.specs.Rules.{FitsTask}
 
 abbrev pub linesOf : Tree → List NodeLine
 linesOf x = map rootLine (preorder x)

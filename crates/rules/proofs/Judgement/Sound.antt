@@ -12,7 +12,7 @@ use borrow.Author.Tests.{leb-true, ltb-true, eqb-false, not-true}
 use Rattle.rules.specs.declared.Header.{Header}
 use Rattle.rules.specs.declared.Answer.the-variants.{Unreadable}
 use Rattle.rules.specs.Table.{Value, header, initial, action, method, constraint, plan, node, table, roleNumber, isCompound, inRange}
-use Rattle.rules.specs.Case.{Constraint, O, B, F, W, Method, NodeLine, D, E, L, Case, scalarAt, membersAt, setAt, headerOf, actionOf, Valued, constraintOf, nodeOf, methodOf, Read, read, refused, follow, oneLine, many, oneMethod, noSurplus, readBody, noHeader, readCase}
+use Rattle.rules.specs.Case.{Constraint, O, B, F, W, Method, NodeLine, D, E, L, Case, scalarAt, membersAt, setAt, headerOf, actionOf, Valued, constraintOf, nodeOf, methodOf, Read, read, refused, oneLine, many, oneMethod, noSurplus, readBody, noHeader, readCase}
 use Rattle.rules.proofs.Judgement.Each.{Each, each-nil, each-map, each-weaken, both-true}
 use Rattle.rules.proofs.Judgement.Reading.{ForLine, OfReading, ReadSays, read-then, one-line-says, Counted, many-say, lines-say}
 

@@ -8,7 +8,7 @@ use Prim.Native.Nat.{ℕ, _+_, _-_, _≤_, _<_}
 use lib.ListN.{length, getD}
 use Rattle.rules.specs.declared.Answer.{Answer}
 use Rattle.rules.specs.declared.Answer.the-variants.{Accepted, ShortList, LongText, Unreadable, OutOfRange, Inapplicable, WrongNode, TooDeep, WrongClaim, Unclaimed, OrderBroken, BeforeBroken, AfterBroken, BetweenBroken}
-use Rattle.rules.specs.Case.{Constraint, O, B, F, W, NodeLine, L, Case, Read, read, refused, readCase}
+use Rattle.rules.specs.Case.{Constraint, O, B, F, W, NodeLine, L, Case, read, refused, readCase}
 use Rattle.rules.specs.Tree.{Tree, preorder, mayClaim}
 use Rattle.rules.specs.Constraint.{holdsIn}
 use Rattle.rules.specs.Verdict.{Lent, textMost, statesOf}

@@ -8,7 +8,7 @@ use native.Mathlib.Omega.{arith}
 use lib.Dec.{leb}
 use lib.ListN.{length, length-append}
 use borrow.Author.Tests.{leb-true, leb-false}
-use Rattle.rules.specs.declared.Answer.the-variants.{WrongNode, TooDeep, WrongClaim}
+use Rattle.rules.specs.declared.Answer.the-variants.{TooDeep}
 use Rattle.rules.specs.Case.{methodAt, NodeLine, D, E, L, Case}
 use Rattle.rules.specs.Tree.{Tree, leaf, empty, task, Trees, noTree, more, preorder, rootLine, fits, Walk, Walks, Walker, asTask, withTree, followTree, walkSubtasks, ClaimTest, walkFitting, walkNode, noneOver, levelCount, walkTree}
 use Rattle.rules.specs.Rules.{FitsTask, FitsTasks}

@@ -1,5 +1,5 @@
 -- Below the last word the shifted 1 is that power of two; past it the store of the definition changes nothing. Assumes nothing.
-use mathlib.Core.Path.{_≡_, sym, ap}
+use mathlib.Core.Path.{sym, ap}
 use Prim.Native.Nat.{ℕ, _/_, _%_, _^_}
 use native.Mathlib.Omega.{arith}
 use lib.ListN.{getD, set}

@@ -1,5 +1,5 @@
 -- `main`: the arguments that are left count down. Assumes nothing.
-use Prim.{Unit, tt}
+use Prim.{Unit}
 use Prim.Native.Nat.{_-_}
 use borrow.Author.Needs.{needs}
 use Rattle.vectors.proofs.main.Statement.{statement}

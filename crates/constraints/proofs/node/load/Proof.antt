@@ -2,9 +2,7 @@
 use Prim.Native.Nat.{_+_}
 use Rattle.constraints.proofs.Steps.{method-inside, tests-room, method-read, now-loaded, still-loaded}
 use Rattle.constraints.proofs.Stores.{leaves-all}
-use Rattle.text.specs.Cursor.{cursor}
 use borrow.Author.Needs.{needs}
-use lib.ListN.{getD}
 use mathlib.Core.Path.{refl, sym}
 use native.Mathlib.Omega.{arith}
 use Rattle.constraints.proofs.node.load.Statement.{statement}

@@ -1,5 +1,5 @@
 -- `list`: what was taken is the count, and the members follow; or it refuses the list. Assumes nothing.
-use Prim.Native.Nat.{ℕ, _+_}
+use Prim.Native.Nat.{_+_}
 use Rattle.lines.proofs.Items.{follow-any}
 use Rattle.lines.proofs.item.list.Statement.{statement}
 use Rattle.lines.proofs.item.list.Tie as tie
@@ -9,7 +9,7 @@ use Rattle.rules.specs.Table.{readList, readMembers}
 use Rattle.rules.specs.Text.{numberAt}
 use borrow.Author.Needs.{needs}
 use lib.Dec.{eqb}
-use mathlib.Core.Path.{_≡_, refl, sym, _∙_}
+use mathlib.Core.Path.{sym, _∙_}
 
 take-number-requires : tie.Need-take-number-requires
 take-number-requires c κs = search needs

@@ -1,5 +1,5 @@
 -- `members`: what the members from the start on make is what those from here on make, after those read so far. Assumes nothing.
-use Prim.Native.Nat.{ℕ, suc, _+_, _-_, _≤_}
+use Prim.Native.Nat.{suc, _+_, _-_, _≤_}
 use Rattle.lines.proofs.Items.{members-start, members-next, members-again, members-end}
 use Rattle.lines.proofs.item.members.Statement.{statement}
 use Rattle.lines.proofs.item.members.Tie as tie
@@ -8,7 +8,7 @@ use Rattle.lines.specs.declared.item.Taken.the-variants.{Bad, Out}
 use Rattle.rules.specs.Table.{readMembers}
 use borrow.Author.Needs.{needs}
 use lib.Dec.{eqb}
-use mathlib.Core.Path.{_≡_, refl, sym, _∙_}
+use mathlib.Core.Path.{_≡_, sym, _∙_}
 use native.Mathlib.Omega.{arith}
 
 abbrev Inv-loop : tie.InvT-loop

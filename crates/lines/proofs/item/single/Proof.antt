@@ -1,5 +1,5 @@
 -- `single`: what was taken is the item, or refuses it. Assumes nothing.
-use Prim.Native.Nat.{ℕ, _+_}
+use Prim.Native.Nat.{_+_}
 use Rattle.lines.proofs.Items.{follow-any}
 use Rattle.lines.proofs.item.single.Statement.{statement}
 use Rattle.lines.proofs.item.single.Tie as tie
@@ -8,7 +8,7 @@ use Rattle.lines.specs.declared.item.Taken.the-variants.{Number, Bad, Ou
 use Rattle.rules.specs.Table.{scalar, item, readItem}
 use Rattle.rules.specs.Text.{numberAt}
 use borrow.Author.Needs.{needs}
-use mathlib.Core.Path.{_≡_, refl, sym, _∙_}
+use mathlib.Core.Path.{sym, _∙_}
 
 take-number-requires : tie.Need-take-number-requires
 take-number-requires c κs = search needs

@@ -8,7 +8,7 @@ use Rattle.rules.specs.Text.{numberAt}
 use borrow.Author.Needs.{needs}
 use lib.Dec.{leb}
 use mathlib.Core.Bool.{Bool, _&&_}
-use mathlib.Core.Path.{_≡_, refl, sym, _∙_}
+use mathlib.Core.Path.{refl, sym, _∙_}
 
 number-requires : tie.Need-number-requires
 number-requires c κs = search needs

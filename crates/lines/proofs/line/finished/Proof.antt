@@ -5,7 +5,7 @@ use Rattle.lines.proofs.line.finished.Tie as tie
 use Rattle.rules.specs.Text.{endingAt}
 use Rattle.text.specs.declared.Ending.the-variants.{Line, Surplus}
 use borrow.Author.Needs.{needs}
-use mathlib.Core.Path.{_≡_, sym, ap, _∙_}
+use mathlib.Core.Path.{sym, _∙_}
 
 line-end-requires : tie.Need-line-end-requires
 line-end-requires c κs = search needs

@@ -1,11 +1,11 @@
 -- `items`: the line from its start reads as it does from here, after the items read so far (Progress). Assumes nothing.
-use Prim.Native.Nat.{ℕ, _-_}
+use Prim.Native.Nat.{_-_}
 use Rattle.lines.proofs.Progress.{Progress, begins, more-items, goes-on, progress, ends}
 use Rattle.lines.proofs.line.items.Statement.{statement}
 use Rattle.lines.proofs.line.items.Tie as tie
 use Rattle.lines.specs.declared.item.Outcome.the-variants.{Bad, Range}
 use borrow.Author.Needs.{needs}
-use mathlib.Core.Path.{_≡_, refl, sym, _∙_}
+use mathlib.Core.Path.{refl, sym, _∙_}
 use native.Mathlib.Omega.{arith}
 
 abbrev Inv-loop : tie.InvT-loop

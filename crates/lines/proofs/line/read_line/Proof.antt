@@ -6,7 +6,7 @@ use Rattle.lines.specs.Reading.{roleOf, asLine}
 use Rattle.rules.specs.Text.{letterAt}
 use Rattle.text.proofs.Laws.{letter-read}
 use borrow.Author.Needs.{needs}
-use mathlib.Core.Path.{_≡_, sym, ap, _∙_}
+use mathlib.Core.Path.{sym, ap, _∙_}
 
 refused-requires : tie.Need-refused-requires
 refused-requires c κs = search needs

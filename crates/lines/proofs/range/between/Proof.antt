@@ -1,9 +1,7 @@
 -- `between`: the two tests, one after the other. Assumes nothing.
-use borrow.Author.Tests.{le-leb, lt-leb, lt-ltb, le-ltb}
+use borrow.Author.Tests.{le-leb, lt-leb}
 use Rattle.lines.proofs.range.between.Statement.{statement}
 use Rattle.lines.proofs.range.between.Tie as tie
-use Rattle.lines.proofs.range.between.Reads as reads
-use Rattle.lines.proofs.range.between.Lts as lts
 
 returns : tie.Need-returns
 returns c = simp (le-leb _ _ (c .if1 .taken))

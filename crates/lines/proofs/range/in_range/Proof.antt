@@ -1,17 +1,10 @@
 -- `in_range`: each arm of the match is the clause of the kind that its byte stands for. Assumes nothing.
 use Rattle.lines.proofs.Ranges.{kind-other}
-use mathlib.Core.Path.{_≡_, refl}
 use Rattle.rules.specs.Table.{inRange}
 use Rattle.lines.specs.Shapes.{kindOf}
 use borrow.Author.Needs.{needs}
 use Rattle.lines.proofs.range.in_range.Statement.{statement}
 use Rattle.lines.proofs.range.in_range.Tie as tie
-use Rattle.lines.proofs.range.in_range.Reads as reads
-use Rattle.lines.proofs.range.in_range.Lts as lts
-use Rattle.lines.proofs.range.between.Reads as between-reads
-use Rattle.lines.proofs.range.is_compound.Reads as is-compound-reads
-use Rattle.lines.proofs.range.is_other.Reads as is-other-reads
-use Rattle.lines.proofs.range.is_task.Reads as is-task-reads
 
 element-copy-out-is-compound : tie.Need-element-copy-out-is-compound
 element-copy-out-is-compound c = search needs

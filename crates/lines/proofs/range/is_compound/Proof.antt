@@ -2,8 +2,6 @@
 use Rattle.lines.proofs.Ranges.{compound-above, compound-below}
 use Rattle.lines.proofs.range.is_compound.Statement.{statement}
 use Rattle.lines.proofs.range.is_compound.Tie as tie
-use Rattle.lines.proofs.range.is_compound.Reads as reads
-use Rattle.lines.proofs.range.is_compound.Lts as lts
 
 returns : tie.Need-returns
 returns c = compound-above (c .before .args .actions) (c .before .args .compounds) (c .before .args .t) (c .if1 .taken)

@@ -1,9 +1,7 @@
 -- `is_other`: the two tests, one after the other. Assumes nothing.
-use borrow.Author.Tests.{le-leb, lt-leb, lt-ltb, le-ltb}
+use borrow.Author.Tests.{lt-ltb, le-ltb}
 use Rattle.lines.proofs.range.is_other.Statement.{statement}
 use Rattle.lines.proofs.range.is_other.Tie as tie
-use Rattle.lines.proofs.range.is_other.Reads as reads
-use Rattle.lines.proofs.range.is_other.Lts as lts
 
 returns : tie.Need-returns
 returns c = simp (lt-ltb _ _ (c .if1 .taken))

@@ -2,8 +2,6 @@
 use Rattle.lines.proofs.Ranges.{task-above, task-below}
 use Rattle.lines.proofs.range.is_task.Statement.{statement}
 use Rattle.lines.proofs.range.is_task.Tie as tie
-use Rattle.lines.proofs.range.is_task.Reads as reads
-use Rattle.lines.proofs.range.is_task.Lts as lts
 
 returns : tie.Need-returns
 returns c = task-above (c .before .args .actions) (c .before .args .compounds) (c .before .args .t) (c .if1 .taken)

@@ -1,16 +1,10 @@
 -- `lines::table::shape` meets its contract: an entry of the table is the row of its letter, and no other byte has a row. Assumes nothing.
-use mathlib.Core.Path.{_≡_, sym, ap, _∙_}
-use Prim.Native.Nat.{ℕ, _+_, _-_}
+use Prim.Native.Nat.{_-_}
 use borrow.Author.Needs.{needs}
 use native.Mathlib.Omega.{arith}
-use Rattle.rules.specs.Table.{rowOf}
-use Rattle.lines.specs.Shapes.{rowShown}
 use Rattle.lines.proofs.Shapes.{shape-letter, shape-other}
 use Rattle.lines.proofs.table.shape.Statement.{statement}
 use Rattle.lines.proofs.table.shape.Tie as tie
-use Rattle.lines.proofs.table.shape.Reads as reads
-use Rattle.lines.proofs.table.shape.Lts as lts
-use Rattle.lines.proofs.table.place.Reads as place-reads
 
 place-requires : tie.Need-place-requires
 place-requires c κs = search needs

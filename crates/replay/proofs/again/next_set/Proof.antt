@@ -1,5 +1,5 @@
 -- `next_set`: the set from its start on is what the members left make of the set so far. Assumes nothing.
-use Prim.Native.Nat.{ℕ, suc, _+_, _-_, _≤_}
+use Prim.Native.Nat.{suc, _+_, _-_, _≤_}
 use Rattle.replay.proofs.Lines.{put-start, put-next, put-end}
 use Rattle.replay.proofs.again.next_set.Statement.{statement}
 use Rattle.replay.proofs.again.next_set.Tie as tie
@@ -8,7 +8,6 @@ use Rattle.reading.specs.declared.again.Numbered.{Numbered}
 use Rattle.rules.specs.State.{wordCount, empty, insert}
 use borrow.Author.Needs.{needs}
 use lib.ListN.{length, length-set}
-use mathlib.Core.List.{List, [], _∷_}
 use mathlib.Core.Path.{_≡_, refl, sym, ap, _∙_}
 use native.Mathlib.Omega.{arith}
 

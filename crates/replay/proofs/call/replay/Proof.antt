@@ -4,7 +4,7 @@ use Rattle.replay.proofs.Calls.{refuses, text-long, short-states, short
 use Rattle.replay.proofs.call.replay.Statement.{statement}
 use Rattle.replay.proofs.call.replay.Tie as tie
 use Rattle.rules.specs.State.{wordCount}
-use Rattle.rules.specs.Verdict.{Found, stateNeed, workNeed, textMost, replayLists, replay, answerOf, statesAfter, workAfter}
+use Rattle.rules.specs.Verdict.{stateNeed, workNeed, textMost, replayLists, replay, answerOf, statesAfter, workAfter}
 use Rattle.rules.specs.declared.Answer.the-variants.{ShortList, LongText}
 use borrow.Author.Needs.{needs}
 use lib.ListN.{length, replicate}

@@ -1,5 +1,5 @@
 -- `replay_case`: all cues apply and the states are written; or one does not, and the list is cleared. Assumes nothing.
-use Prim.Native.Nat.{ℕ, _≤_, _<_}
+use Prim.Native.Nat.{ℕ}
 use Rattle.replay.proofs.Calls.{left-worded, refuses, run-passes, run-stops}
 use Rattle.replay.proofs.Reached.{few-cues, initial-is}
 use Rattle.replay.proofs.call.replay_case.Statement.{statement}
@@ -11,7 +11,7 @@ use Rattle.rules.specs.Verdict.{stateNeed}
 use Rattle.rules.specs.declared.Answer.the-variants.{Inapplicable}
 use borrow.Author.Needs.{needs}
 use lib.ListN.{length, replicate}
-use mathlib.Core.Path.{_≡_, sym, ap, ap₂, subst, _∙_}
+use mathlib.Core.Path.{_≡_, ap, _∙_}
 use native.Mathlib.Omega.{arith}
 
 read-initial-requires : tie.Need-read-initial-requires

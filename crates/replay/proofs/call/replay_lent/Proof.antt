@@ -1,5 +1,5 @@
 -- `replay_lent`: the text reads as its case, which is then run; or it is refused, and the state list is as it came. Assumes nothing.
-use Prim.Native.Nat.{ℕ, _≤_}
+use Prim.Native.Nat.{_≤_}
 use Rattle.reading.specs.Directory.{directorySize}
 use Rattle.replay.proofs.Calls.{refuses, text-reads, text-refused, left-by}
 use Rattle.replay.proofs.call.replay_lent.Statement.{statement}

@@ -7,7 +7,7 @@ use Rattle.reading.specs.TheCase.{caseOf}
 use Rattle.rules.specs.State.{wordCount}
 use borrow.Author.Needs.{needs}
 use lib.ListN.{length}
-use mathlib.Core.Path.{_≡_, _∙_}
+use mathlib.Core.Path.{_∙_}
 use native.Mathlib.Omega.{arith}
 
 abbrev Inv-loop : tie.InvT-loop

@@ -1,7 +1,6 @@
 -- The two tests decide the claim; a claim that passes is marked, and its leaf has its row. Assumes nothing.
 use Prim.Native.Nat.{ℕ, _+_, _-_}
 use Rattle.rules.specs.Index.{at}
-use Rattle.rules.specs.declared.Header.{Header}
 use Rattle.tree.proofs.Passing.{claim-right, claim-other, claim-taken}
 use Rattle.tree.proofs.Steps.{nodes-few, cues-few, cues-given, claim-line, claim-high, claim-node}
 use Rattle.tree.proofs.rows.claim.Statement.{statement}
@@ -11,7 +10,7 @@ use Rattle.reading.specs.TheCase.{caseOf}
 use Rattle.tree.specs.Standing.{putRow, settled}
 use borrow.Author.Needs.{needs}
 use lib.ListN.{set, length-set}
-use mathlib.Core.Path.{_≡_, ap, _∙_}
+use mathlib.Core.Path.{ap, _∙_}
 use native.Mathlib.Omega.{arith}
 
 sub-i : tie.Need-sub-i

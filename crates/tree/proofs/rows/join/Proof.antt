@@ -6,7 +6,7 @@ use Rattle.tree.proofs.rows.join.Tie as tie
 use Rattle.tree.specs.Standing.{asSpan, joined}
 use Rattle.tree.specs.declared.rows.Walked.the-variants.{Next}
 use borrow.Author.Needs.{needs}
-use mathlib.Core.Path.{_≡_, sym, ap, _∙_}
+use mathlib.Core.Path.{sym, ap, _∙_}
 
 enum-known-walked : tie.Need-enum-known-walked
 enum-known-walked c = search needs

@@ -5,7 +5,7 @@ use Rattle.tree.proofs.rows.rest.Statement.{statement}
 use Rattle.tree.proofs.rows.rest.Tie as tie
 use Rattle.tree.specs.Standing.{putRow, settled}
 use borrow.Author.Needs.{needs}
-use mathlib.Core.Path.{_≡_, ap, _∙_}
+use mathlib.Core.Path.{ap, _∙_}
 
 of-gap-requires : tie.Need-of-gap-requires
 of-gap-requires c κs = search needs

@@ -5,7 +5,7 @@ use Rattle.tree.proofs.rows.settle.Tie as tie
 use Rattle.tree.specs.Standing.{putRow, asSpan}
 use Rattle.tree.specs.declared.rows.Walked.the-variants.{Next}
 use borrow.Author.Needs.{needs}
-use mathlib.Core.Path.{_≡_, ap, _∙_}
+use mathlib.Core.Path.{ap, _∙_}
 
 at-requires : tie.Need-at-requires
 at-requires c κs = search needs

@@ -1,5 +1,4 @@
 -- The root's walk, and no node over. Assumes nothing.
-use Prim.Native.Nat.{_≤_}
 use Rattle.tree.proofs.Whole.{root-steady, root-follows, root-line, right, over, refuses}
 use Rattle.tree.proofs.walk.walk_tree.Statement.{statement}
 use Rattle.tree.proofs.walk.walk_tree.Tie as tie
