@@ -2,7 +2,7 @@
 use mathlib.Core.Path.{_≡_, refl, sym, ap, subst, _∙_}
 use mathlib.Core.List.{List, _++_, flatten}
 use mathlib.Core.Option.{Option, none, some}
-use Prim.Native.Nat.{ℕ, zero, suc, _+_, _-_, _≤_}
+use Prim.Native.Nat.{ℕ, _+_, _-_, _≤_}
 use native.Mathlib.Omega.{arith}
 use lib.ListN.{length, drop, replicate, length-append, length-drop}
 use lib.Seq.{drop-at, sets, length-sets}
@@ -19,8 +19,9 @@ use Rattle.reading.specs.Directory.{Finds, ReadsAs, directorySize}
 use Rattle.reading.specs.declared.CaseRead.{CaseRead}
 use Rattle.reading.specs.declared.CaseRead.the-variants.{Case as CaseIs, Refused as CaseRefused}
 use Rattle.rows.specs.Rows.{putRows}
-use Rattle.rows.proofs.Written.{rows-fill}
-use Rattle.reading.specs.TheCase.{caseIn, caseOf}
+use Rattle.rows.proofs.Written.{drop-zeros, rows-fill}
+use Rattle.reading.specs.TheCase.{caseOf}
+use Rattle.reading.proofs.TheCase.{case-is}
 use Rattle.replay.specs.Running.{Left, ranOf, RanAs}
 use Rattle.replay.specs.declared.running.Ran.{Ran}
 use Rattle.replay.specs.declared.running.Ran.the-variants.{All, Stopped}
@@ -57,13 +58,12 @@ opened h l p ns = record { header = h; «plan_line» = l; plan = p; nodes = ns }
 module _ (text d rest : List ℕ) (r : CaseRead) (as-read : ReadsAs text (readCase text) r d) where
   pub read-opens : (h : Header) (l : ℕ) (i p ns : Cursor) → r ≡ CaseIs h l i p ns → length text ≤ textMost → length d ≡ 3072 → workNeed ≤ length (d ++ rest)
       → Opens text (record { header = h; «plan_line» = l; plan = p; nodes = ns }) (i .at) (d ++ rest)
-  unfolding caseOf
   read-opens h l i p ns e short whole room = go (readCase text) refl as-read
     where
       go : (x : C.Read Case) → readCase text ≡ x → ReadsAs text x r d
           → Opens text (record { header = h; «plan_line» = l; plan = p; nodes = ns }) (i .at) (d ++ rest)
       go (C.read k n place) q w =
-          let here : caseOf text ≡ k = ap caseIn q in
+          let here : caseOf text ≡ k = case-is text k n place q in
           let same : CaseIs h l i p ns ≡ CaseIs (k .head) (k .planLine) (w .0) (w .1) (w .2) = sym e ∙ w .3 in
           let head : h ≡ k .head = cc in
           let line : l ≡ k .planLine = cc in
@@ -94,11 +94,6 @@ module _ (text d rest : List ℕ) (r : CaseRead) (as-read : ReadsAs text (readCa
       go : (x : C.Read Case) → readCase text ≡ x → ReadsAs text x r d → readCase text ≡ C.refused a
       go (C.read k n place) q w = let z : _≡_ {A = ℕ} 0 1 = cc (w .3, e) in absurd (omega arith)
       go (C.refused b) q w = let same : b ≡ a = cc in q ∙ ap (λ (x : Answer). C.refused x) same
-
-drop-zeros : (a n : ℕ) → drop {A = ℕ} a (replicate n 0) ≡ replicate (n - a) 0
-drop-zeros zero n = let e : n ≡ n - 0 = omega arith in ap (λ (m : ℕ). replicate m 0) e
-drop-zeros (suc a) zero = let e : 0 ≡ 0 - suc a = omega arith in ap (λ (m : ℕ). replicate m 0) e
-drop-zeros (suc a) (suc n) = let e : n - a ≡ suc n - suc a = omega arith in drop-zeros a n ∙ ap (λ (m : ℕ). replicate m 0) e
 
 -- The part after the directory is as it was: zero.
 pub unused-front : (d w : List ℕ) → length d ≡ 3072 → 3072 ≤ length w → w ≡ replicate (length w) 0 → Unused (d ++ drop 3072 w)

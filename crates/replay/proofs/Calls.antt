@@ -26,7 +26,8 @@ use Rattle.rows.specs.Rows.{putRows}
 use Rattle.rows.proofs.Written.{Worded, rows-fill}
 use Rattle.replay.specs.declared.running.Ran.{Ran}
 use Rattle.replay.specs.declared.running.Ran.the-variants.{All, Stopped}
-use Rattle.reading.specs.TheCase.{caseIn, caseOf}
+use Rattle.reading.specs.TheCase.{caseOf}
+use Rattle.reading.proofs.TheCase.{case-is}
 use Rattle.replay.specs.Running.{Left, ranOf, RanAs, replayRun, replayText}
 
 -- ---- Every state has the words of a state
@@ -120,12 +121,11 @@ module _ (text directory : List ℕ) (r : CaseRead) (as-read : ReadsAs text (rea
   -- What reading left, and the number of the P line.
   pub left-by : (h : Header) (l : ℕ) (i p ns : Cursor) → directorySize ≤ length directory → r ≡ CaseIs h l i p ns
       → Left text directory h (i .at) (p .at) × (l ≡ caseOf text .planLine)
-  unfolding caseOf
   left-by h l i p ns long e = go (readCase text) refl as-read
     where
       go : (x : Read Case) → readCase text ≡ x → ReadsAs text x r directory → Left text directory h (i .at) (p .at) × (l ≡ caseOf text .planLine)
       go (read k n place) q w =
-          let here : caseOf text ≡ k = ap caseIn q in
+          let here : caseOf text ≡ k = case-is text k n place q in
           let same : CaseIs h l i p ns ≡ CaseIs (k .head) (k .planLine) (w .0) (w .1) (w .2) = sym e ∙ w .3 in
           let head : h ≡ k .head = cc in
           let line : l ≡ k .planLine = cc in

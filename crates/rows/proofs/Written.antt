@@ -111,7 +111,7 @@ flatten-length (s ∷ ss) f =
     let e = flatten-length ss (each-tail (λ t. length t ≡ wordCount) s ss f) in
     length-append s (flatten ss) ∙ omega arith
 
-drop-zeros : (n size : ℕ) → drop {A = ℕ} n (replicate size 0) ≡ replicate (size - n) 0
+pub drop-zeros : (n size : ℕ) → drop {A = ℕ} n (replicate size 0) ≡ replicate (size - n) 0
 drop-zeros zero size = let all : size ≡ size - 0 = omega arith in ap (λ (m : ℕ). replicate m 0) all
 drop-zeros (suc n) zero = let none : 0 ≡ 0 - suc n = omega arith in ap (λ (m : ℕ). replicate m 0) none
 drop-zeros (suc n) (suc size) = let less : size - n ≡ suc size - suc n = omega arith in drop-zeros n size ∙ ap (λ (m : ℕ). replicate m 0) less

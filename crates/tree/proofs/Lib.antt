@@ -2,8 +2,6 @@
 pub mod Numbers
 pub mod Stores
 pub mod Claimed
-pub mod Planned
-pub mod Preorder
 mod Judging
 mod Steps
 mod Passing

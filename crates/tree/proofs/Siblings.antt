@@ -116,7 +116,7 @@ walk-append walk (t ∷ ts) us line left claimed =
 
 -- ---- What the code has done after the one and the other
 
-refused-next : {a : Answer} {next : Place} {s : Span} → Next next s ≡ Refused a → ⊥
+pub refused-next : {a : Answer} {next : Place} {s : Span} → Next next s ≡ Refused a → ⊥
 refused-next e = let z : _≡_ {A = ℕ} 0 1 = cc in omega arith
 
 -- One task alone.

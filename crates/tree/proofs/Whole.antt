@@ -25,6 +25,7 @@ use Rattle.tree.specs.Layout.{marksFrom, rowsFrom, rowsPast, size, rows,
 use Rattle.tree.specs.Fits.{lineAt, Follows}
 use Rattle.tree.specs.Standing.{MethodsAt, Steady, nodeFrom, Told, WalksNode}
 use Rattle.tree.specs.Whole.{Ready, TreeTold}
+use Rattle.tree.proofs.Siblings.{refused-next}
 use Rattle.tree.proofs.Stores.{drop-take, take-sets-all, length-rows}
 use Rattle.tree.proofs.Within.{plan-line-low}
 
@@ -99,9 +100,6 @@ module _ (text : List ℕ) (k : Case) (header : Header) (planLine : ℕ) (nodes 
       ∙ take-sets-all (rows t 0) (drop rowsFrom w) (omega (arith, length-drop rowsFrom w))
 
   -- ---- Each way out
-
-  refused-next : {a : Answer} {next : Place} {s : Span} → Next next s ≡ Refused a → ⊥
-  refused-next e = let z : _≡_ {A = ℕ} 0 1 = cc in omega arith
 
   abbrev root : Walk
   root = nodeFrom k 64 (k .head .goal) 0 []

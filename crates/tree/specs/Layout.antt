@@ -3,13 +3,13 @@ use mathlib.Core.Path.{_≡_}
 use mathlib.Core.Bool.{cond}
 use mathlib.Core.List.{List, [], _∷_, _++_, map}
 use Prim.Native.Nat.{ℕ, _+_, _-_}
-use lib.ListN.{getD, drop}
+use lib.ListN.{drop}
 use lib.Seq.{slice}
 use Rattle.rules.specs.State.{tabulate}
 use Rattle.rules.specs.Index.{Span}
 use Rattle.rules.specs.Table as T
 use Rattle.rules.specs.Case.{Case, Valued, read, nodeOf, oneLine, many}
-use Rattle.rules.specs.Tree.{Tree, leaf, empty, task, Trees, noTree, more, preorder, preorders, span, Walk, isIn}
+use Rattle.rules.specs.Tree.{Tree, leaf, empty, task, Trees, noTree, more, span, Walk, isIn}
 
 -- The areas of the work space, after the directory of lines (0 to 3,072): marks of the positions (1,000), the subtasks' nodes of the
 -- node under test (32), the plan's actions (1,000), the constraints of the loaded method (256), rows of three numbers for up to 3,000 nodes.
@@ -52,14 +52,6 @@ unfoldable mutual
   pub rowsAll : Trees → ℕ → List ℕ
   rowsAll noTree n = []
   rowsAll (more t ts) n = rows t n ++ rowsAll ts (n + size t)
-
--- The subtree whose root is the j-th node of a tree, in preorder from 0.
-abbrev pub nodeAt : Tree → ℕ → Tree
-nodeAt t j = getD (preorder t) j (leaf 0 0)
-
--- From node p of a tree on stand the subtrees of these subtasks, one after the other.
-abbrev pub ChildrenFrom : Tree → ℕ → Trees → Type 0
-ChildrenFrom t p xs = (rest : List Tree) × (drop p (preorder t) ≡ preorders xs ++ rest)
 
 -- A mark for each of the k positions from 1 on: 1 where it is claimed.
 unfoldable pub marksOf : ℕ → List ℕ → List ℕ
