@@ -73,7 +73,7 @@ pub record Placed (cues : ℕ) (own : Span) (subs : List Span) (work words : Lis
   pub inside : (j : ℕ) → j < length subs → RowInside work (getD (nodesIn work) j 0)
   pub ownWithin : Within cues own
   pub subsWithin : Each (Within cues) subs
-  pub long : (cues + 1) * wordCount ≤ length words
+  pub long : wordCount * (cues + 1) ≤ length words
   pub agree : (p l : ℕ) → l ≤ cues → inRow words p l ≡ holds p l
 
 module _ (h : Header) (cues : ℕ) (own : Span) (subs : List Span) (work words : List ℕ) (holds : Holds)

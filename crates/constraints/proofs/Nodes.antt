@@ -137,7 +137,7 @@ module _ {k : Case} {t : Tree} {text : List ℕ} {planLine nodes : ℕ} {states 
       ∙ states-hold k (r .stateSize) p l (ap length (sym (r .finds .initialSet)) ∙ whole-set (r .finds .initialLine .values) 0)
       (let e = is-sound .plan-length in omega arith)
 
-  pub states-long : (k .head .cues + 1) * wordCount ≤ length states
+  pub states-long : wordCount * (k .head .cues + 1) ≤ length states
   unfolding wordCount stateNeed
   states-long =
       let few = is-sound .head-good .few-cues in

@@ -2,15 +2,16 @@
 // rounding below." So each has a type of its own, and the two roundings are the only functions from one to the other.
 ghost use mathlib.Core.Path.{_≡_};
 ghost use mathlib.Core.List.{[], _∷_};
-ghost use Prim.Native.Nat.{_<_, min, max};
+ghost use Prim.Native.Nat.{_+_, _-_, _<_, _≤_, min, max};
+ghost use lib.Dec.{ltb};
 ghost use Rattle.rules.specs.Index.{ofCue, ofGap, at, hull, roundedUp, roundedDown, c, f, isBefore};
-ghost use Rattle.index.specs.Spans.{spanOf};
+ghost use Rattle.index.specs.Spans.{indexOf, doubled, numberOf, spanOf};
 
 // "The program carries twice the index: cue i is 2i, gap g is 2g + 1."
-pub struct Doubled(pub u32);
+pub struct Doubled(u32);
 
 // The number of a state: state 0 is the initial one, state i follows cue i.
-pub struct StateNumber(pub u32);
+pub struct StateNumber(u32);
 
 // Where a task starts and ends.
 pub struct Span {
@@ -21,40 +22,90 @@ pub struct Span {
 impl Doubled {
     pub fn of_cue(i: u32) -> Doubled
         requires { ⌜ i < 2147483648 ⌝ }
-        ensures { λ r. ⌜ r .0 ≡ ofCue i ⌝ }
+        ensures { λ r. ⌜ indexOf r ≡ ofCue i ⌝ }
     {
         Doubled(2 * i)
     }
 
     pub fn of_gap(g: u32) -> Doubled
         requires { ⌜ g < 2147483648 ⌝ }
-        ensures { λ r. ⌜ r .0 ≡ ofGap g ⌝ }
+        ensures { λ r. ⌜ indexOf r ≡ ofGap g ⌝ }
     {
         Doubled(2 * g + 1)
     }
 
+    // As a plain number, and again from it: for a row of the work space.
+    pub fn number(self) -> u32
+        ensures { λ r. ⌜ r ≡ indexOf self ⌝ }
+    {
+        self.0
+    }
+
+    pub fn stored(n: u32) -> Doubled
+        ensures { λ r. ⌜ r ≡ doubled n ⌝ }
+    {
+        Doubled(n)
+    }
+
     // (index + 1) / 2, in a form that fits for every index.
     pub fn rounded_up(self) -> StateNumber
-        ensures { λ r. ⌜ r .0 ≡ roundedUp (self .0) ⌝ }
+        ensures { λ r. ⌜ numberOf r ≡ roundedUp (indexOf self) ⌝ }
     {
         StateNumber(self.0 / 2 + self.0 % 2)
     }
 
     pub fn rounded_down(self) -> StateNumber
-        ensures { λ r. ⌜ r .0 ≡ roundedDown (self .0) ⌝ }
+        ensures { λ r. ⌜ numberOf r ≡ roundedDown (indexOf self) ⌝ }
     {
         StateNumber(self.0 / 2)
     }
 }
 
+impl StateNumber {
+    // "State 0 is the initial one"
+    pub fn initial() -> StateNumber
+        ensures { λ r. ⌜ numberOf r ≡ 0 ⌝ }
+    {
+        StateNumber(0)
+    }
+
+    // The state after the next cue, and the one before the last.
+    pub fn next(self) -> StateNumber
+        requires { ⌜ numberOf self < 4294967295 ⌝ }
+        ensures { λ r. ⌜ numberOf r ≡ numberOf self + 1 ⌝ }
+    {
+        StateNumber(self.0 + 1)
+    }
+
+    pub fn previous(self) -> StateNumber
+        requires { ⌜ 1 ≤ numberOf self ⌝ }
+        ensures { λ r. ⌜ numberOf r ≡ numberOf self - 1 ⌝ }
+    {
+        StateNumber(self.0 - 1)
+    }
+
+    pub fn is_less(self, other: StateNumber) -> bool
+        ensures { λ r. ⌜ r ≡ ltb (numberOf self) (numberOf other) ⌝ }
+    {
+        self.0 < other.0
+    }
+
+    // As a plain number: of the state's row, and of the cue that it follows.
+    pub fn number(self) -> u32
+        ensures { λ r. ⌜ r ≡ numberOf self ⌝ }
+    {
+        self.0
+    }
+}
+
 fn lesser(a: Doubled, b: Doubled) -> Doubled
-    ensures { λ r. ⌜ r .0 ≡ min (a .0) (b .0) ⌝ }
+    ensures { λ r. ⌜ indexOf r ≡ min (indexOf a) (indexOf b) ⌝ }
 {
     if a.0 < b.0 { a } else { b }
 }
 
 fn greater(a: Doubled, b: Doubled) -> Doubled
-    ensures { λ r. ⌜ r .0 ≡ max (a .0) (b .0) ⌝ }
+    ensures { λ r. ⌜ indexOf r ≡ max (indexOf a) (indexOf b) ⌝ }
 {
     if a.0 < b.0 { b } else { a }
 }
@@ -62,7 +113,7 @@ fn greater(a: Doubled, b: Doubled) -> Doubled
 impl Span {
     // A cue, or a task that sits in a gap: it starts and ends at one index.
     pub fn at(d: Doubled) -> Span
-        ensures { λ r. ⌜ spanOf r ≡ at (d .0) ⌝ }
+        ensures { λ r. ⌜ spanOf r ≡ at (indexOf d) ⌝ }
     {
         Span { start: d, end: d }
     }
@@ -79,13 +130,13 @@ impl Span {
 
     // "With c = start rounded up and f = end rounded down"
     pub fn c(self) -> StateNumber
-        ensures { λ r. ⌜ r .0 ≡ c (spanOf self) ⌝ }
+        ensures { λ r. ⌜ numberOf r ≡ c (spanOf self) ⌝ }
     {
         self.start.rounded_up()
     }
 
     pub fn f(self) -> StateNumber
-        ensures { λ r. ⌜ r .0 ≡ f (spanOf self) ⌝ }
+        ensures { λ r. ⌜ numberOf r ≡ f (spanOf self) ⌝ }
     {
         self.end.rounded_down()
     }
@@ -94,6 +145,6 @@ impl Span {
     pub fn is_before(self, other: Span) -> bool
         ensures { λ r. ⌜ r ≡ isBefore (spanOf self) (spanOf other) ⌝ }
     {
-        self.f().0 < other.c().0
+        self.f().is_less(other.c())
     }
 }

@@ -1,36 +1,22 @@
 -- The states of a case lie in the state list one after the other, each in its own stretch of words: by induction on the states.
 -- Assumes nothing.
-use mathlib.Core.Path.{_≡_, refl, sym, ap, _∙_}
-use mathlib.Core.Bool.{false}
+use mathlib.Core.Path.{_≡_, refl, ap, _∙_}
 use mathlib.Core.List.{List, [], _∷_, _++_, flatten, append-assoc}
 use mathlib.Core.List.{List·Memᴰ·head as here}
-use Prim.Native.Nat.{ℕ, zero, suc, _+_, _-_, _*_, _/_, _%_, _≤_, _<_}
+use Prim.Native.Nat.{ℕ, zero, suc, _+_, _-_, _*_, _≤_, _<_}
 use native.Mathlib.Omega.{arith}
-use lib.ListN.{length, getD, take, drop, replicate, length-take, length-append, length-replicate}
-use lib.Seq.{getD-take, getD-drop, take-at, drop-append-add}
-use Rattle.rules.specs.State.{State, Action, wordCount, word, bit, member, empty, insert, insertAll, next, actionAt, states, stateAt}
+use lib.ListN.{length, take, drop, replicate, length-append, length-replicate}
+use lib.Seq.{take-at, drop-append-add}
+use Rattle.rules.specs.State.{State, Action, wordCount, member, empty, insert, insertAll, next, actionAt, states, stateAt}
 use Rattle.rules.specs.Case.{Case, setAt, membersAt}
 use Rattle.rules.specs.Table.{Value}
 use Rattle.rules.specs.Constraint.{holdsIn}
 use Rattle.rules.specs.Verdict.{statesOf, filled}
-use Rattle.rules.proofs.Members.{member-past, length-next, length-insert}
+use Rattle.rules.proofs.Members.{length-next, length-insert}
 use Rattle.rules.proofs.Tables.{length-tabulate}
 use Rattle.rules.proofs.Judgement.Each.{Each, each-nil, each-cons, each-tail}
-use Rattle.parts.specs.States.{stateRow, inRow}
-
--- ---- one proposition of one stretch
-
-word-row : (words : List ℕ) (l i : ℕ) → i < wordCount → word (stateRow words l) i ≡ getD words (l * wordCount + i) 0
-unfolding stateRow
-word-row words l i h = getD-take wordCount (drop (l * wordCount) words) i 0 h ∙ getD-drop (l * wordCount) words i 0
-
-pub row-bit : (words : List ℕ) (p l : ℕ) → p / 64 < wordCount → bit (getD words (l * wordCount + p / 64) 0) (p % 64) ≡ inRow words p l
-unfolding inRow member
-row-bit words p l h = ap (λ (w : ℕ). bit w (p % 64)) (sym (word-row words l (p / 64) h))
-
-pub row-past : (words : List ℕ) (p l : ℕ) → wordCount ≤ p / 64 → false ≡ inRow words p l
-unfolding inRow stateRow
-row-past words p l h = sym (member-past (stateRow words l) p (omega (arith, length-take wordCount (drop (l * wordCount) words))))
+use Rattle.rows.specs.Rows.{rowAt}
+use Rattle.parts.specs.States.{inRow}
 
 -- ---- every state has its words
 
@@ -63,21 +49,21 @@ length-states actions (a ∷ plan) s = ap suc (length-states actions plan (next 
 
 -- ---- one after the other
 
-row-flat : (ss : List State) (rest : List ℕ) (l : ℕ) → Each Whole ss → l < length ss → stateRow (flatten ss ++ rest) l ≡ stateAt ss l
-unfolding stateRow stateAt flatten
+row-flat : (ss : List State) (rest : List ℕ) (l : ℕ) → Each Whole ss → l < length ss → rowAt (flatten ss ++ rest) l ≡ stateAt ss l
+unfolding rowAt stateAt flatten
 row-flat [] rest l f h = absurd (omega arith)
 row-flat (s ∷ ss) rest zero f h =
-    let none : zero * wordCount ≡ 0 = omega arith in
+    let none : wordCount * zero ≡ 0 = omega arith in
     ap (λ (n : ℕ). take wordCount (drop n ((s ++ flatten ss) ++ rest))) none
     ∙ ap (take wordCount) (append-assoc s (flatten ss) rest) ∙ take-at s (flatten ss ++ rest) wordCount (f s (here refl))
 row-flat (s ∷ ss) rest (suc l) f h =
     let one : length s ≡ wordCount = f s (here refl) in
-    let more : suc l * wordCount ≡ length s + l * wordCount = steps l one in
+    let more : wordCount * suc l ≡ length s + wordCount * l = steps l one in
     ap (λ (n : ℕ). take wordCount (drop n ((s ++ flatten ss) ++ rest))) more
-    ∙ ap (λ (x : List ℕ). take wordCount (drop (length s + l * wordCount) x)) (append-assoc s (flatten ss) rest)
-    ∙ ap (take wordCount) (drop-append-add s (flatten ss ++ rest) (l * wordCount)) ∙ row-flat ss rest l (each-tail Whole s ss f) (omega arith)
+    ∙ ap (λ (x : List ℕ). take wordCount (drop (length s + wordCount * l) x)) (append-assoc s (flatten ss) rest)
+    ∙ ap (take wordCount) (drop-append-add s (flatten ss ++ rest) (wordCount * l)) ∙ row-flat ss rest l (each-tail Whole s ss f) (omega arith)
   where
-    steps : (l : ℕ) → length s ≡ wordCount → suc l * wordCount ≡ length s + l * wordCount
+    steps : (l : ℕ) → length s ≡ wordCount → wordCount * suc l ≡ length s + wordCount * l
     steps l e = omega arith
 
 -- State l of a case is the stretch of that number in what a run leaves in the state list.

@@ -22,8 +22,8 @@ numbered letter first second third =
 -- The states around a span lie inside the state list.
 pub record Timed (words : List ℕ) (s : Span) : Type 0 where
   pub after-first : 1 ≤ c s
-  pub before-start : c s * wordCount ≤ length words
-  pub at-end : f s * wordCount + wordCount ≤ length words
+  pub before-start : wordCount * c s ≤ length words
+  pub at-end : wordCount * f s + wordCount ≤ length words
 
 -- The subtasks of a set and the states around it lie inside the lists.
 pub record PartInside (work words : List ℕ) (own : Span) (u : ℕ) : Type 0 where

@@ -21,8 +21,8 @@ pub fn span_at(work: &[u32], n: u32) -> Span
 {
     let at = ROWS + 3 * n as usize;
     Span {
-        start: Doubled(work[at]),
-        end: Doubled(work[at + 1]),
+        start: Doubled::stored(work[at]),
+        end: Doubled::stored(work[at + 1]),
     }
 }
 

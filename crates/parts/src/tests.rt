@@ -12,17 +12,15 @@ ghost use Rattle.parts.specs.Spans.{spansIn};
 ghost use Rattle.parts.specs.Tests.{Timed, Tested, numbered};
 use crate::spans::span_of_set;
 use crate::spans::subtask_span;
-use crate::states::holds;
 use crate::states::holds_from;
 use index::Span;
-use index::StateNumber;
 
 // "before(p, U): p is in state c(U) - 1."
 fn keeps_before(states: &[u64], p: u32, u: Span) -> bool
     requires { ⌜ Timed (now states) (spanOf u) ⌝ }
     ensures { λ r. ⌜ r ≡ inRow (now (states .entry)) p (c (spanOf u) - 1) ⌝ }
 {
-    holds(states, p, StateNumber(u.c().0 - 1))
+    rows::holds_at(states, u.c().previous(), p)
 }
 
 // "after(p, U): p is in state f(U)."
@@ -30,7 +28,7 @@ fn keeps_after(states: &[u64], p: u32, u: Span) -> bool
     requires { ⌜ Timed (now states) (spanOf u) ⌝ }
     ensures { λ r. ⌜ r ≡ inRow (now (states .entry)) p (f (spanOf u)) ⌝ }
 {
-    holds(states, p, u.f())
+    rows::holds_at(states, u.f(), p)
 }
 
 // "between(U, p, V): p is in each state l with f(U) ≤ l < c(V); no such l, then it holds."

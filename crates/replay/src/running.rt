@@ -6,6 +6,7 @@ ghost use Rattle.rules.specs.State.{wordCount, actionAt, step};
 ghost use Rattle.reading.specs.TheCase.{caseOf};
 ghost use Rattle.replay.specs.Running.{Left, RanAs};
 use crate::again;
+use index::StateNumber;
 use rules::Header;
 use state::State;
 use state::Stepped;
@@ -50,19 +51,20 @@ pub fn run(
 {
     let mut at = reading::after_letter(text, plan);
     let mut s = first;
-    let mut i: u32 = 0;
-    while i < header.cues {
-        rows::put_row(states, i as usize, s);
+    let mut l = StateNumber::initial();
+    while l.number() < header.cues {
+        let next = l.next();
+        rows::put_row(states, l, s);
         let cue = reading::number_again(text, at);
         let r = take_cue(text, directory, header, cue.value, s);
         if r.ok {
             s = r.state;
             at = cue.next;
-            i += 1;
+            l = next;
         } else {
-            return Ran::Stopped { cue: i + 1 };
+            return Ran::Stopped { cue: next.number() };
         }
     }
-    rows::put_row(states, i as usize, s);
+    rows::put_row(states, l, s);
     Ran::All
 }

@@ -3,8 +3,10 @@
 ghost use mathlib.Core.Path.{_≡_};
 ghost use Prim.Native.Nat.{_+_, _*_, _≤_};
 ghost use lib.ListN.{length, replicate};
-ghost use Rattle.rules.specs.State.{wordCount};
-ghost use Rattle.rows.specs.Rows.{putRow};
+ghost use Rattle.rules.specs.State.{wordCount, member};
+ghost use Rattle.index.specs.Spans.{numberOf};
+ghost use Rattle.rows.specs.Rows.{putRow, rowAt};
+use index::StateNumber;
 use state::State;
 use state::WORDS;
 
@@ -20,14 +22,31 @@ fn put_words(row: &mut [u64], s: State)
     }
 }
 
-// Writes s as state i. "each written to its own stretch of four numbers": the row for state i is lent on as a middle part of the state list.
-pub fn put_row(states: &mut [u64], i: usize, s: State)
-    requires { ⌜ wordCount * i + wordCount ≤ length (now states) ⌝ }
-    ensures { λ _. ⌜ now (states .exit) ≡ putRow (now (states .entry)) i (s .words) ⌝ }
+// Where the row of state l starts: "each written to its own stretch of four numbers".
+fn row_start(l: StateNumber) -> usize
+    ensures { λ r. ⌜ r ≡ wordCount * numberOf l ⌝ }
 {
-    let from = WORDS * i;
+    WORDS * l.number() as usize
+}
+
+// Writes s as state l: the row for state l is lent on as a middle part of the state list.
+pub fn put_row(states: &mut [u64], l: StateNumber, s: State)
+    requires { ⌜ wordCount * numberOf l + wordCount ≤ length (now states) ⌝ }
+    ensures { λ _. ⌜ now (states .exit) ≡ putRow (now (states .entry)) (numberOf l) (s .words) ⌝ }
+{
+    let from = row_start(l);
     let to = from + WORDS;
     put_words(&mut states[from..to], s);
+}
+
+// Whether proposition p is in state l: the row for state l is lent on likewise.
+pub fn holds_at(states: &[u64], l: StateNumber, p: u32) -> bool
+    requires { ⌜ wordCount * numberOf l + wordCount ≤ length (now states) ⌝ }
+    ensures { λ r. ⌜ r ≡ member (rowAt (now (states .entry)) (numberOf l)) p ⌝ }
+{
+    let from = row_start(l);
+    let to = from + WORDS;
+    state::holds(&states[from..to], p)
 }
 
 // The state list, zero throughout.

@@ -28,17 +28,17 @@ impl State {
             words: [0u64; WORDS],
         }
     }
+}
 
-    // Whether proposition p is in the set: no for a p past the last word.
-    pub fn holds(self, p: u32) -> bool
-        ensures { λ r. ⌜ r ≡ member (self .words) p ⌝ }
-    {
-        let i = (p / 64) as usize;
-        if i < WORDS {
-            (self.words[i] >> (p % 64)) % 2 == 1
-        } else {
-            false
-        }
+// Whether proposition p is in a set's words, wherever they lie: no for a p past the last word.
+pub fn holds(words: &[u64], p: u32) -> bool
+    ensures { λ r. ⌜ r ≡ member (now (words .entry)) p ⌝ }
+{
+    let i = (p / 64) as usize;
+    if i < words.len() {
+        (words[i] >> (p % 64)) % 2 == 1
+    } else {
+        false
     }
 }
 

@@ -152,9 +152,6 @@ shift-fits u n = go (decLt u (2 ^ n))
 pub wide-fits : (u n : ℕ) → u < 2 ^ 32 → 32 ≤ n → ltb u (2 ^ n) ≡ true
 wide-fits u n h l = lt-ltb u (2 ^ n) (lt-of-lt-of-le h (pow-mono l))
 
-pub none-wide : (u j : ℕ) → u < 2 ^ 32 → 32 ≤ j → bit u j ≡ false
-none-wide u j h l = bit-above u j (lt-of-lt-of-le h (pow-mono l))
-
 -- ---- the spans of a set
 
 -- Of a task's subtasks, `pick` takes those at the members.

@@ -5,7 +5,6 @@ ghost use mathlib.Core.List.{headD, tail};
 ghost use Prim.Native.Nat.{_^_};
 ghost use lib.Dec.{ltb};
 ghost use lib.ListN.{length};
-ghost use Rattle.rules.specs.State.{bit};
 ghost use Rattle.subsets.specs.Members.{membersOf};
 
 // The lowest member: 32 for the empty set.
@@ -30,13 +29,6 @@ pub fn others(u: u32) -> u32
         return 0;
     }
     u ^ (1u32 << lowest(u))
-}
-
-// Whether subtask j is in the set: no for j at or above 32.
-pub fn has(u: u32, j: u32) -> bool
-    ensures { λ r. ⌜ r ≡ bit u j ⌝ }
-{
-    if j < 32 { (u >> j) % 2 == 1 } else { false }
 }
 
 // Whether the set has "no bit at or above the count" n.

@@ -13,7 +13,7 @@ use Rattle.rules.specs.Case.{NodeLine, Case}
 use Rattle.rules.specs.Tree.{Tree, Trees, noTree, more, span, spans, Walk, Walks, Walker, withTree, followTree, walkSubtasks, mayClaim, walkNode}
 use Rattle.rules.proofs.Spans.{spanFrom, hull-one, hull-two, hull-cons-start, hull-cons-end, hull-join}
 use Rattle.index.specs.declared.Span.{Span}
-use Rattle.index.specs.Spans.{spanOf}
+use Rattle.index.specs.Spans.{spanOf, asSpan}
 use Rattle.tree.specs.declared.fit.Given.{Given}
 use Rattle.tree.specs.declared.fit.Place.{Place}
 use Rattle.tree.specs.declared.fit.Subtasks.{Subtasks}
@@ -23,7 +23,7 @@ use Rattle.tree.specs.declared.rows.Walked.the-variants.{Next, Refused}
 use Rattle.tree.specs.Layout.{rowsFrom, size, sizes, rows, rowsAll, marksOf, marksIn}
 use Rattle.tree.specs.Numbers.{numbersAt}
 use Rattle.tree.specs.Fits.{lineAt, Follows, firstOf}
-use Rattle.tree.specs.Standing.{MethodsAt, Steady, nodeFrom, listFrom, asSpan, joined, Passed, Told, Some, ToldAll, WalksNode, WalksList}
+use Rattle.tree.specs.Standing.{MethodsAt, Steady, nodeFrom, listFrom, joined, Passed, Told, Some, ToldAll, WalksNode, WalksList}
 use Rattle.tree.proofs.Stores.{sets-append, length-rowsAll}
 
 -- ---- Trees, and trees after them

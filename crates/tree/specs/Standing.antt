@@ -12,7 +12,7 @@ use Rattle.rules.specs.Index.{at, hull}
 use Rattle.rules.specs.Case.{NodeLine, Case, read, methodAt, oneMethod, readCase}
 use Rattle.rules.specs.Tree.{leaf, empty, Trees, noTree, more, span, spans, Walk, Walks, asTask, walkSubtasks, mayClaim, walkNode}
 use Rattle.index.specs.declared.Span.{Span}
-use Rattle.index.specs.Spans.{spanOf}
+use Rattle.index.specs.Spans.{spanOf, asSpan}
 use Rattle.reading.specs.Directory.{methodsFrom}
 use Rattle.tree.specs.declared.fit.Given.{Given}
 use Rattle.tree.specs.declared.fit.Place.{Place}
@@ -90,9 +90,6 @@ Judged text k p t level (LeafFit a i next) =
 
 unfoldable pub putRow : ℕ → Ix.Span → ℕ → List ℕ → List ℕ
 putRow n s after w = sets w (rowsFrom + 3 * n) (row s after)
-
-abbrev pub asSpan : Ix.Span → Span
-asSpan s = record { start = record { 0 = s .start }; end = record { 0 = s .end } }
 
 abbrev pub settled : ℕ → Place → Walked
 settled index next = Next next (asSpan (at index))

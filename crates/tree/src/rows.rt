@@ -2,7 +2,7 @@
 ghost use mathlib.Core.Path.{_≡_};
 ghost use Prim.Native.Nat.{_+_, _*_, _≤_, _<_};
 ghost use lib.ListN.{length};
-ghost use Rattle.index.specs.Spans.{spanOf};
+ghost use Rattle.index.specs.Spans.{indexOf, spanOf};
 ghost use Rattle.rules.specs.Index.{ofGap, at};
 ghost use Rattle.reading.specs.TheCase.{caseOf};
 ghost use Rattle.rules.specs.declared.Answer.the-variants.{WrongClaim};
@@ -30,18 +30,16 @@ fn put_row(work: &mut [u32], node: u32, span: Span, after: u32)
     ensures { λ _. ⌜ now (work .exit) ≡ putRow node (spanOf span) after (now (work .entry)) ⌝ }
 {
     let i = ROWS + 3 * node as usize;
-    let start = span.start;
-    let end = span.end;
-    work[i] = start.0;
-    work[i + 1] = end.0;
+    work[i] = span.start.number();
+    work[i + 1] = span.end.number();
     work[i + 2] = after;
 }
 
 // A node with no subtasks: it starts and ends at one index.
 pub fn settle(work: &mut [u32], node: u32, index: Doubled, next: Place) -> Walked
     requires { ⌜ (node < 3000) × (16384 ≤ length (now work)) ⌝ }
-    ensures answer { λ r. ⌜ r ≡ settled (index .0) next ⌝ }
-    ensures row { λ _. ⌜ now (work .exit) ≡ putRow node (at (index .0)) (next .node) (now (work .entry)) ⌝ }
+    ensures answer { λ r. ⌜ r ≡ settled (indexOf index) next ⌝ }
+    ensures row { λ _. ⌜ now (work .exit) ≡ putRow node (at (indexOf index)) (next .node) (now (work .entry)) ⌝ }
 {
     let span = Span::at(index);
     put_row(work, node, span, next.node);

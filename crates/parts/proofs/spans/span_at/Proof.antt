@@ -1,11 +1,13 @@
 -- The row's first two numbers. Assumes nothing.
+use mathlib.Core.Path.{ap₂}
+use native.Mathlib.Omega.{arith}
+use Rattle.index.specs.declared.Doubled.{Doubled}
+use Rattle.index.specs.Spans.{spanOf}
+use Rattle.tree.specs.Layout.{rowsFrom}
+use Rattle.parts.specs.Spans.{rowSpan, RowInside}
+use borrow.Author.Needs.{needs}
 use Rattle.parts.proofs.spans.span_at.Statement.{statement}
 use Rattle.parts.proofs.spans.span_at.Tie as tie
-use Rattle.parts.specs.Spans.{rowSpan, RowInside}
-use Rattle.tree.specs.Layout.{rowsFrom}
-use borrow.Author.Needs.{needs}
-use mathlib.Core.Path.{refl}
-use native.Mathlib.Omega.{arith}
 
 mul-at : tie.Need-mul-at
 mul-at c = search needs
@@ -13,26 +15,32 @@ mul-at c = search needs
 add-at : tie.Need-add-at
 add-at c = search needs
 
-mul-t4 : tie.Need-mul-t4
-mul-t4 c = search needs
+mul-stored : tie.Need-mul-stored
+mul-stored c = search needs
 
-shared-slice-read-t7 : tie.Need-shared-slice-read-t7
+shared-slice-read-stored : tie.Need-shared-slice-read-stored
 unfolding RowInside rowsFrom
-shared-slice-read-t7 c = omega (arith, c .before .pre)
+shared-slice-read-stored c = omega (arith, c .before .before .pre)
 
-add-t5 : tie.Need-add-t5
-add-t5 c = search needs
+stored-requires : tie.Need-stored-requires
+stored-requires c κs = search needs
 
-mul-t9 : tie.Need-mul-t9
-mul-t9 c = search needs
+add-stored : tie.Need-add-stored
+add-stored c = search needs
 
-shared-slice-read-t11 : tie.Need-shared-slice-read-t11
+mul-stored-2 : tie.Need-mul-stored-2
+mul-stored-2 c = search needs
+
+shared-slice-read-stored-2 : tie.Need-shared-slice-read-stored-2
 unfolding RowInside rowsFrom
-shared-slice-read-t11 c = omega (arith, c .before .before .pre)
+shared-slice-read-stored-2 c = omega (arith, c .before .before .before .before .pre)
+
+stored-requires-2 : tie.Need-stored-requires-2
+stored-requires-2 c κs = search needs
 
 returns : tie.Need-returns
 unfolding rowSpan rowsFrom
-returns c = refl
+returns c = ap₂ (λ (x y : Doubled). spanOf (record { start = x; end = y })) (c .before .before .stored .ensures) (c .stored2 .ensures)
 
 pub span-at-spec : {M : Type 1} → statement M
 span-at-spec =
@@ -40,9 +48,11 @@ span-at-spec =
     (tie.spec
     mul-at
     add-at
-    mul-t4
-    shared-slice-read-t7
-    add-t5
-    mul-t9
-    shared-slice-read-t11
+    mul-stored
+    shared-slice-read-stored
+    stored-requires
+    add-stored
+    mul-stored-2
+    shared-slice-read-stored-2
+    stored-requires-2
     returns)

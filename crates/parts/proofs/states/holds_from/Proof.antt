@@ -1,5 +1,7 @@
 -- `holds_from`: the test of all states from the first is that of those from here on. Assumes nothing.
-use Prim.Native.Nat.{_+_, _-_, _≤_}
+use Prim.Native.Nat.{ℕ, _+_, _-_, _≤_, _<_}
+use Rattle.index.proofs.Ranges.{number-fits}
+use Rattle.index.specs.Spans.{numberOf}
 use Rattle.parts.proofs.states.holds_from.Statement.{statement}
 use Rattle.parts.proofs.states.holds_from.Tie as tie
 use Rattle.parts.specs.States.{inRow}
@@ -7,45 +9,79 @@ use Rattle.rules.proofs.Tables.{every-next, every-fails, every-none}
 use Rattle.rules.specs.Constraint.{holdsFrom}
 use Rattle.rules.specs.State.{wordCount, every}
 use borrow.Author.Needs.{needs}
-use borrow.Author.Tests.{not-true, not-false}
-use mathlib.Core.Path.{_≡_, refl, sym, _∙_}
+use borrow.Author.Tests.{not-true, not-false, ltb-true, ltb-false}
+use mathlib.Core.Path.{_≡_, refl, sym, ap, _∙_}
 use native.Mathlib.Omega.{arith}
 
 abbrev Inv-loop : tie.InvT-loop
 Inv-loop states p past l₀ l =
-    (l₀ ≤ l) × (holdsFrom (inRow states) p l₀ (past .0) ≡ every (past .0 - l) l (λ i. inRow states p i))
+    (numberOf l₀ ≤ numberOf l)
+    × (holdsFrom (inRow states) p (numberOf l₀) (numberOf past) ≡ every (numberOf past - numberOf l) (numberOf l) (λ i. inRow states p i))
 
 abbrev μ-loop : tie.MeasureT-loop
-μ-loop states p past l₀ l = past .0 - l
+μ-loop states p past l₀ l = numberOf past - numberOf l
 
 loop-holds : tie.Need-loop-holds Inv-loop μ-loop
 unfolding holdsFrom
 loop-holds c = (omega arith, refl)
 
-holds-requires : tie.Need-holds-requires Inv-loop μ-loop
+is-less-requires : tie.Need-is-less-requires Inv-loop μ-loop
+is-less-requires c κs = search needs
+
+holds-at-requires : tie.Need-holds-at-requires Inv-loop μ-loop
 unfolding wordCount
-holds-requires c κs = omega (arith, c .before .before .before .before .pre, c .if1 .taken)
+holds-at-requires c κs =
+    let s = c .before .before .before .before in
+    let less = ltb-true (numberOf (c .before .before .loop .l)) (numberOf (s .args .past)) (sym (c .before .is-less .ensures) ∙ c .if1 .taken) in
+    omega (arith, s .pre)
 
 returns : tie.Need-returns Inv-loop μ-loop
+unfolding inRow
 returns c =
-    let l = c .before .before .before .before .loop in let a = c .before .before .before .before .before .before .args in
-    sym (l .inv .1 ∙ every-fails (a .past .0 - l .l) (a .past .0 - (l .l + 1)) (l .l) (λ i. inRow (a .states .now) (a .p) i) (omega arith) (sym (c .before .holds .ensures) ∙ not-true (c .before .holds .result) (c .if2 .taken)))
+    let a = c .before .before .before .before .before .before .args in
+    let l = c .before .before .before .before .loop in
+    let n = numberOf (l .l) in
+    let m = numberOf (a .past) in
+    let less = ltb-true n m (sym (c .before .before .before .is-less .ensures) ∙ c .before .before .if1 .taken) in
+    sym (l .inv .1 ∙ every-fails (m - n) (m - (n + 1)) n (λ i. inRow (a .states .now) (a .p) i) (omega arith)
+    (sym (c .before .holds-at .ensures) ∙ not-true (c .before .holds-at .result) (c .if2 .taken)))
 
-add-l : tie.Need-add-l Inv-loop μ-loop
-add-l c = search needs
+next-requires : tie.Need-next-requires Inv-loop μ-loop
+next-requires c κs =
+    let s = c .before .before .before .before .before .before in
+    let less = ltb-true (numberOf (c .before .before .before .before .loop .l)) (numberOf (s .args .past)) (sym (c .before .before .before .is-less .ensures) ∙ c .before .before .if1 .taken) in
+    let few = number-fits (s .args .past) _ (s .good .1 .1 .1 .0) in
+    omega arith
 
 loop-less : tie.Need-loop-less Inv-loop μ-loop
-loop-less c = search needs
+loop-less c =
+    let a = c .before .before .before .before .before .before .before .args in
+    let n = numberOf (c .before .before .before .before .before .loop .l) in
+    let less = ltb-true n (numberOf (a .past)) (sym (c .before .before .before .before .is-less .ensures) ∙ c .before .before .before .if1 .taken) in
+    omega (arith, c .next .ensures)
 
 loop-again : tie.Need-loop-again Inv-loop μ-loop
+unfolding inRow
 loop-again c =
-    let l = c .before .before .before .before .loop in let a = c .before .before .before .before .before .before .args in
-    (omega arith, l .inv .1 ∙ every-next (a .past .0 - l .l) (a .past .0 - (l .l + 1)) (l .l) (λ i. inRow (a .states .now) (a .p) i) (omega arith) (sym (c .before .holds .ensures) ∙ not-false (c .before .holds .result) (c .if2 .left)))
+    let a = c .before .before .before .before .before .before .before .args in
+    let l = c .before .before .before .before .before .loop in
+    let n = numberOf (l .l) in
+    let m = numberOf (a .past) in
+    let less = ltb-true n m (sym (c .before .before .before .before .is-less .ensures) ∙ c .before .before .before .if1 .taken) in (
+      omega (arith, c .next .ensures),
+      l .inv .1 ∙ every-next (m - n) (m - (n + 1)) n (λ i. inRow (a .states .now) (a .p) i) (omega arith)
+          (sym (c .before .before .holds-at .ensures) ∙ not-false (c .before .before .holds-at .result) (c .before .if2 .left))
+          ∙ ap (λ (i : ℕ). every (m - i) i (λ j. inRow (a .states .now) (a .p) j)) (sym (c .next .ensures)),
+    )
 
 returns-2 : tie.Need-returns-2 Inv-loop μ-loop
 returns-2 c =
-    let l = c .before .before .loop in let a = c .before .before .before .before .args in
-    sym (l .inv .1 ∙ every-none (a .past .0 - l .l) (l .l) (λ i. inRow (a .states .now) (a .p) i) (omega arith))
+    let a = c .before .before .before .before .args in
+    let l = c .before .before .loop in
+    let n = numberOf (l .l) in
+    let m = numberOf (a .past) in
+    let over = ltb-false n m (sym (c .before .is-less .ensures) ∙ c .if1 .left) in
+    sym (l .inv .1 ∙ every-none (m - n) n (λ i. inRow (a .states .now) (a .p) i) (omega arith))
 
 pub holds-from-spec : {M : Type 1} → statement M
 holds-from-spec =
@@ -54,9 +90,10 @@ holds-from-spec =
     Inv-loop
     μ-loop
     loop-holds
-    holds-requires
+    is-less-requires
+    holds-at-requires
     returns
-    add-l
+    next-requires
     loop-less
     loop-again
     returns-2)

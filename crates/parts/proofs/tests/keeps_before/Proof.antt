@@ -1,26 +1,31 @@
 -- The state before the start rounded up. Assumes nothing.
 use Prim.Native.Nat.{ℕ, _-_}
-use Rattle.parts.proofs.tests.keeps_before.Statement.{statement}
-use Rattle.parts.proofs.tests.keeps_before.Tie as tie
-use Rattle.parts.specs.States.{inRow}
-use Rattle.rules.specs.State.{wordCount}
-use borrow.Author.Needs.{needs}
 use mathlib.Core.Path.{ap, _∙_}
 use native.Mathlib.Omega.{arith}
+use Rattle.rules.specs.State.{wordCount}
+use Rattle.parts.specs.States.{inRow}
+use borrow.Author.Needs.{needs}
+use Rattle.parts.proofs.tests.keeps_before.Statement.{statement}
+use Rattle.parts.proofs.tests.keeps_before.Tie as tie
 
 c-requires : tie.Need-c-requires
 c-requires c κs = search needs
 
-sub-t5 : tie.Need-sub-t5
-sub-t5 c = search needs
+previous-requires : tie.Need-previous-requires
+previous-requires c κs = search needs
 
-holds-requires : tie.Need-holds-requires
+holds-at-requires : tie.Need-holds-at-requires
 unfolding wordCount
-holds-requires c κs = omega (arith, c .before .before .before .pre .after-first, c .before .before .before .pre .before-start, c .before .c .ensures)
+holds-at-requires c κs =
+    let t = c .before .before .before .pre in
+    omega (arith, t .after-first, t .before-start, c .before .c .ensures, c .previous .ensures)
 
 returns : tie.Need-returns
+unfolding inRow
 returns c =
-    let a = c .before .before .before .before .args in c .holds .ensures ∙ ap (λ (n : ℕ). inRow (a .states .now) (a .p) (n - 1)) (c .before .before .c .ensures)
+    let a = c .before .before .before .before .args in
+    c .holds-at .ensures
+    ∙ ap (inRow (a .states .now) (a .p)) (c .before .previous .ensures ∙ ap (λ (n : ℕ). n - 1) (c .before .before .c .ensures))
 
 pub keeps-before-spec : {M : Type 1} → statement M
-keeps-before-spec = tie.close (tie.spec c-requires sub-t5 holds-requires returns)
+keeps-before-spec = tie.close (tie.spec c-requires previous-requires holds-at-requires returns)

@@ -1,9 +1,9 @@
 -- The span joined, as the definition's. Assumes nothing.
-use Rattle.index.specs.Spans.{spanOf}
+use Rattle.index.specs.Spans.{spanOf, asSpan}
 use Rattle.rules.specs.Index.{Span}
 use Rattle.tree.proofs.rows.join.Statement.{statement}
 use Rattle.tree.proofs.rows.join.Tie as tie
-use Rattle.tree.specs.Standing.{asSpan, joined}
+use Rattle.tree.specs.Standing.{joined}
 use Rattle.tree.specs.declared.rows.Walked.the-variants.{Next}
 use borrow.Author.Needs.{needs}
 use mathlib.Core.Path.{sym, ap, _∙_}

@@ -1,8 +1,9 @@
 -- The row and the answer have one span. Assumes nothing.
 use Rattle.rules.specs.Index.{Span}
+use Rattle.index.specs.Spans.{asSpan}
 use Rattle.tree.proofs.rows.settle.Statement.{statement}
 use Rattle.tree.proofs.rows.settle.Tie as tie
-use Rattle.tree.specs.Standing.{putRow, asSpan}
+use Rattle.tree.specs.Standing.{putRow}
 use Rattle.tree.specs.declared.rows.Walked.the-variants.{Next}
 use borrow.Author.Needs.{needs}
 use mathlib.Core.Path.{ap, _∙_}

@@ -1,0 +1,51 @@
+-- `holds_at`: the middle part that was lent is the row of state l. Assumes nothing.
+use Prim.Native.Nat.{ℕ}
+use Rattle.index.specs.Spans.{numberOf}
+use Rattle.rows.proofs.Written.{part-row}
+use Rattle.rows.proofs.holds_at.Statement.{statement}
+use Rattle.rows.proofs.holds_at.Tie as tie
+use Rattle.rules.specs.State.{wordCount, member}
+use borrow.Author.Needs.{needs}
+use mathlib.Core.List.{List}
+use mathlib.Core.Path.{ap, _∙_}
+
+row-start-requires : tie.Need-row-start-requires
+row-start-requires c κs = search needs
+
+add-to : tie.Need-add-to
+add-to c = search needs
+
+mul-holds : tie.Need-mul-holds
+mul-holds c = search needs
+
+sub-holds : tie.Need-sub-holds
+sub-holds c = search needs
+
+part-holds-start : tie.Need-part-holds-start
+part-holds-start c = search needs
+
+part-holds-end : tie.Need-part-holds-end
+unfolding wordCount
+part-holds-end c = search needs
+
+holds-requires : tie.Need-holds-requires
+holds-requires c κs = search needs
+
+returns : tie.Need-returns
+returns c =
+    let a = c .before .before .before .before .args in
+    let from = c .before .before .row-start in
+    c .holds .ensures ∙ ap (λ (s : List ℕ). member s (a .p)) (part-row (a .states .now) (numberOf (a .l)) (from .result) (from .ensures))
+
+pub holds-at-spec : {M : Type 1} → statement M
+holds-at-spec =
+    tie.close
+    (tie.spec
+    row-start-requires
+    add-to
+    mul-holds
+    sub-holds
+    part-holds-start
+    part-holds-end
+    holds-requires
+    returns)
