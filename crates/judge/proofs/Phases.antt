@@ -25,7 +25,7 @@ use Rattle.reading.proofs.TheCase.{case-is}
 use Rattle.replay.specs.Running.{Left, ranOf, RanAs}
 use Rattle.replay.specs.declared.running.Ran.{Ran}
 use Rattle.replay.specs.declared.running.Ran.the-variants.{All, Stopped}
-use Rattle.replay.proofs.Calls.{left-worded}
+use Rattle.replay.proofs.Calls.{left-worded, ran-all}
 use Rattle.tree.specs.Layout.{planFrom, directoryOf, marksIn, planIn}
 use Rattle.tree.specs.Numbers.{PlanAt}
 use Rattle.tree.specs.Whole.{Ready, TreeTold}
@@ -132,10 +132,6 @@ module _ (text : List ℕ) (o : Opened) (initial : ℕ) (work : List ℕ) (x : O
         finds = finds-kept text (caseOf text) work v initial (o .plan .at) (o .nodes .at) (good .few-actions) (good .few-methods) e (x .finds);
       }
 
-  all-ran : (s : Option ℕ) → All ≡ ranOf s → s ≡ none
-  all-ran none e = refl
-  all-ran (some i) e = let z : _≡_ {A = ℕ} 0 1 = cc in absurd (omega arith)
-
   stopped-at : (s : Option ℕ) (i : ℕ) → Stopped i ≡ ranOf s → s ≡ some i
   stopped-at none i e = let z : _≡_ {A = ℕ} 0 1 = cc in absurd (omega arith)
   stopped-at (some j) i e = let same : j ≡ i = cc in ap (λ (n : ℕ). some n) same
@@ -147,10 +143,10 @@ module _ (text : List ℕ) (o : Opened) (initial : ℕ) (work : List ℕ) (x : O
     pub run-passes : r ≡ All → before ≡ replicate (length before) 0 → stateNeed ≤ length before → length after ≡ length before → HasRun text after
     run-passes e zeros room same =
         let held : after ≡ filled (length before) 0 (flatten (statesOf (caseOf text))) =
-        ran .written e ∙ ap (λ (l : List ℕ). putRows l 0 (statesOf (caseOf text))) zeros
+        ran-all (caseOf text) r before after ran e .1 ∙ ap (λ (l : List ℕ). putRows l 0 (statesOf (caseOf text))) zeros
         ∙ rows-fill (length before) (statesOf (caseOf text)) (left-worded text work (o .header) initial (o .plan .at) open-left) in
         record {
-          runs = all-ran (firstStop (caseOf text .actions) (caseOf text .plan) (caseOf text .initial) 1) (sym e ∙ ran .answer);
+          runs = ran-all (caseOf text) r before after ran e .0;
           stateRoom = omega arith;
           statesHeld = held ∙ ap (λ (n : ℕ). filled n 0 (flatten (statesOf (caseOf text)))) (sym same);
         }

@@ -11,7 +11,7 @@ use lib.ListN.{length, replicate}
 use Rattle.rules.specs.declared.Header.{Header}
 use Rattle.rules.specs.declared.Answer.{Answer}
 use Rattle.rules.specs.declared.Answer.the-variants.{Accepted, ShortList, LongText, Inapplicable}
-use Rattle.rules.specs.State.{Action, wordCount, empty, insert, insertAll, next, actionAt, states, firstStop}
+use Rattle.rules.specs.State.{Action, wordCount, empty, insert, insertAll, next, actionAt, states}
 use Rattle.rules.specs.Table.{Value}
 use Rattle.rules.specs.Case.{Case, Read, read, refused, setAt, membersAt, readCase}
 use Rattle.rules.specs.Verdict.{Found, right, wrong, stateNeed, workNeed, textMost, replayLists, statesOf, planRuns, judgeRun, textRead, judgeText, listsLent, replay, answerOf, statesAfter}
@@ -28,7 +28,7 @@ use Rattle.replay.specs.declared.running.Ran.{Ran}
 use Rattle.replay.specs.declared.running.Ran.the-variants.{All, Stopped}
 use Rattle.reading.specs.TheCase.{caseOf}
 use Rattle.reading.proofs.TheCase.{case-is}
-use Rattle.replay.specs.Running.{Left, ranOf, RanAs, replayRun, replayText}
+use Rattle.replay.specs.Running.{Left, ranOf, stopOf, reached, RanAs, replayRun, replayText}
 
 -- ---- Every state has the words of a state
 
@@ -72,21 +72,27 @@ stopped-at none i e = let z : _≡_ {A = ℕ} 0 1 = cc in absurd (omega arith)
 stopped-at (some j) i e = let same : j ≡ i = cc in ap (λ (n : ℕ). some n) same
 
 module _ (k : Case) (r : Ran) (before after : List ℕ) (ran : RanAs k r before after) where
-  runs : (o : Option ℕ) → firstStop (k .actions) (k .plan) (k .initial) 1 ≡ o → replayRun k ≡ planRuns (λ c. right c tt) k o
+  -- Where all cues apply, states 0 to k are written.
+  pub ran-all : r ≡ All → (stopOf k ≡ none) × (after ≡ putRows before 0 (statesOf k))
+  ran-all e =
+      let runs = all-ran (stopOf k) (sym e ∙ ran .answer) in
+      (runs, ran .written ∙ ap (λ (o : Option ℕ). putRows before 0 (reached o (statesOf k))) runs)
+
+  runs : (o : Option ℕ) → stopOf k ≡ o → replayRun k ≡ planRuns (λ c. right c tt) k o
   unfolding replayRun judgeRun
   runs o e = ap (planRuns (λ c. right c tt) k) e
 
   pub run-stops : (i : ℕ) → r ≡ Stopped i → replayRun k ≡ wrong (Inapplicable (k .planLine) i)
-  run-stops i e = runs (some i) (stopped-at (firstStop (k .actions) (k .plan) (k .initial) 1) i (sym e ∙ ran .answer))
+  run-stops i e = runs (some i) (stopped-at (stopOf k) i (sym e ∙ ran .answer))
 
   -- "Accepted: k and the node count n come back; the state list holds states 0 to k [..]; the rest is zero."
   pub run-passes : (h : Header) (size : ℕ) → r ≡ All → h ≡ k .head → before ≡ replicate size 0 → Worded (statesOf k)
       → (Accepted (h .cues) (h .nodes) ≡ answerOf (replayRun k)) × (after ≡ statesAfter size (replayRun k))
   unfolding statesAfter
   run-passes h size e q zeros worded =
-      let passes = runs none (all-ran (firstStop (k .actions) (k .plan) (k .initial) 1) (sym e ∙ ran .answer)) in (
+      let passes = runs none (ran-all e .0) in (
         ap (λ (x : Header). Accepted (x .cues) (x .nodes)) q ∙ sym (ap answerOf passes),
-        ran .written e ∙ ap (λ (l : List ℕ). putRows l 0 (statesOf k)) zeros ∙ rows-fill size (statesOf k) worded
+        ran-all e .1 ∙ ap (λ (l : List ℕ). putRows l 0 (statesOf k)) zeros ∙ rows-fill size (statesOf k) worded
             ∙ sym (ap (λ (x : Found (Unit {0})). statesAfter size x) passes),
       )
 

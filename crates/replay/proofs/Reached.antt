@@ -1,13 +1,13 @@
 -- Running the plan: the run from the start is the run from here, after the cues taken so far. Assumes nothing.
-use mathlib.Core.Path.{_≡_, refl, sym, ap, subst, _∙_}
+use mathlib.Core.Path.{_≡_, refl, sym, ap, ap₂, subst, _∙_}
 use mathlib.Core.Bool.{Bool, true, false, false≢true}
-use mathlib.Core.List.{List, [], _∷_}
-use mathlib.Core.Option.{Option, some}
+use mathlib.Core.List.{List, [], _∷_, _++_, append-nil}
+use mathlib.Core.Option.{Option, none, some}
 use Prim.Native.Nat.{ℕ, _+_, _≤_, _<_}
 use native.Mathlib.Numerals.{add-one}
 use native.Mathlib.Omega.{arith}
-use lib.ListN.{length, getD, drop, drop-of-length-le}
-use lib.Seq.{drop-cons}
+use lib.ListN.{length, getD, take, drop, take-append-drop, drop-of-length-le}
+use lib.Seq.{drop-cons, drop-drop}
 use Rattle.rules.specs.declared.Header.{Header}
 use Rattle.rules.specs.State.{Action, applies, next, step, actionAt, states, firstStop}
 use Rattle.rules.specs.Text.{number}
@@ -24,11 +24,12 @@ use Rattle.reading.specs.declared.again.Numbered.{Numbered}
 use Rattle.reading.specs.Again.{pastLetter, numberOr, numberHere}
 use Rattle.reading.specs.Directory.{directorySize}
 use Rattle.rows.specs.Rows.{putRow, putRows}
+use Rattle.rows.proofs.Written.{put-next}
 use Rattle.replay.specs.declared.again.Sets.{Sets}
 use Rattle.replay.specs.declared.running.Ran.the-variants.{All, Stopped}
 use Rattle.replay.specs.Again.{ActionSets, InitialSet}
 use Rattle.reading.specs.TheCase.{caseOf}
-use Rattle.replay.specs.Running.{Left, ranOf, RanAs}
+use Rattle.replay.specs.Running.{Left, ranOf, stopOf, reached, RanAs}
 use Rattle.replay.proofs.Plan.{Cues, plan-cues}
 
 -- ---- What reading left
@@ -115,10 +116,12 @@ unfolding firstStop
 stop-here actions a rest s i e =
     ap (λ (b : Bool). elim b as (λ x. Option ℕ) [ true ↦ firstStop actions rest (next s (actionAt actions a)) (i + 1) | false ↦ some i ]) e
 
-rows-next : (actions : List Action) (a : ℕ) (rest : List ℕ) (s t : List ℕ) (l m : List ℕ) (i : ℕ) → t ≡ next s (actionAt actions a) → m ≡ putRow l i s
-    → putRows l i (states actions (a ∷ rest) s) ≡ putRows m (i + 1) (states actions rest t)
-unfolding states
-rows-next actions a rest s t l m i q e = λ j. putRows (sym e j) (i + 1) (states actions rest (sym q j))
+-- Of a list whose members from i on are known: those after the first of them, and the whole where there is no other.
+drop-next : (ss : List (List ℕ)) (i : ℕ) (s : List ℕ) (rest : List (List ℕ)) → drop i ss ≡ s ∷ rest → drop (i + 1) ss ≡ rest
+drop-next ss i s rest e = sym (drop-drop 1 i ss) ∙ ap (drop 1) e
+
+take-whole : (ss : List (List ℕ)) (n : ℕ) → drop n ss ≡ [] → take n ss ≡ ss
+take-whole ss n e = sym (append-nil (take n ss)) ∙ ap (λ (x : List (List ℕ)). take n ss ++ x) (sym e) ∙ take-append-drop n ss
 
 -- ---- The run so far
 
@@ -127,8 +130,9 @@ pub record Reached (text : List ℕ) (k : Case) (before : List ℕ) (c : Cursor)
   pub most : i ≤ length (k .plan)
   pub size : length l ≡ length before
   pub cues : Cues text (k .head .actions) (drop i (k .plan)) (c .at)
-  pub stop : firstStop (k .actions) (k .plan) (k .initial) 1 ≡ firstStop (k .actions) (drop i (k .plan)) (s .words) (i + 1)
-  pub rows : putRows before 0 (statesOf k) ≡ putRows l i (states (k .actions) (drop i (k .plan)) (s .words))
+  pub stop : stopOf k ≡ firstStop (k .actions) (drop i (k .plan)) (s .words) (i + 1)
+  pub later : drop i (statesOf k) ≡ states (k .actions) (drop i (k .plan)) (s .words)
+  pub rows : l ≡ putRows before 0 (take i (statesOf k))
 
 pub reached-none : (text directory : List ℕ) (h : Header) (initial plan : ℕ) → Left text directory h initial plan → (l : List ℕ) (c : Cursor) (s : State)
     → c .at ≡ pastLetter text plan → s .words ≡ caseOf text .initial → Reached text (caseOf text) l c s l 0
@@ -141,7 +145,8 @@ reached-none text directory h initial plan left l c s e q =
       size = refl;
       cues = subst (λ (p : ℕ). Cues text (k .head .actions) (k .plan) p) (sym e) (plan-cues text k plan (f .planLine) (f .planCues));
       stop = ap (λ (x : List ℕ). firstStop (k .actions) (k .plan) x 1) (sym q);
-      rows = ap (λ (x : List ℕ). putRows l 0 (states (k .actions) (k .plan) x)) (sym q);
+      later = ap (λ (x : List ℕ). states (k .actions) (k .plan) x) (sym q);
+      rows = refl;
     }
 
 -- The cue that is due, and what stands after it.
@@ -151,6 +156,14 @@ record Due (text : List ℕ) (k : Case) (cue : Numbered) (i : ℕ) : Type 0 wher
   later : Cues text (k .head .actions) (drop (i + 1) (k .plan)) (cue .next .at)
 
 module _ (text : List ℕ) (k : Case) (before : List ℕ) (c : Cursor) (s : State) (l : List ℕ) (i : ℕ) (w : Reached text k before c s l i) where
+  -- State i written too.
+  written : (m : List ℕ) (rest : List (List ℕ)) → drop i (statesOf k) ≡ s .words ∷ rest → m ≡ putRow l i (s .words)
+      → m ≡ putRows before 0 (take (i + 1) (statesOf k))
+  written m rest here e =
+      let none : i ≡ 0 + i = omega arith in
+      e ∙ ap₂ (λ (x : List ℕ) (n : ℕ). putRow x n (s .words)) (w .rows) none ∙ put-next (statesOf k) i (s .words) rest before 0 here
+      ∙ ap (λ (n : ℕ). putRows before 0 (take n (statesOf k))) (sym (add-one i))
+
   module _ (more : i < length (k .plan)) (cue : Numbered) (read : cue ≡ numberHere text c) where
     due : Due text k cue i
     due =
@@ -169,10 +182,14 @@ module _ (text : List ℕ) (k : Case) (before : List ℕ) (c : Cursor) (s : Stat
     pub due-known : cue .value < k .head .actions
     due-known = due .known
 
-    module _ (x : Stepped) (steps : (x .ok, x .state .words) ≡ step (s .words) (actionAt (k .actions) (cue .value))) where
-      pub reached-next : (m : List ℕ) → x .ok ≡ true → length m ≡ length before → m ≡ putRow l i (s .words)
-          → Reached text k before (cue .next) (x .state) m (i + 1)
-      reached-next m ok size e =
+    -- State i and those after it.
+    due-states : drop i (statesOf k) ≡ s .words ∷ states (k .actions) (drop (i + 1) (k .plan)) (next (s .words) (actionAt (k .actions) (cue .value)))
+    unfolding states
+    due-states = w .later ∙ ap (λ (plan : List ℕ). states (k .actions) plan (s .words)) (due .split)
+
+    module _ (x : Stepped) (steps : (x .ok, x .state .words) ≡ step (s .words) (actionAt (k .actions) (cue .value))) (m : List ℕ) (e : m ≡ putRow l i (s .words)) where
+      pub reached-next : x .ok ≡ true → length m ≡ length before → Reached text k before (cue .next) (x .state) m (i + 1)
+      reached-next ok size =
           let d = due in
           let y = step-yes (s .words) (actionAt (k .actions) (cue .value)) x steps ok in
           record {
@@ -181,26 +198,30 @@ module _ (text : List ℕ) (k : Case) (before : List ℕ) (c : Cursor) (s : Stat
             cues = d .later;
             stop = w .stop ∙ ap (λ (plan : List ℕ). firstStop (k .actions) plan (s .words) (i + 1)) (d .split)
                 ∙ stop-next (k .actions) (cue .value) (drop (i + 1) (k .plan)) (s .words) (x .state .words) (i + 1) (y .0) (y .1);
-            rows = w .rows ∙ ap (λ (plan : List ℕ). putRows l i (states (k .actions) plan (s .words))) (d .split)
-                ∙ rows-next (k .actions) (cue .value) (drop (i + 1) (k .plan)) (s .words) (x .state .words) l m i (y .1) e;
+            later = drop-next (statesOf k) i (s .words) _ due-states ∙ ap (states (k .actions) (drop (i + 1) (k .plan))) (sym (y .1));
+            rows = written m _ due-states e;
           }
 
-      pub reached-stop : (after : List ℕ) → x .ok ≡ false → RanAs k (Stopped (i + 1)) before after
-      reached-stop after fails =
+      pub reached-stop : x .ok ≡ false → RanAs k (Stopped (i + 1)) before m
+      reached-stop fails =
           let d = due in
+          let stops : stopOf k ≡ some (i + 1) =
+          w .stop ∙ ap (λ (plan : List ℕ). firstStop (k .actions) plan (s .words) (i + 1)) (d .split)
+          ∙ stop-here (k .actions) (cue .value) (drop (i + 1) (k .plan)) (s .words) (i + 1)
+          (step-no (s .words) (actionAt (k .actions) (cue .value)) x steps fails) in
           record {
-            answer = sym (ap ranOf
-                (w .stop ∙ ap (λ (plan : List ℕ). firstStop (k .actions) plan (s .words) (i + 1)) (d .split)
-                ∙ stop-here (k .actions) (cue .value) (drop (i + 1) (k .plan)) (s .words) (i + 1)
-                (step-no (s .words) (actionAt (k .actions) (cue .value)) x steps fails)));
-            written = λ e. let z : _≡_ {A = ℕ} 0 1 = cc in absurd (omega arith);
+            answer = sym (ap ranOf stops);
+            written = written m _ due-states e ∙ sym (ap (λ (o : Option ℕ). putRows before 0 (reached o (statesOf k))) stops);
           }
 
   pub reached-all : (m : List ℕ) → length (k .plan) ≤ i → m ≡ putRow l i (s .words) → RanAs k All before m
   unfolding states firstStop
   reached-all m over e =
       let none-left : drop i (k .plan) ≡ [] = drop-of-length-le (k .plan) {i = i} over in
+      let runs : stopOf k ≡ none = w .stop ∙ ap (λ (plan : List ℕ). firstStop (k .actions) plan (s .words) (i + 1)) none-left in
+      let last : drop i (statesOf k) ≡ s .words ∷ [] = w .later ∙ ap (λ (plan : List ℕ). states (k .actions) plan (s .words)) none-left in
+      let whole : take (i + 1) (statesOf k) ≡ statesOf k = take-whole (statesOf k) (i + 1) (drop-next (statesOf k) i (s .words) [] last) in
       record {
-        answer = sym (ap ranOf (w .stop ∙ ap (λ (plan : List ℕ). firstStop (k .actions) plan (s .words) (i + 1)) none-left));
-        written = λ all. sym (w .rows ∙ ap (λ (plan : List ℕ). putRows l i (states (k .actions) plan (s .words))) none-left ∙ sym e);
+        answer = sym (ap ranOf runs);
+        written = written m [] last e ∙ ap (putRows before 0) whole ∙ sym (ap (λ (o : Option ℕ). putRows before 0 (reached o (statesOf k))) runs);
       }

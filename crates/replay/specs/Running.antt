@@ -3,9 +3,9 @@ use mathlib.Core.Path.{_≡_}
 use mathlib.Core.List.{List}
 use mathlib.Core.Option.{Option, none, some}
 use Prim.Native.Nat.{ℕ, _≤_}
-use lib.ListN.{length}
+use lib.ListN.{length, take}
 use Rattle.rules.specs.declared.Header.{Header}
-use Rattle.rules.specs.State.{firstStop}
+use Rattle.rules.specs.State.{State, firstStop}
 use Rattle.rules.specs.Case.{Case, read, readCase}
 use Rattle.rules.specs.Verdict.{Found, right, statesOf, judgeRun, judgeText}
 use Rattle.reading.specs.Directory.{Finds, directorySize}
@@ -29,10 +29,19 @@ abbrev pub ranOf : Option ℕ → Ran
 ranOf none = All
 ranOf (some i) = Stopped i
 
--- What running the plan of a case answers, and what it makes of a state list: where all cues apply, states 0 to k in turn.
+-- The first cue of a case that doesn't apply.
+abbrev pub stopOf : Case → Option ℕ
+stopOf k = firstStop (k .actions) (k .plan) (k .initial) 1
+
+-- Of states 0 to k, those that a run reaches: all of them, or states 0 to i - 1 where cue i is the first that doesn't apply.
+abbrev pub reached : Option ℕ → List State → List State
+reached none ss = ss
+reached (some i) ss = take i ss
+
+-- What running the plan of a case answers, and what it makes of a state list: the states that it reaches in turn, all after them as it was.
 pub record RanAs (k : Case) (r : Ran) (before after : List ℕ) : Type 0 where
-  pub answer : r ≡ ranOf (firstStop (k .actions) (k .plan) (k .initial) 1)
-  pub written : r ≡ All → after ≡ putRows before 0 (statesOf k)
+  pub answer : r ≡ ranOf (stopOf k)
+  pub written : after ≡ putRows before 0 (reached (stopOf k) (statesOf k))
 
 -- The checks of the replay call from row 5 on, and from row 2 on.
 unfoldable pub replayRun : Case → Found (Unit {0})

@@ -97,6 +97,17 @@ put-after p rest i s e =
     (ap (λ (m : ℕ). drop m (p ++ rest)) n ∙ drop-append-add p rest wordCount)
     ∙ sym (append-assoc p s (drop wordCount rest))
 
+-- One state more: the first of those that are left, after those written.
+pub put-next : (ss : List State) (i : ℕ) (s : State) (rest : List State) (l : List ℕ) (j : ℕ) → drop i ss ≡ s ∷ rest
+    → putRow (putRows l j (take i ss)) (j + i) s ≡ putRows l j (take (suc i) ss)
+put-next ss zero s rest l j e =
+    let all : j + zero ≡ j = omega arith in
+    ap (λ (n : ℕ). putRow l n s) all ∙ sym (ap (λ (x : List State). putRows l j (take 1 x)) e)
+put-next [] (suc i) s rest l j e = let z : _≡_ {A = ℕ} 0 1 = cc in absurd (omega arith)
+put-next (x ∷ ss) (suc i) s rest l j e =
+    let more : j + suc i ≡ j + 1 + i = omega arith in
+    ap (λ (n : ℕ). putRow (putRows (putRow l j x) (j + 1) (take i ss)) n s) more ∙ put-next ss i s rest (putRow l j x) (j + 1) e
+
 -- Every one has the words of a state.
 abbrev pub Worded : List State → Type 0
 Worded ss = Each (λ s. length s ≡ wordCount) ss

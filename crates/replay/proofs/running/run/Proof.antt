@@ -82,7 +82,7 @@ loop-again c =
     let row = c .before .before .before .before .before .before .before .put-row in
     subst (Reached (a .text .now) (caseOf (a .text .now)) (a .states .now) (cue .result .next) (step .result .state) (row .last .0)) (sym (c .before .before .before .before .before .before .before .before .before .next .ensures))
     (reached-next (a .text .now) (caseOf (a .text .now)) (a .states .now) (l .at) (l .s) (l .states) i (l .inv) more (cue .result) (cue .ensures)
-    (step .result) (step .ensures) (row .last .0) (c .before .before .if2 .taken) (row .kept .0 ∙ l .inv .size) (row .ensures))
+    (step .result) (step .ensures) (row .last .0) (row .ensures) (c .before .before .if2 .taken) (row .kept .0 ∙ l .inv .size))
 
 number-requires-2 : tie.Need-number-requires-2 Inv-loop μ-loop
 number-requires-2 c κs = search needs
@@ -103,7 +103,7 @@ returns c =
     let row = c .before .before .before .before .before .before .put-row in
     subst (λ (n : ℕ). RanAs (caseOf (a .text .now)) (Stopped n) (a .states .now) (row .last .0)) (sym (c .number2 .ensures ∙ c .before .before .before .before .before .before .before .before .next .ensures))
     (reached-stop (a .text .now) (caseOf (a .text .now)) (a .states .now) (l .at) (l .s) (l .states) i (l .inv) more (cue .result) (cue .ensures)
-    (step .result) (step .ensures) (row .last .0) (c .before .if2 .left))
+    (step .result) (step .ensures) (row .last .0) (row .ensures) (c .before .if2 .left))
 
 put-row-requires-2 : tie.Need-put-row-requires-2 Inv-loop μ-loop
 unfolding wordCount
