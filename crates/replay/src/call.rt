@@ -92,3 +92,12 @@ pub fn replay(text: &[u8], states: &mut [u64], work: &mut [u32]) -> Answer
     rows::clear_work(work);
     r
 }
+
+// The replay call over lists of its own, as long as asked.
+pub fn replay_text(text: &[u8]) -> Answer
+    ensures { λ r. ⌜ r ≡ answerOf (replay (replayLists stateNeed workNeed) (now (text .entry))) ⌝ }
+{
+    let mut states = [0u64; STATES * WORDS];
+    let mut work = [0u32; WORK];
+    replay(text, &mut states, &mut work)
+}

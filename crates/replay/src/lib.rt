@@ -8,5 +8,6 @@ pub use again::Sets;
 pub use again::read_action;
 pub use again::read_initial;
 pub use call::replay;
+pub use call::replay_text;
 pub use running::Ran;
 pub use running::run;
