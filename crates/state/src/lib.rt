@@ -77,7 +77,10 @@ fn word_next(s: State, added: State, deleted: State, i: usize) -> u64
     requires { ⌜ i < wordCount ⌝ }
     ensures { λ r. ⌜ r ≡ nextWord (word (s .words) i) (word (added .words) i) (word (deleted .words) i) ⌝ }
 {
-    word_without(s.words[i], deleted.words[i]) | added.words[i]
+    let old = s.words[i];
+    let plus = added.words[i];
+    let minus = deleted.words[i];
+    word_without(old, minus) | plus
 }
 
 // "It applies if every needed one is true and no forbidden one is."

@@ -4,46 +4,46 @@ use borrow.Author.Needs.{needs}
 use Rattle.state.proofs.word_next.Statement.{statement}
 use Rattle.state.proofs.word_next.Tie as tie
 
-mul-word-without : tie.Need-mul-word-without
+mul-old : tie.Need-mul-old
 unfolding wordCount
-mul-word-without c = search needs
+mul-old c = search needs
 
-element-copy-out-word-without : tie.Need-element-copy-out-word-without
+element-copy-out-old : tie.Need-element-copy-out-old
 unfolding wordCount
-element-copy-out-word-without c = search needs
+element-copy-out-old c = search needs
 
-mul-word-without-2 : tie.Need-mul-word-without-2
+mul-plus : tie.Need-mul-plus
 unfolding wordCount
-mul-word-without-2 c = search needs
+mul-plus c = search needs
 
-element-copy-out-word-without-2 : tie.Need-element-copy-out-word-without-2
+element-copy-out-plus : tie.Need-element-copy-out-plus
 unfolding wordCount
-element-copy-out-word-without-2 c = search needs
+element-copy-out-plus c = search needs
+
+mul-minus : tie.Need-mul-minus
+unfolding wordCount
+mul-minus c = search needs
+
+element-copy-out-minus : tie.Need-element-copy-out-minus
+unfolding wordCount
+element-copy-out-minus c = search needs
 
 word-without-requires : tie.Need-word-without-requires
 word-without-requires c κs = search needs
 
-mul-result : tie.Need-mul-result
-unfolding wordCount
-mul-result c = search needs
-
-element-copy-out-result : tie.Need-element-copy-out-result
-unfolding wordCount
-element-copy-out-result c = search needs
-
 returns : tie.Need-returns
 unfolding nextWord
-returns c = simp (c .before .word-without .ensures)
+returns c = simp (c .word-without .ensures)
 
 pub word-next-spec : {M : Type 1} → statement M
 word-next-spec =
     tie.close
     (tie.spec
-    mul-word-without
-    element-copy-out-word-without
-    mul-word-without-2
-    element-copy-out-word-without-2
+    mul-old
+    element-copy-out-old
+    mul-plus
+    element-copy-out-plus
+    mul-minus
+    element-copy-out-minus
     word-without-requires
-    mul-result
-    element-copy-out-result
     returns)

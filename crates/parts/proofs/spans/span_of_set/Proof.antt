@@ -16,8 +16,7 @@ abbrev μ-loop : tie.MeasureT-loop
 μ-loop work u span₀ rest₀ left₀ span rest left = left
 
 returns : tie.Need-returns Inv-loop μ-loop
-returns c =
-    let a = c .before .before .args in whole-task (spanOf (a .own)) (spansIn (a .work .now)) (a .u) (c .if1 .taken)
+returns c = search (whole-task, needs)
 
 lowest-requires : tie.Need-lowest-requires Inv-loop μ-loop
 lowest-requires c κs = search needs
