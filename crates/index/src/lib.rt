@@ -69,7 +69,7 @@ impl StateNumber {
         StateNumber(0)
     }
 
-    // The state after the next cue, and the one before the last.
+    // The state after this one, and the state before it.
     pub fn next(self) -> StateNumber
         requires { ⌜ numberOf self < 4294967295 ⌝ }
         ensures { λ r. ⌜ numberOf r ≡ numberOf self + 1 ⌝ }

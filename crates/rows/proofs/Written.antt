@@ -20,19 +20,21 @@ all-written ws l n e w all = ext-getD 0 l ws (e ∙ sym w) (λ k h. all k (omega
 
 -- ---- One row
 
--- The middle part of four numbers from the start of row i on: what stands there, and the list with a state put there.
+-- The middle part from the start of row i on: what stands there, and the list with a state put there.
 module _ (l : List ℕ) (i from : ℕ) (e : from ≡ wordCount * i) where
-  pub part-row : take (from + 4 - from) (drop from l) ≡ rowAt l i
-  unfolding rowAt wordCount
-  part-row = let k : from + 4 - from ≡ 4 = omega arith in ap (λ (n : ℕ). take n (drop from l)) k ∙ ap (λ (n : ℕ). take 4 (drop n l)) e
+  pub part-row : take (from + wordCount - from) (drop from l) ≡ rowAt l i
+  unfolding rowAt
+  part-row =
+      let k : from + wordCount - from ≡ wordCount = omega arith in
+      ap (λ (n : ℕ). take n (drop from l)) k ∙ ap (λ (n : ℕ). take wordCount (drop n l)) e
 
-  pub part-put : (s row : List ℕ) → row ≡ s → take from l ++ (row ++ drop (from + 4 - from) (drop from l)) ≡ putRow l i s
-  unfolding putRow wordCount
+  pub part-put : (s row : List ℕ) → row ≡ s → take from l ++ (row ++ drop (from + wordCount - from) (drop from l)) ≡ putRow l i s
+  unfolding putRow
   part-put s row same =
-      let k : from + 4 - from ≡ 4 = omega arith in
+      let k : from + wordCount - from ≡ wordCount = omega arith in
       ap (λ (n : ℕ). take from l ++ (row ++ drop n (drop from l))) k
-      ∙ ap (λ (x : List ℕ). take from l ++ (row ++ x)) (drop-drop 4 from l)
-      ∙ ap₂ (λ (n : ℕ) (x : List ℕ). take n l ++ (x ++ drop (n + 4) l)) e same
+      ∙ ap (λ (x : List ℕ). take from l ++ (row ++ x)) (drop-drop wordCount from l)
+      ∙ ap₂ (λ (n : ℕ) (x : List ℕ). take n l ++ (x ++ drop (n + wordCount) l)) e same
 
 -- A row within the first of two lists.
 in-front : (a b : List ℕ) (j : ℕ) → wordCount * j + wordCount ≤ length a → rowAt (a ++ b) j ≡ rowAt a j

@@ -32,6 +32,7 @@ holds-requires : tie.Need-holds-requires
 holds-requires c κs = search needs
 
 returns : tie.Need-returns
+unfolding wordCount
 returns c =
     let a = c .before .before .before .before .args in
     let from = c .before .before .row-start in

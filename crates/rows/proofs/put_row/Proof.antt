@@ -33,6 +33,7 @@ same-length : tie.Need-same-length
 same-length c = search needs
 
 returns : tie.Need-returns
+unfolding wordCount
 returns c =
     let a = c .before .before .before .before .before .before .args in
     let from = c .before .before .before .before .row-start in

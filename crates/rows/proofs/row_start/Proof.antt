@@ -17,7 +17,7 @@ mul-result c = search needs
 
 returns : tie.Need-returns
 unfolding wordCount
-returns c = ap (λ (n : ℕ). 4 * n) (c .number .ensures)
+returns c = ap (λ (n : ℕ). wordCount * n) (c .number .ensures)
 
 pub row-start-spec : {M : Type 1} → statement M
 row-start-spec = tie.close (tie.spec number-requires cast-result mul-result returns)

@@ -4,7 +4,7 @@ use Rattle.index.specs.Spans.{spanOf}
 use Rattle.parts.proofs.Parts.{Joining, whole-task, lowest-inside, joining-starts, next-inside, joining-goes-on, joining-ends}
 use Rattle.parts.proofs.spans.span_of_set.Statement.{statement}
 use Rattle.parts.proofs.spans.span_of_set.Tie as tie
-use Rattle.parts.specs.Spans.{subtaskSpan, SubtaskInside, spansIn}
+use Rattle.parts.specs.Spans.{subtaskSpan, SubtaskInside}
 use borrow.Author.Needs.{needs}
 use mathlib.Core.Path.{sym, ap, subst, _∙_}
 use native.Mathlib.Omega.{arith}

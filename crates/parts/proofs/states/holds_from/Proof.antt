@@ -1,5 +1,5 @@
 -- `holds_from`: the test of all states from the first is that of those from here on. Assumes nothing.
-use Prim.Native.Nat.{ℕ, _+_, _-_, _≤_, _<_}
+use Prim.Native.Nat.{ℕ, _+_, _-_, _≤_}
 use Rattle.index.proofs.Ranges.{number-fits}
 use Rattle.index.specs.Spans.{numberOf}
 use Rattle.parts.proofs.states.holds_from.Statement.{statement}

@@ -1,5 +1,5 @@
 -- `run`: the run from the start is the run from here (Reached). Assumes nothing.
-use Prim.Native.Nat.{ℕ, _+_, _-_, _<_, _≤_}
+use Prim.Native.Nat.{ℕ, _-_, _<_, _≤_}
 use Rattle.index.specs.Spans.{numberOf}
 use Rattle.replay.proofs.Reached.{plan-long, few-cues, cue-known, Reached, reached-none, due-known, reached-next, reached-stop, reached-all}
 use Rattle.replay.proofs.running.run.Statement.{statement}
