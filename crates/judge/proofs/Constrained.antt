@@ -1,32 +1,33 @@
 -- From the claims to the constraints, and from there to the answer and the records. Assumes nothing.
 use mathlib.Core.Path.{_≡_, refl, sym, ap, subst, _∙_}
-use mathlib.Core.List.{List, _++_}
+use mathlib.Core.List.{List, map}
 use mathlib.Core.Option.{Option, none, some}
 use Prim.Native.Nat.{ℕ, _+_, _-_, _*_, _≤_}
 use native.Mathlib.Omega.{arith}
-use lib.ListN.{length, take, replicate}
+use lib.ListN.{length, take}
 use Rattle.rules.specs.declared.Header.{Header}
 use Rattle.rules.specs.declared.Answer.{Answer}
 use Rattle.rules.specs.declared.Answer.the-variants.{Accepted}
-use Rattle.rules.specs.Tree.{Tree, preorder, mayClaim}
+use Rattle.rules.specs.Tree.{Tree, preorder, rootLine, mayClaim}
 use Rattle.rules.specs.Constraint.{holdsIn, firstBroken}
 use Rattle.rules.specs.Verdict.{Found, right, wrong, workNeed, statesOf, answerOf, statesAfter, judgeTree}
 use Rattle.rules.proofs.Judgement.Walk.{walk-shows}
 use Rattle.reading.specs.TheCase.{caseOf}
 use Rattle.tree.specs.Layout as Lay
-use Rattle.tree.specs.Layout.{size, rows, rowsIn}
+use Rattle.tree.specs.Layout.{size, rows, rowsIn, rowsPast}
 use Rattle.constraints.specs.Ready.{Ready, Leaves, brokenOfTree}
 use Rattle.constraints.specs.Ready as Con
 use Rattle.constraints.specs.Methods.{keptAs}
 use Rattle.constraints.specs.declared.method.Kept.{Kept}
 use Rattle.constraints.specs.declared.method.Kept.the-variants.{All, Broken}
-use Rattle.records.specs.Records.{recordsAfter, putRecords}
-use Rattle.records.specs.Reading.{NodesRead, headsFrom}
+use Rattle.records.specs.Records.{recordAt, upTo, recordOf, RecordsHeld, rowSpan, recordsOf}
+use Rattle.records.specs.Reading.{NodesRead, nodeLines}
+use Rattle.records.proofs.Trees.{records-are}
 use Rattle.judge.specs.declared.Opened.{Opened}
 use Rattle.judge.specs.Phases as P
 use Rattle.judge.proofs.Phases.{open-sound}
 use Rattle.judge.proofs.Verdicts.{constraints-refused, tree-right}
-use Rattle.judge.proofs.Finals.{nodes-read, heads-are, records-left}
+use Rattle.judge.proofs.NodeLines.{nodes-read, lines-are}
 
 module _ (text : List ℕ) (o : Opened) (states work : List ℕ) (x : P.Claimed text o states work) where
   w : P.Walked text o states work
@@ -101,26 +102,24 @@ module _ (text : List ℕ) (o : Opened) (states work : List ℕ) (x : P.Claimed 
           (nodes-read text (caseOf text) (o .nodes .at) (f .nodeLines) (f .nodesRead .0) (f .nodesRead .1) (f .nodesRead .2) (f .nodesAre))
 
       pub records-done : r ≡ All → (u : List ℕ)
-          → u ≡ take (5 * o .header .nodes) (putRecords v 0 (headsFrom text (o .header) (o .nodes .at))) ++ replicate (length v - 5 * o .header .nodes) 0
+          → upTo (recordAt u) (o .header .nodes) ≡ recordsOf (rowSpan v) 0 (nodeLines text (o .header) (o .nodes .at))
           → (Accepted (o .header .cues) (o .header .nodes) ≡ answerOf (judgeTree (caseOf text)))
-          × (states ≡ statesAfter (length states) (judgeTree (caseOf text))) × (u ≡ recordsAfter (length work) (judgeTree (caseOf text)))
-      unfolding statesAfter workNeed w
+          × (states ≡ statesAfter (length states) (judgeTree (caseOf text))) × RecordsHeld (judgeTree (caseOf text)) u
+      unfolding statesAfter workNeed RecordsHeld rowsPast w
       records-done e u written =
           let k = caseOf text in
           let accepts = kept-all e in
-          let good = open-sound text o (w .initial) work (w .opens) in
           let f = w .opens .finds in
           let room = w .opens .workRoom in
           let same = leaves .same-size in
-          let lines = walk-shows k (mayClaim (k .plan)) (w .tree) (w .past) (w .left) (w .claimed) (w .walks) .1 .preordered in
           let rowed : take (3 * size (w .tree)) (rowsIn v) ≡ rows (w .tree) 0 = ap (take (3 * size (w .tree))) (leaves .rows) ∙ w .rowed in
-          let heads = heads-are text k (o .nodes .at) (f .nodeLines) (f .nodesRead .0) (f .nodesRead .1) (f .nodesRead .2) (f .nodesAre) in
-          let here : u ≡ take (5 * k .head .nodes) (putRecords v 0 (headsFrom text (k .head) (o .nodes .at))) ++ replicate (length v - 5 * k .head .nodes) 0 =
-          written ∙ ap (λ (h : Header). take (5 * h .nodes) (putRecords v 0 (headsFrom text h (o .nodes .at))) ++ replicate (length v - 5 * h .nodes) 0) (w .opens .head) in (
+          let lines : nodeLines text (k .head) (o .nodes .at) ≡ map rootLine (preorder (w .tree)) =
+          lines-are text k (o .nodes .at) (f .nodeLines) (f .nodesRead .0) (f .nodesRead .1) (f .nodesRead .2) (f .nodesAre)
+          ∙ sym (walk-shows k (mayClaim (k .plan)) (w .tree) (w .past) (w .left) (w .claimed) (w .walks) .1 .preordered) in
+          let held : upTo (recordAt u) (k .head .nodes) ≡ map recordOf (preorder (w .tree)) =
+          subst (λ (h : Header). upTo (recordAt u) (h .nodes) ≡ recordsOf (rowSpan v) 0 (nodeLines text h (o .nodes .at))) (w .opens .head) written
+          ∙ ap (recordsOf (rowSpan v) 0) lines ∙ records-are v (w .tree) (omega arith) rowed in (
             ap (λ (h : Header). Accepted (h .cues) (h .nodes)) (w .opens .head) ∙ sym (ap answerOf accepts),
             w .run .statesHeld ∙ sym (ap (λ (y : Found Tree). statesAfter (length states) y) accepts),
-            here
-                ∙ records-left text k (w .tree) v (headsFrom text (k .head) (o .nodes .at)) lines (good .nodes-length) (good .head-good .few-nodes) (omega arith) rowed heads
-                ∙ ap (λ (n : ℕ). recordsAfter n (right k (w .tree))) same
-                ∙ sym (ap (λ (y : Found Tree). recordsAfter (length work) y) accepts),
+            subst (λ (y : Found Tree). RecordsHeld y u) (sym accepts) held,
           )

@@ -1,5 +1,5 @@
 pub mod Verdicts
 pub mod Frames
-pub mod Finals
+pub mod NodeLines
 pub mod Phases
 pub mod Constrained

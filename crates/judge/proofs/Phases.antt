@@ -35,7 +35,7 @@ use Rattle.tree.specs.declared.marks.Unclaimed.the-variants.{None, At}
 use Rattle.tree.proofs.Claimed.{least-unclaimed}
 use Rattle.tree.specs.declared.walk.TreeWalk.{TreeWalk}
 use Rattle.tree.specs.declared.walk.TreeWalk.the-variants.{Right, Refused}
-use Rattle.records.specs.Records.{recordsAfter}
+use Rattle.records.specs.Records.{RecordsHeld}
 use Rattle.judge.specs.declared.Opened.{Opened}
 use Rattle.judge.specs.Phases as P
 use Rattle.judge.specs.Phases.{Opens, Unused, HasRun}
@@ -43,12 +43,11 @@ use Rattle.judge.proofs.Frames.{finds-kept, finds-front, marks-none, pl
 
 -- ---- Answers
 
--- A refusal answers so, and leaves both lists zero.
-pub refused-all : (s w : ℕ) (f : Found Tree) (r : Answer) → f ≡ wrong r
-    → (r ≡ answerOf f) × (replicate s 0 ≡ statesAfter s f) × (replicate w 0 ≡ recordsAfter w f)
-unfolding statesAfter recordsAfter
-refused-all s w f r e =
-    (sym (ap answerOf e), sym (ap (λ (x : Found Tree). statesAfter s x) e), sym (ap (λ (x : Found Tree). recordsAfter w x) e))
+-- A refusal answers so, and leaves the state list zero, whatever the work space is.
+pub refused-all : (s : ℕ) (f : Found Tree) (r : Answer) → f ≡ wrong r → (r ≡ answerOf f) × (replicate s 0 ≡ statesAfter s f) × ((w : List ℕ) → RecordsHeld f w)
+unfolding statesAfter RecordsHeld
+refused-all s f r e =
+    (sym (ap answerOf e), sym (ap (λ (x : Found Tree). statesAfter s x) e), λ w. subst (λ (x : Found Tree). RecordsHeld x w) (sym e) tt)
 
 -- ---- Reading
 

@@ -1,9 +1,9 @@
-// The core of the check call, over plain lists: the rows of 01's table in their order. What it leaves in the work space are the numbers of
-// the node records, which the call then copies into the node list.
+// The core of the check call, over plain lists: the rows of 01's table in their order. What it leaves in the work space are the columns of
+// the node records, which the call then gathers into the node list.
 ghost use mathlib.Core.Path.{_≡_};
 ghost use lib.ListN.{length, replicate};
 ghost use Rattle.rules.specs.Verdict.{check, checkLists, answerOf, statesAfter, judgeText, judgeRun, judgeTree};
-ghost use Rattle.records.specs.Records.{recordsAfter};
+ghost use Rattle.records.specs.Records.{RecordsHeld};
 ghost use Rattle.reading.specs.TheCase.{caseOf};
 ghost use Rattle.judge.specs.Phases.{Cleared, Read, Ran as HasRun, Walked, Claimed};
 use constraints::Kept;
@@ -29,14 +29,12 @@ pub struct Opened {
     pub nodes: Cursor,
 }
 
-// A refusal: "both lists are zero throughout. Work space is zero after each call."
-fn refuse(states: &mut [u64], work: &mut [u32], answer: Answer) -> Answer
+// A refusal: the state list is zero throughout; the node list is the caller's.
+fn refuse(states: &mut [u64], answer: Answer) -> Answer
     ensures answer { λ r. ⌜ r ≡ answer ⌝ }
     ensures states { λ r. ⌜ now (states .exit) ≡ replicate (length (now (states .entry))) 0 ⌝ }
-    ensures work { λ r. ⌜ now (work .exit) ≡ replicate (length (now (work .entry))) 0 ⌝ }
 {
     rows::clear(states);
-    rows::clear_work(work);
     answer
 }
 
@@ -45,7 +43,7 @@ fn judge_constraints(text: &[u8], o: Opened, states: &mut [u64], work: &mut [u32
     requires { ⌜ Claimed (now text) o (now states) (now work) ⌝ }
     ensures answer { λ r. ⌜ r ≡ answerOf (judgeTree (caseOf (now (text .entry)))) ⌝ }
     ensures states { λ r. ⌜ now (states .exit) ≡ statesAfter (length (now (states .entry))) (judgeTree (caseOf (now (text .entry)))) ⌝ }
-    ensures work { λ r. ⌜ now (work .exit) ≡ recordsAfter (length (now (work .entry))) (judgeTree (caseOf (now (text .entry)))) ⌝ }
+    ensures work { λ r. ⌜ RecordsHeld (judgeTree (caseOf (now (text .entry)))) (now (work .exit)) ⌝ }
 {
     let header = o.header;
     let nodes = o.nodes;
@@ -58,7 +56,7 @@ fn judge_constraints(text: &[u8], o: Opened, states: &mut [u64], work: &mut [u32
                 nodes: header.nodes,
             }
         }
-        Kept::Broken { answer } => refuse(states, work, answer),
+        Kept::Broken { answer } => refuse(states, answer),
     }
 }
 
@@ -67,14 +65,13 @@ fn judge_claims(text: &[u8], o: Opened, states: &mut [u64], work: &mut [u32]) ->
     requires { ⌜ Walked (now text) o (now states) (now work) ⌝ }
     ensures answer { λ r. ⌜ r ≡ answerOf (judgeTree (caseOf (now (text .entry)))) ⌝ }
     ensures states { λ r. ⌜ now (states .exit) ≡ statesAfter (length (now (states .entry))) (judgeTree (caseOf (now (text .entry)))) ⌝ }
-    ensures work { λ r. ⌜ now (work .exit) ≡ recordsAfter (length (now (work .entry))) (judgeTree (caseOf (now (text .entry)))) ⌝ }
+    ensures work { λ r. ⌜ RecordsHeld (judgeTree (caseOf (now (text .entry)))) (now (work .exit)) ⌝ }
 {
     let header = o.header;
     match tree::least_unclaimed(work, header.cues) {
         Unclaimed::None => judge_constraints(text, o, states, work),
         Unclaimed::At { position } => refuse(
             states,
-            work,
             Answer::Unclaimed {
                 line: o.plan_line,
                 position,
@@ -88,7 +85,7 @@ fn judge_nodes(text: &[u8], o: Opened, states: &mut [u64], work: &mut [u32]) -> 
     requires { ⌜ HasRun (now text) o (now states) (now work) ⌝ }
     ensures answer { λ r. ⌜ r ≡ answerOf (judgeTree (caseOf (now (text .entry)))) ⌝ }
     ensures states { λ r. ⌜ now (states .exit) ≡ statesAfter (length (now (states .entry))) (judgeTree (caseOf (now (text .entry)))) ⌝ }
-    ensures work { λ r. ⌜ now (work .exit) ≡ recordsAfter (length (now (work .entry))) (judgeTree (caseOf (now (text .entry)))) ⌝ }
+    ensures work { λ r. ⌜ RecordsHeld (judgeTree (caseOf (now (text .entry)))) (now (work .exit)) ⌝ }
 {
     let header = o.header;
     let plan = o.plan;
@@ -96,7 +93,7 @@ fn judge_nodes(text: &[u8], o: Opened, states: &mut [u64], work: &mut [u32]) -> 
     tree::store_plan(text, plan, header.cues, work);
     match tree::walk_tree(text, header, o.plan_line, nodes, work) {
         TreeWalk::Right => judge_claims(text, o, states, work),
-        TreeWalk::Refused { answer } => refuse(states, work, answer),
+        TreeWalk::Refused { answer } => refuse(states, answer),
     }
 }
 
@@ -111,7 +108,7 @@ fn judge_run(
     requires { ⌜ Read (now text) o (initial .at) (now states) (now work) ⌝ }
     ensures answer { λ r. ⌜ r ≡ answerOf (judgeRun judgeTree (caseOf (now (text .entry)))) ⌝ }
     ensures states { λ r. ⌜ now (states .exit) ≡ statesAfter (length (now (states .entry))) (judgeRun judgeTree (caseOf (now (text .entry)))) ⌝ }
-    ensures work { λ r. ⌜ now (work .exit) ≡ recordsAfter (length (now (work .entry))) (judgeRun judgeTree (caseOf (now (text .entry)))) ⌝ }
+    ensures work { λ r. ⌜ RecordsHeld (judgeRun judgeTree (caseOf (now (text .entry)))) (now (work .exit)) ⌝ }
 {
     let header = o.header;
     let plan = o.plan;
@@ -120,7 +117,6 @@ fn judge_run(
         Ran::All => judge_nodes(text, o, states, work),
         Ran::Stopped { cue } => refuse(
             states,
-            work,
             Answer::Inapplicable {
                 line: o.plan_line,
                 cue,
@@ -134,7 +130,7 @@ fn judge_lent(text: &[u8], states: &mut [u64], work: &mut [u32]) -> Answer
     requires { ⌜ Cleared (now text) (now states) (now work) ⌝ }
     ensures answer { λ r. ⌜ r ≡ answerOf (judgeText judgeTree (now (text .entry))) ⌝ }
     ensures states { λ r. ⌜ now (states .exit) ≡ statesAfter (length (now (states .entry))) (judgeText judgeTree (now (text .entry))) ⌝ }
-    ensures work { λ r. ⌜ now (work .exit) ≡ recordsAfter (length (now (work .entry))) (judgeText judgeTree (now (text .entry))) ⌝ }
+    ensures work { λ r. ⌜ RecordsHeld (judgeText judgeTree (now (text .entry))) (now (work .exit)) ⌝ }
 {
     match reading::read_case(text, &mut work[..DIRECTORY]) {
         CaseRead::Case {
@@ -152,15 +148,16 @@ fn judge_lent(text: &[u8], states: &mut [u64], work: &mut [u32]) -> Answer
             };
             judge_run(text, o, initial, states, work)
         }
-        CaseRead::Refused { answer } => refuse(states, work, answer),
+        CaseRead::Refused { answer } => refuse(states, answer),
     }
 }
 
-// All rows: "1 state, 2 node, 3 work; first such", the text's length, and the rest. The lists are zero before anything is checked.
+// All rows: "1 state, 2 node, 3 work; first such", the text's length, and the rest. The lists are zero before anything is checked:
+// the walk starts from marks that are zero.
 pub fn judge(text: &[u8], states: &mut [u64], work: &mut [u32], node_room: usize) -> Answer
     ensures { λ r. ⌜ r ≡ answerOf (check (checkLists (length (now (states .entry))) «node_room» (length (now (work .entry)))) (now (text .entry))) ⌝ }
     ensures { λ r. ⌜ now (states .exit) ≡ statesAfter (length (now (states .entry))) (check (checkLists (length (now (states .entry))) «node_room» (length (now (work .entry)))) (now (text .entry))) ⌝ }
-    ensures { λ r. ⌜ now (work .exit) ≡ recordsAfter (length (now (work .entry))) (check (checkLists (length (now (states .entry))) «node_room» (length (now (work .entry)))) (now (text .entry))) ⌝ }
+    ensures { λ r. ⌜ RecordsHeld (check (checkLists (length (now (states .entry))) «node_room» (length (now (work .entry)))) (now (text .entry))) (now (work .exit)) ⌝ }
 {
     rows::clear(states);
     rows::clear_work(work);

@@ -1,21 +1,24 @@
--- The node lines in turn: each reads as its head, and the records from the start are those from here on. Assumes nothing.
+-- The node lines in turn: each reads as its record's head, and the records written so far with those to come are all of them. Assumes nothing.
 use mathlib.Core.Path.{_≡_, refl, sym, ap, subst, _∙_}
-use mathlib.Core.List.{List, [], _∷_, map}
-use Prim.Native.Nat.{ℕ, suc, _+_, _-_, _*_, _≤_, _<_}
+use mathlib.Core.List.{List, [], _∷_, _++_, map, append-assoc, append-nil}
+use Prim.Native.Nat.{ℕ, suc, _+_, _-_, _≤_, _<_}
+use native.Mathlib.Numerals.{add-one}
 use native.Mathlib.Omega.{arith}
-use lib.ListN.{length, getD}
-use lib.Seq.{length-sets}
+use lib.ListN.{length, getD, length-map}
 use Rattle.rules.specs.declared.Header.{Header}
+use Rattle.rules.specs.Index.{Span}
 use Rattle.rules.specs.Table as T
-use Rattle.rules.specs.Table.{Value, readLine, table, roleNumber}
-use Rattle.rules.specs.Case.{Valued, Read, read, refused, follow, readOf, nodeOf, scalarAt, oneLine, many}
-use Rattle.rules.proofs.Judgement.Reading.{ForLine, ReadSays, one-line-says}
+use Rattle.rules.specs.Table.{Value, table, roleNumber}
+use Rattle.rules.specs.Case.{NodeLine, Valued, Read, read, refused, follow, nodeOf, scalarAt, oneLine, many}
+use Rattle.rules.specs.Verdict.{nodeRecord}
+use Rattle.rules.proofs.Judgement.Reading.{ForLine, ReadSays, one-line-says, Counted, lines-say}
 use Rattle.text.specs.declared.Cursor.{Cursor}
 use Rattle.reading.specs.declared.again.Again.{Again}
 use Rattle.reading.specs.Again.{AgainAt}
-use Rattle.tree.specs.Layout.{rowsFrom}
-use Rattle.records.specs.Records.{Head, headOf, letterCode, putRecord, putRecords}
-use Rattle.records.specs.Reading.{headFrom, nodesAt, NodesRead, IsRead, linesOf, headsFrom}
+use Rattle.reading.proofs.Places.{line-read}
+use Rattle.records.specs.Records.{startsFrom, endsFrom, lettersFrom, recordAt, upTo, letterCode, columnSpan, recordsOf}
+use Rattle.records.specs.Reading.{nodesAt, NodesRead, IsRead, linesOf, nodeLines}
+use Rattle.records.proofs.Columns.{upTo-same, nodeWith, headPut, head-below, length-head, head-before, head-here}
 
 -- The first of so many, and the others.
 pub record First {A : Type 0} (one : ℕ → ℕ → Read A) (count n place : ℕ) (xs : List A) (past next : ℕ) : Type 0 where
@@ -48,40 +51,32 @@ many-first {A} one count n place xs past next e = go (one n place) refl
         let f : refused r ≡ read xs past next = sym (ap (λ (s : Read A). follow s (λ y m p. follow (many one count m p) (λ ys n″ place″. read (y ∷ ys) n″ place″))) q) ∙ e in
         let z : _≡_ {A = ℕ} 0 1 = cc in absurd (omega arith)
 
--- A node line's letter and first two numbers are its head.
+-- A node line's letter and first two numbers are those of its record.
 abbrev HeadIs : ℕ → List Value → Type 0
-HeadIs l vs = headFrom (letterCode l) (scalarAt vs 0) (scalarAt vs 1) ≡ headOf (nodeOf (l, vs))
+HeadIs l vs = (s : Span) → nodeWith (letterCode l) (scalarAt vs 0) (scalarAt vs 1) s ≡ nodeRecord (nodeOf (l, vs)) s
 
 heads : (h : Header) → ForLine h 0 T.node HeadIs
-unfolding ForLine table roleNumber letterCode headOf nodeOf scalarAt
-heads h = (λ m hm. refl, (λ m hm g hg. refl, (λ a ha i hi. refl, tt)))
+unfolding ForLine table roleNumber letterCode nodeRecord nodeOf scalarAt
+heads h = (λ m hm s. refl, (λ m hm g hg s. refl, (λ a ha i hi s. refl, tt)))
 
-line-read : (n : ℕ) (r : T.LineRead) (x : Valued) (n′ place′ : ℕ) → readOf n r ≡ read x n′ place′ → r ≡ T.line (x .0) (x .1) place′
-line-read n (T.line l vs next) x n′ place′ e =
-    let same : (l, vs) ≡ x = cc in let at : next ≡ place′ = cc in λ j. T.line (same j .0) (same j .1) (at j)
-line-read n (T.LineRead.unreadable f) x n′ place′ e = let z : _≡_ {A = ℕ} 0 1 = cc in absurd (omega arith)
-line-read n (T.LineRead.outside f) x n′ place′ e = let z : _≡_ {A = ℕ} 0 1 = cc in absurd (omega arith)
-
--- A node line that reads, read again: its head, and where the next one starts.
+-- A node line that reads, read again: its record's head, and where the next one starts.
 pub record LineIs (a : Again) (x : Valued) (place′ : ℕ) : Type 0 where
-  pub head : headFrom (letterCode (a .letter)) (a .first) (a .second) ≡ headOf (nodeOf x)
+  pub head : (s : Span) → nodeWith (letterCode (a .letter)) (a .first) (a .second) s ≡ nodeRecord (nodeOf x) s
   pub ends : a .next .at ≡ place′
 
 line-is : (text : List ℕ) (h : Header) (n place : ℕ) (x : Valued) (n′ place′ : ℕ) → oneLine text h T.node 0 n place ≡ read x n′ place′
     → (a : Again) → AgainAt text place a → LineIs a x place′
 unfolding oneLine AgainAt
 line-is text h n place x n′ place′ e a again =
-    let r = line-read n (readLine text T.node h 0 place) x n′ place′ e in
+    let r = line-read text h T.node 0 n place x n′ place′ e in
     let same = again T.node refl h 0 (x .0) (x .1) place′ r in
     let says = subst (λ (s : Read Valued). ReadSays (λ (y : Valued). HeadIs (y .0) (y .1)) s) e (one-line-says text h T.node 0 n place HeadIs (heads h)) in
-    record { head = ap (λ (y : Again). headFrom (letterCode (y .letter)) (y .first) (y .second)) same ∙ says; ends = ap (λ (y : Again). y .next .at) same }
+    record {
+      head = λ s. ap (λ (y : Again). nodeWith (letterCode (y .letter)) (y .first) (y .second) s) same ∙ says s;
+      ends = ap (λ (y : Again). y .next .at) same;
+    }
 
-pub length-put : (work : List ℕ) (i : ℕ) (x : Head) → length (putRecord work i x) ≡ length work
-unfolding putRecord
-length-put work i x =
-    length-sets work (5 * i) (x .code ∷ x .label ∷ x .place ∷ getD work (rowsFrom + 3 * i) 0 ∷ getD work (rowsFrom + 3 * i + 1) 0 ∷ [])
-
--- The invariant: the records from the start are those from node i on, over the work space as it is.
+-- The invariant: below the heads nothing has changed, and the records of the columns up to node i and those of the lines left are all of them.
 pub record Going (text : List ℕ) (h : Header) (place : ℕ) (start : List ℕ) (c : Cursor) (work : List ℕ) (i : ℕ) : Type 0 where
   pub lines : List Valued
   pub n : ℕ
@@ -90,10 +85,11 @@ pub record Going (text : List ℕ) (h : Header) (place : ℕ) (start : List ℕ)
   pub reads : many (oneLine text h T.node 0) (h .nodes - i) n (c .at) ≡ read lines past next
   pub most : i ≤ h .nodes
   pub size : length work ≡ length start
-  pub same : putRecords start 0 (headsFrom text h place) ≡ putRecords work i (map (λ x. headOf (nodeOf x)) lines)
+  pub kept : (k : ℕ) → k < lettersFrom → getD work k 0 ≡ getD start k 0
+  pub same : upTo (recordAt work) i ++ recordsOf (columnSpan start) i (map nodeOf lines) ≡ recordsOf (columnSpan start) 0 (nodeLines text h place)
 
 pub going-starts : (text : List ℕ) (h : Header) (c : Cursor) (work : List ℕ) → NodesRead text h (c .at) → Going text h (c .at) work c work 0
-unfolding NodesRead nodesAt headsFrom
+unfolding NodesRead nodesAt nodeLines
 going-starts text h c work = go (nodesAt text h (c .at)) refl
   where
     go : (r : Read (List Valued)) → nodesAt text h (c .at) ≡ r → IsRead r → Going text h (c .at) work c work 0
@@ -107,19 +103,30 @@ going-starts text h c work = go (nodesAt text h (c .at)) refl
           reads = ap (λ (k : ℕ). many (oneLine text h T.node 0) k 1 (c .at)) all ∙ e;
           most = omega arith;
           size = refl;
-          same = ap (λ (r : Read (List Valued)). putRecords work 0 (map (λ x. headOf (nodeOf x)) (linesOf r))) e;
+          kept = λ k l. refl;
+          same = sym (ap (λ (r : Read (List Valued)). recordsOf (columnSpan work) 0 (map nodeOf (linesOf r))) e);
         }
     go (refused r) e t = absurd t
 
 pub going-on : (text : List ℕ) (h : Header) (place : ℕ) (start : List ℕ) (c : Cursor) (work : List ℕ) (i : ℕ) → Going text h place start c work i
-    → i < h .nodes → (a : Again) → AgainAt text (c .at) a → (work′ : List ℕ)
-    → work′ ≡ putRecord work i (headFrom (letterCode (a .letter)) (a .first) (a .second)) → Going text h place start (a .next) work′ (i + 1)
-going-on text h place start c work i g inside a again work′ ew =
+    → h .nodes ≤ 3000 → 16384 ≤ length start → i < h .nodes → (a : Again) → AgainAt text (c .at) a
+    → Going text h place start (a .next) (headPut work i (letterCode (a .letter)) (a .first) (a .second)) (i + 1)
+going-on text h place start c work i g few room inside a again =
+    let size = g .size in
     let left : h .nodes - i ≡ suc (h .nodes - (i + 1)) = omega arith in
     let f = many-first (oneLine text h T.node 0) (h .nodes - (i + 1)) (g .n) (c .at) (g .lines) (g .past) (g .next)
     (ap (λ (k : ℕ). many (oneLine text h T.node 0) k (g .n) (c .at)) (sym left) ∙ g .reads) in
     let l = line-is text h (g .n) (c .at) (f .x) (f .n′) (f .place′) (f .reads) a again in
-    let put : work′ ≡ putRecord work i (headOf (nodeOf (f .x))) = ew ∙ ap (putRecord work i) (l .head) in
+    let code = letterCode (a .letter) in
+    let put = headPut work i code (a .first) (a .second) in
+    let spans = columnSpan start in
+    let more = recordsOf spans (i + 1) (map nodeOf (f .others)) in
+    let span : columnSpan work i ≡ spans i =
+    λ z. record { start = g .kept (startsFrom + i) (omega arith) z; end = g .kept (endsFrom + i) (omega arith) z } in
+    let before : upTo (recordAt put) i ≡ upTo (recordAt work) i =
+    upTo-same (recordAt put) (recordAt work) i (head-before work i code (a .first) (a .second) (omega arith)) in
+    let here : recordAt put i ≡ nodeRecord (nodeOf (f .x)) (spans i) =
+    head-here work i code (a .first) (a .second) (omega arith) (omega arith) ∙ ap (nodeWith code (a .first) (a .second)) span ∙ l .head (spans i) in
     record {
       lines = f .others;
       n = f .n′;
@@ -127,17 +134,42 @@ going-on text h place start c work i g inside a again work′ ew =
       next = g .next;
       reads = ap (λ (p : ℕ). many (oneLine text h T.node 0) (h .nodes - (i + 1)) (f .n′) p) (l .ends) ∙ f .rest;
       most = omega arith;
-      size = ap length put ∙ length-put work i (headOf (nodeOf (f .x))) ∙ g .size;
-      same = g .same
-          ∙ ap (λ (xs : List Valued). putRecords work i (map (λ x. headOf (nodeOf x)) xs)) (f .list)
-          ∙ ap (λ (w : List ℕ). putRecords w (i + 1) (map (λ x. headOf (nodeOf x)) (f .others))) (sym put);
+      size = length-head work i code (a .first) (a .second) ∙ g .size;
+      kept = λ k below. head-below work i code (a .first) (a .second) k below ∙ g .kept k below;
+      same = ap (λ (m : ℕ). upTo (recordAt put) m ++ more) (add-one i)
+          ∙ append-assoc (upTo (recordAt put) i) (recordAt put i ∷ []) more
+          ∙ (λ j. before j ++ (here j ∷ more))
+          ∙ ap (λ (xs : List Valued). upTo (recordAt work) i ++ recordsOf spans i (map nodeOf xs)) (sym (f .list))
+          ∙ g .same;
     }
 
 pub going-ends : (text : List ℕ) (h : Header) (place : ℕ) (start : List ℕ) (c : Cursor) (work : List ℕ) (i : ℕ) → Going text h place start c work i
-    → h .nodes ≤ i → work ≡ putRecords start 0 (headsFrom text h place)
+    → h .nodes ≤ i → upTo (recordAt work) (h .nodes) ≡ recordsOf (columnSpan start) 0 (nodeLines text h place)
 going-ends text h place start c work i g end =
+    let most = g .most in
+    let all : h .nodes ≡ i = omega arith in
     let none : h .nodes - i ≡ 0 = omega arith in
     let e : read [] (g .n) (c .at) ≡ read (g .lines) (g .past) (g .next) =
     ap (λ (k : ℕ). many (oneLine text h T.node 0) k (g .n) (c .at)) (sym none) ∙ g .reads in
     let l : [] ≡ g .lines = cc in
-    sym (g .same ∙ ap (λ (xs : List Valued). putRecords work i (map (λ x. headOf (nodeOf x)) xs)) (sym l))
+    ap (upTo (recordAt work)) all
+    ∙ sym (append-nil (upTo (recordAt work) i))
+    ∙ ap (λ (xs : List Valued). upTo (recordAt work) i ++ recordsOf (columnSpan start) i (map nodeOf xs)) l
+    ∙ g .same
+
+-- The records of lines whose spans agree.
+pub records-agree : (f g : ℕ → Span) (n i : ℕ) (ls : List NodeLine) → ((j : ℕ) → j < n → f j ≡ g j) → i + length ls ≤ n → recordsOf f i ls ≡ recordsOf g i ls
+records-agree f g n i [] same few = refl
+records-agree f g n i (l ∷ ls) same few = λ j. nodeRecord l (same i (omega arith) j) ∷ records-agree f g n (i + 1) ls same (omega arith) j
+
+-- As many lines are read as the header says.
+pub length-lines : (text : List ℕ) (h : Header) (place : ℕ) → NodesRead text h place → length (nodeLines text h place) ≡ h .nodes
+unfolding NodesRead nodesAt nodeLines
+length-lines text h place = go (nodesAt text h place) refl
+  where
+    go : (r : Read (List Valued)) → nodesAt text h place ≡ r → IsRead r → length (map nodeOf (linesOf (nodesAt text h place))) ≡ h .nodes
+    go (read xs past next) e t =
+        ap (λ (r : Read (List Valued)). length (map nodeOf (linesOf r))) e
+        ∙ length-map xs nodeOf
+        ∙ subst (ReadSays (Counted {A = Valued} (λ x. HeadIs (x .0) (x .1)) (h .nodes))) e (lines-say text h T.node 0 (h .nodes) 1 place HeadIs (heads h)) .0
+    go (refused r) e t = absurd t

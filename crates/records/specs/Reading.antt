@@ -1,13 +1,9 @@
--- The heads of the node lines, as they are read. Assumes nothing.
+-- The node lines, as they are read again. Assumes nothing.
 use mathlib.Core.List.{List, [], map}
 use Prim.Native.Nat.{ℕ}
 use Rattle.rules.specs.declared.Header.{Header}
 use Rattle.rules.specs.Table as T
-use Rattle.rules.specs.Case.{Valued, Read, read, refused, nodeOf, oneLine, many}
-use Rattle.records.specs.Records.{Head, headOf}
-
-abbrev pub headFrom : ℕ → ℕ → ℕ → Head
-headFrom code label place = record { code = code; label = label; place = place }
+use Rattle.rules.specs.Case.{NodeLine, Valued, Read, read, refused, nodeOf, oneLine, many}
 
 -- The node lines from a place on, by the header.
 unfoldable pub nodesAt : List ℕ → Header → ℕ → Read (List Valued)
@@ -25,5 +21,5 @@ abbrev pub linesOf : Read (List Valued) → List Valued
 linesOf (read xs n place) = xs
 linesOf (refused r) = []
 
-unfoldable pub headsFrom : List ℕ → Header → ℕ → List Head
-headsFrom text h place = map (λ x. headOf (nodeOf x)) (linesOf (nodesAt text h place))
+unfoldable pub nodeLines : List ℕ → Header → ℕ → List NodeLine
+nodeLines text h place = map nodeOf (linesOf (nodesAt text h place))

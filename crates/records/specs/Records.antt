@@ -1,51 +1,71 @@
--- The node records as plain numbers, five in a row for each node, in the work space. Assumes nothing.
+-- The node records in the work space: five columns of 3,000 numbers, one for each field. Assumes nothing.
+use mathlib.Core.Path.{_≡_}
 use mathlib.Core.Bool.{true, false}
-use mathlib.Core.List.{List, [], _∷_, map, flatten}
-use Prim.Native.Nat.{ℕ, _+_, _*_}
+use mathlib.Core.List.{List, [], _∷_, _++_, map}
+use Prim.Native.Nat.{ℕ, zero, suc, _+_, _*_}
 use lib.Dec.{eqb}
-use lib.ListN.{getD, replicate}
-use lib.Seq.{sets}
+use lib.ListN.{getD}
 use Rattle.rules.specs.declared.Node.{Node}
-use Rattle.rules.specs.Case.{NodeLine, D, E, L}
+use Rattle.rules.specs.Index.{Span}
+use Rattle.rules.specs.Case.{NodeLine}
 use Rattle.rules.specs.Tree.{Tree, preorder, rootLine, span}
-use Rattle.rules.specs.Verdict.{Found, right, wrong, filled, nodeRecord}
+use Rattle.rules.specs.Verdict.{Found, right, wrong, nodeRecord}
 use Rattle.tree.specs.Layout.{rowsFrom}
 
--- "letter code (D 1, E 2, L 3), method or action, place (0 for D), doubled start and doubled end"
-unfoldable pub numbersOf : Node → List ℕ
-numbersOf x = x .letter ∷ x .label ∷ x .place ∷ x .start ∷ x .end ∷ []
+-- Where each column starts: those of the spans below the walk's rows, the others over the rows.
+abbrev pub startsFrom : ℕ
+startsFrom = 0
 
-unfoldable pub recordOf : Tree → List ℕ
-recordOf x = numbersOf (nodeRecord (rootLine x) (span x))
+abbrev pub endsFrom : ℕ
+endsFrom = 3000
 
--- The numbers of all nodes of a tree.
-unfoldable pub recordsOf : Tree → List ℕ
-recordsOf t = flatten (map recordOf (preorder t))
+abbrev pub lettersFrom : ℕ
+lettersFrom = 7168
 
--- The work space that is left: the records' numbers and zero after them, or zero throughout if refused.
-unfoldable pub recordsAfter : ℕ → Found Tree → List ℕ
-recordsAfter size (right k t) = filled size 0 (recordsOf t)
-recordsAfter size (wrong r) = replicate size 0
+abbrev pub labelsFrom : ℕ
+labelsFrom = 10168
+
+abbrev pub placesFrom : ℕ
+placesFrom = 13168
+
+-- Record i: number i of each column.
+unfoldable pub recordAt : List ℕ → ℕ → Node
+recordAt w i =
+    record {
+      letter = getD w (lettersFrom + i) 0;
+      label = getD w (labelsFrom + i) 0;
+      place = getD w (placesFrom + i) 0;
+      start = getD w (startsFrom + i) 0;
+      end = getD w (endsFrom + i) 0;
+    }
+
+-- f at each number below n, in order.
+abbrev pub upTo : {A : Type 0} → (ℕ → A) → ℕ → List A
+upTo f zero = []
+upTo f (suc n) = upTo f n ++ (f n ∷ [])
+
+unfoldable pub recordOf : Tree → Node
+recordOf x = nodeRecord (rootLine x) (span x)
+
+-- What the columns hold: the records of an accepted tree, from their starts on. Nothing is said of the rest, nor of a refusal.
+unfoldable pub RecordsHeld : Found Tree → List ℕ → Type 0
+RecordsHeld (right k t) w = upTo (recordAt w) (k .head .nodes) ≡ map recordOf (preorder t)
+RecordsHeld (wrong r) w = Unit {0}
+
+-- ---- How they are written
 
 -- The code of a node line's letter.
 unfoldable pub letterCode : ℕ → ℕ
 letterCode l = elim (eqb l 68) [ true ↦ 1 | false ↦ elim (eqb l 69) [ true ↦ 2 | false ↦ 3 ] ]
 
--- A node line as its letter's code, its method or action, and its place.
-pub record Head : Type 0 where
-  pub code : ℕ
-  pub label : ℕ
-  pub place : ℕ
+-- The span of node i, as its row has it; and as the columns have it.
+abbrev pub rowSpan : List ℕ → ℕ → Span
+rowSpan w i = record { start = getD w (rowsFrom + 3 * i) 0; end = getD w (rowsFrom + 3 * i + 1) 0 }
 
-unfoldable pub headOf : NodeLine → Head
-headOf (D m) = record { code = 1; label = m; place = 0 }
-headOf (E m g) = record { code = 2; label = m; place = g }
-headOf (L a i) = record { code = 3; label = a; place = i }
+abbrev pub columnSpan : List ℕ → ℕ → Span
+columnSpan w i = record { start = getD w (startsFrom + i) 0; end = getD w (endsFrom + i) 0 }
 
--- The work space once the record of node i has been written, its start and end taken from the node's row.
-unfoldable pub putRecord : List ℕ → ℕ → Head → List ℕ
-putRecord w i x = sets w (5 * i) (x .code ∷ x .label ∷ x .place ∷ getD w (rowsFrom + 3 * i) 0 ∷ getD w (rowsFrom + 3 * i + 1) 0 ∷ [])
-
-abbrev pub putRecords : List ℕ → ℕ → List Head → List ℕ
-putRecords w i [] = w
-putRecords w i (x ∷ xs) = putRecords (putRecord w i x) (i + 1) xs
+-- The records of node lines, the first of them that of node i.
+abbrev pub recordsOf : (ℕ → Span) → ℕ → List NodeLine → List Node
+recordsOf spans i [] = []
+recordsOf spans i (l ∷ ls) = nodeRecord l (spans i) ∷ recordsOf spans (i + 1) ls

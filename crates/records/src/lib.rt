@@ -1,14 +1,25 @@
-// The node records as plain numbers: the last step over the lent work space, before they are copied into the node list.
+// The node records as five columns of plain numbers: the last step over the lent work space, before they are gathered into the node list.
 ghost use mathlib.Core.Path.{_≡_};
-ghost use mathlib.Core.List.{_++_};
-ghost use Prim.Native.Nat.{_-_, _*_, _≤_, _<_};
-ghost use lib.ListN.{length, take, replicate};
-ghost use Rattle.records.specs.Records.{letterCode, putRecord, putRecords};
-ghost use Rattle.records.specs.Reading.{NodesRead, headFrom, headsFrom};
+ghost use Prim.Native.Nat.{ℕ, _≤_, _<_};
+ghost use lib.ListN.{length};
+ghost use Rattle.records.specs.Records.{recordAt, upTo, letterCode, rowSpan, columnSpan, recordsOf};
+ghost use Rattle.records.specs.Reading.{NodesRead, nodeLines};
 use reading::read_again;
 use rules::Header;
+use rules::NODES;
 use text::Cursor;
 use tree::ROWS;
+
+// Where each column starts: those of the spans below the rows, the others over the rows, which nothing reads once the spans are out.
+pub const STARTS: usize = 0;
+
+pub const ENDS: usize = STARTS + NODES;
+
+pub const LETTERS: usize = ROWS;
+
+pub const LABELS: usize = LETTERS + NODES;
+
+pub const PLACES: usize = LABELS + NODES;
 
 fn letter_code(letter: u8) -> u32
     ensures { λ r. ⌜ r ≡ letterCode letter ⌝ }
@@ -20,45 +31,44 @@ fn letter_code(letter: u8) -> u32
     }
 }
 
-// Writes the record of node i: its start and end are those of its row.
-fn put_record(work: &mut [u32], i: usize, code: u32, label: u32, place: u32)
-    requires { ⌜ (i < 3000) × (16384 ≤ length (now work)) ⌝ }
-    ensures { λ _. ⌜ now (work .exit) ≡ putRecord (now (work .entry)) i (headFrom code label place) ⌝ }
+// The columns of starts and ends, out of the rows.
+fn put_spans(work: &mut [u32], count: usize)
+    requires { ⌜ (count ≤ 3000) × (16384 ≤ length (now work)) ⌝ }
+    ensures { λ _. ⌜ ((i : ℕ) → i < count → columnSpan (now (work .exit)) i ≡ rowSpan (now (work .entry)) i) ⌝ }
 {
-    let row = ROWS + 3 * i;
-    let start = work[row];
-    let end = work[row + 1];
-    let at = 5 * i;
-    work[at] = code;
-    work[at + 1] = label;
-    work[at + 2] = place;
-    work[at + 3] = start;
-    work[at + 4] = end;
+    let mut i: usize = 0;
+    while i < count {
+        let row = ROWS + 3 * i;
+        work[STARTS + i] = work[row];
+        work[ENDS + i] = work[row + 1];
+        i += 1;
+    }
 }
 
-// Writes a record for each node line, in order: node i's row is read before the records reach it.
-fn put_records(text: &[u8], header: Header, nodes: Cursor, work: &mut [u32])
+// The columns of letter codes, methods or actions, and places, out of the node lines: then every record stands in the columns.
+fn put_heads(text: &[u8], header: Header, nodes: Cursor, work: &mut [u32])
     requires { ⌜ (header .nodes ≤ 3000) × (16384 ≤ length (now work)) ⌝ }
     requires { ⌜ NodesRead (now text) header (nodes .at) ⌝ }
-    ensures { λ _. ⌜ now (work .exit) ≡ putRecords (now (work .entry)) 0 (headsFrom (now (text .entry)) header (nodes .at)) ⌝ }
+    ensures { λ _. ⌜ upTo (recordAt (now (work .exit))) (header .nodes) ≡ recordsOf (columnSpan (now (work .entry))) 0 (nodeLines (now (text .entry)) header (nodes .at)) ⌝ }
 {
     let mut c = nodes;
     let mut i: usize = 0;
     while i < header.nodes as usize {
         let a = read_again(text, c);
-        put_record(work, i, letter_code(a.letter), a.first, a.second);
+        work[LETTERS + i] = letter_code(a.letter);
+        work[LABELS + i] = a.first;
+        work[PLACES + i] = a.second;
         c = a.next;
         i += 1;
     }
 }
 
-// The records of all nodes, and zero after them to the end of the work space.
+// The records of all nodes into the columns: each node line with the span of its row.
 pub fn write_records(text: &[u8], header: Header, nodes: Cursor, work: &mut [u32])
     requires { ⌜ (header .nodes ≤ 3000) × (16384 ≤ length (now work)) ⌝ }
     requires { ⌜ NodesRead (now text) header (nodes .at) ⌝ }
-    ensures { λ _. ⌜ now (work .exit) ≡ take (5 * header .nodes) (putRecords (now (work .entry)) 0 (headsFrom (now (text .entry)) header (nodes .at))) ++ replicate (length (now (work .entry)) - 5 * header .nodes) 0 ⌝ }
+    ensures { λ _. ⌜ upTo (recordAt (now (work .exit))) (header .nodes) ≡ recordsOf (rowSpan (now (work .entry))) 0 (nodeLines (now (text .entry)) header (nodes .at)) ⌝ }
 {
-    put_records(text, header, nodes, work);
-    let from = 5 * header.nodes as usize;
-    rows::clear_work(&mut work[from..]);
+    put_spans(work, header.nodes as usize);
+    put_heads(text, header, nodes, work);
 }

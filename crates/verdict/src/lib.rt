@@ -1,36 +1,50 @@
-// The check call: the core over plain lists, then the node records from the numbers that it leaves in the work space, then the work space zero.
+// The check call: the core over plain lists, then the node records gathered from the columns that it leaves, then the work space zero.
+use records::ENDS;
+use records::LABELS;
+use records::LETTERS;
+use records::PLACES;
+use records::STARTS;
 use rules::Answer;
 use rules::Node;
 ghost use mathlib.Core.Path.{_≡_};
-ghost use lib.ListN.{length};
-ghost use Rattle.rules.specs.Verdict.{check, checkLists, answerOf, statesAfter, nodesAfter, workAfter};
+ghost use Prim.Native.Nat.{_+_};
+ghost use lib.ListN.{length, getD};
+ghost use Rattle.rules.specs.Verdict.{check, checkLists, answerOf, statesAfter, nodesAfter, workAfter, reported};
 ghost use Rattle.rules.specs.Demands.{Demand2, Demand3};
-ghost use Rattle.verdict.specs.Rows.{nodeFrom, nodesFrom};
+ghost use Rattle.records.specs.Records.{recordAt, upTo};
+ghost use Rattle.verdict.specs.Nodes.{nodeFrom};
 
-// "Work space is zero after each call."
-pub fn clear(work: &mut [u32])
-    ensures { λ _. ⌜ now (work .exit) ≡ workAfter (length (now (work .entry))) ⌝ }
+// Number i of the column that starts at `column`; zero past the end of the list.
+fn number(work: &[u32], column: usize, i: usize) -> u32
+    ensures { λ r. ⌜ r ≡ getD (now (work .entry)) (column + i) 0 ⌝ }
 {
-    let mut i = 0;
-    while i < work.len() {
-        work[i] = 0;
-        i += 1;
+    if i < work.len() {
+        if column < work.len() - i {
+            return work[column + i];
+        }
+    }
+    0
+}
+
+// Record i, gathered from the columns.
+pub fn node_at(work: &[u32], i: usize) -> Node
+    ensures { λ r. ⌜ r ≡ recordAt (now (work .entry)) i ⌝ }
+{
+    Node {
+        letter: number(work, LETTERS, i),
+        label: number(work, LABELS, i),
+        place: number(work, PLACES, i),
+        start: number(work, STARTS, i),
+        end: number(work, ENDS, i),
     }
 }
 
-// The record of row i of the work space, or zeros where that row is not inside it. The only place that knows a row's order.
-pub fn node_at(rows: &[u32], i: usize) -> Node
-    ensures { λ r. ⌜ r ≡ nodeFrom (now (rows .entry)) i ⌝ }
+// What stands at i in the node list: record i below the count, "the rest is zero".
+fn node_or_zero(work: &[u32], count: usize, i: usize) -> Node
+    ensures { λ r. ⌜ r ≡ nodeFrom (now (work .entry)) count i ⌝ }
 {
-    if i < rows.len() / 5 {
-        let at = 5 * i;
-        return Node {
-            letter: rows[at],
-            label: rows[at + 1],
-            place: rows[at + 2],
-            start: rows[at + 3],
-            end: rows[at + 4],
-        };
+    if i < count {
+        return node_at(work, i);
     }
     Node {
         letter: 0,
@@ -41,15 +55,25 @@ pub fn node_at(rows: &[u32], i: usize) -> Node
     }
 }
 
-// Every record from its row. The only loop over records.
-pub fn fill(nodes: &mut [Node], rows: &[u32])
-    ensures { λ _. ⌜ now (nodes .exit) ≡ nodesFrom (now (rows .entry)) 0 (length (now (nodes .entry))) ⌝ }
+// The node list, however long it is. The only loop over records.
+pub fn fill(nodes: &mut [Node], work: &[u32], count: usize)
+    ensures { λ _. ⌜ now (nodes .exit) ≡ upTo (nodeFrom (now (work .entry)) count) (length (now (nodes .entry))) ⌝ }
 {
     let mut i = 0;
     while i < nodes.len() {
-        nodes[i] = node_at(rows, i);
+        nodes[i] = node_or_zero(work, count, i);
         i += 1;
     }
+}
+
+// How many records an answer comes with: the n of an acceptance, none for a refusal.
+fn count_of(answer: Answer) -> usize
+    ensures { λ r. ⌜ r ≡ reported answer .nodes ⌝ }
+{
+    let Answer::Accepted { nodes, .. } = answer else {
+        return 0;
+    };
+    nodes as usize
 }
 
 // The check call, open to every text and to lists of every length.
@@ -63,8 +87,8 @@ pub fn check(text: &[u8], states: &mut [u64], nodes: &mut [Node], work: &mut [u3
 {
     let room = nodes.len();
     let answer = judge::judge(text, states, work, room);
-    fill(nodes, work);
-    clear(work);
+    fill(nodes, work, count_of(answer));
+    rows::clear_work(work);
     answer
 }
 

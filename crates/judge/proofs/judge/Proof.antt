@@ -4,13 +4,14 @@ use Rattle.judge.proofs.Phases.{refused-all}
 use Rattle.judge.proofs.Verdicts.{states-short, nodes-short, work-short, lists-long, text-long}
 use Rattle.judge.proofs.judge.Statement.{statement}
 use Rattle.judge.proofs.judge.Tie as tie
-use Rattle.records.specs.Records.{recordsAfter}
+use Rattle.records.specs.Records.{RecordsHeld}
 use Rattle.rules.specs.State.{wordCount}
-use Rattle.rules.specs.Verdict.{answerOf, statesAfter, textMost, workNeed, stateNeed, nodeNeed, check, checkLists, judgeTree}
+use Rattle.rules.specs.Tree.{Tree}
+use Rattle.rules.specs.Verdict.{answerOf, statesAfter, textMost, workNeed, stateNeed, nodeNeed, check, checkLists, judgeTree, Found}
 use Rattle.rules.specs.declared.Answer.the-variants.{ShortList, LongText}
 use borrow.Author.Needs.{needs}
 use lib.ListN.{length, replicate}
-use mathlib.Core.Path.{_≡_, ap, sym, _∙_}
+use mathlib.Core.Path.{_≡_, ap, sym, subst, _∙_}
 use native.Mathlib.Omega.{arith}
 
 clear-requires : tie.Need-clear-requires
@@ -36,8 +37,8 @@ returns c = let a = c .before .before .before .before .before .before .before .b
     let kept : length (c .before .before .before .before .before .before .before .clear .last .0) ≡ s = c .before .before .before .before .before .before .before .clear .kept .0 in
     let short : s < stateNeed = omega (arith, c .if1 .taken) in
     let q = states-short s (a .node-room) w (a .text .now) short in
-    let r = refused-all s w (check (checkLists s (a .node-room) w) (a .text .now)) (ShortList 1) q in
-    (r .0, (c .before .before .before .before .before .before .before .clear .ensures ∙ r .1, c .before .before .before .clear-work .ensures ∙ r .2))
+    let r = refused-all s (check (checkLists s (a .node-room) w) (a .text .now)) (ShortList 1) q in
+    (r .0, (c .before .before .before .before .before .before .before .clear .ensures ∙ r .1, r .2 _))
 
 same-length-3 : tie.Need-same-length-3
 same-length-3 c = search needs
@@ -54,8 +55,8 @@ returns-2 c = let a = c .before .before .before .before .before .before .before 
     let long : stateNeed ≤ s = omega (arith, c .before .if1 .left) in
     let short : a .node-room < nodeNeed = omega (arith, c .if2 .taken) in
     let q = nodes-short s (a .node-room) w (a .text .now) long short in
-    let r = refused-all s w (check (checkLists s (a .node-room) w) (a .text .now)) (ShortList 2) q in
-    (r .0, (c .before .before .before .before .before .before .before .before .clear .ensures ∙ r .1, c .before .before .before .before .clear-work .ensures ∙ r .2))
+    let r = refused-all s (check (checkLists s (a .node-room) w) (a .text .now)) (ShortList 2) q in
+    (r .0, (c .before .before .before .before .before .before .before .before .clear .ensures ∙ r .1, r .2 _))
 
 same-length-5 : tie.Need-same-length-5
 same-length-5 c = search needs
@@ -74,8 +75,8 @@ returns-3 c = let a = c .before .before .before .before .before .before .before 
     let roomy : nodeNeed ≤ a .node-room = omega (arith, c .before .if2 .left) in
     let short : w < workNeed = omega (arith, c .if3 .taken) in
     let q = work-short s (a .node-room) w (a .text .now) long roomy short in
-    let r = refused-all s w (check (checkLists s (a .node-room) w) (a .text .now)) (ShortList 3) q in
-    (r .0, (c .before .before .before .before .before .before .before .before .before .clear .ensures ∙ r .1, c .before .before .before .before .before .clear-work .ensures ∙ r .2))
+    let r = refused-all s (check (checkLists s (a .node-room) w) (a .text .now)) (ShortList 3) q in
+    (r .0, (c .before .before .before .before .before .before .before .before .before .clear .ensures ∙ r .1, r .2 _))
 
 same-length-7 : tie.Need-same-length-7
 same-length-7 c = search needs
@@ -95,8 +96,8 @@ returns-4 c = let a = c .before .before .before .before .before .before .before 
     let long-too : workNeed ≤ w = omega (arith, c .before .if3 .left) in
     let over : textMost < length (a .text .now) = omega (arith, c .if4 .taken) in
     let q = lists-long s (a .node-room) w (a .text .now) long roomy long-too ∙ text-long judgeTree (a .text .now) over in
-    let r = refused-all s w (check (checkLists s (a .node-room) w) (a .text .now)) LongText q in
-    (r .0, (c .before .before .before .before .before .before .before .before .before .before .clear .ensures ∙ r .1, c .before .before .before .before .before .before .clear-work .ensures ∙ r .2))
+    let r = refused-all s (check (checkLists s (a .node-room) w) (a .text .now)) LongText q in
+    (r .0, (c .before .before .before .before .before .before .before .before .before .before .clear .ensures ∙ r .1, r .2 _))
 
 judge-lent-requires : tie.Need-judge-lent-requires
 unfolding stateNeed wordCount workNeed textMost
@@ -130,7 +131,7 @@ returns-5 c = let a = c .before .before .before .before .before .before .before 
     let long-too : workNeed ≤ w = omega (arith, c .before .before .before .before .before .before .before .before .if3 .left) in
     let same = lists-long s (a .node-room) w (a .text .now) long roomy long-too in (
       z .ensures .0 ∙ ap answerOf (sym same),
-      (z .ensures .1 .0 ∙ (λ j. statesAfter (kept j) (sym same j)), z .ensures .1 .1 ∙ (λ j. recordsAfter (kept-too j) (sym same j))),
+      (z .ensures .1 .0 ∙ (λ j. statesAfter (kept j) (sym same j)), subst (λ (f : Found Tree). RecordsHeld f (z .last .1 .1 .0)) (sym same) (z .ensures .1 .1)),
     )
 
 pub judge-spec : {M : Type 1} → statement M

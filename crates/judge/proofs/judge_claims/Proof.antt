@@ -1,4 +1,4 @@
--- `judge_claims`: every position is claimed, and the constraints follow; or one is not, and both lists are cleared. Assumes nothing.
+-- `judge_claims`: every position is claimed, and the constraints follow; or one is not, and the state list is cleared. Assumes nothing.
 use Prim.Native.Nat.{ℕ, _≤_}
 use Rattle.judge.proofs.Phases.{refused-all, open-sound, claims-all, claims-lack}
 use Rattle.judge.proofs.Verdicts.{claims-refused}
@@ -50,16 +50,16 @@ same-length-4 : tie.Need-same-length-4
 same-length-4 c = search needs
 
 returns-2 : tie.Need-returns-2
-returns-2 c = let a = c .before .before .before .before .before .before .before .before .before .before .before .before .before .before .before .before .args in
-    let b = c .before .before .before .before .before .before .before .before .before .before .least-unclaimed in
-    let p = c .before .before .before .before .before .before .before .before .before .before .before .before .before .before .before .before .pre in
-    let x = c .before .before .before .before .before .before .before .before .position .given in
-    let z = c .before .before .before .before .refuse in
+returns-2 c = let a = c .before .before .before .before .before .before .before .before .before .before .before .before .before .args in
+    let b = c .before .before .before .before .before .before .before .least-unclaimed in
+    let p = c .before .before .before .before .before .before .before .before .before .before .before .before .before .pre in
+    let x = c .before .before .before .before .before .position .given in
+    let z = c .before .before .refuse in
     let k = caseOf (a .text .now) in
     let lacks = claims-lack (a .text .now) (a .o) (a .states .now) (a .work .now) p (b .result) (b .ensures) (x .0 .0) (x .1) in
     let q = claims-refused k (p .tree) (p .past) (p .left) (p .claimed) (p .walks) (x .0 .0) lacks in
-    let r = refused-all (length (a .states .now)) (length (a .work .now)) (judgeTree k) (Unclaimed (k .planLine) (x .0 .0)) q in
-    (z .ensures .0 ∙ ap (λ (n : ℕ). Unclaimed n (x .0 .0)) (p .opens .planned) ∙ r .0, (z .ensures .1 .0 ∙ r .1, z .ensures .1 .1 ∙ r .2))
+    let r = refused-all (length (a .states .now)) (judgeTree k) (Unclaimed (k .planLine) (x .0 .0)) q in
+    (z .ensures .0 ∙ ap (λ (n : ℕ). Unclaimed n (x .0 .0)) (p .opens .planned) ∙ r .0, (z .ensures .1 ∙ r .1, r .2 _))
 
 pub judge-claims-spec : {M : Type 1} → statement M
 judge-claims-spec =

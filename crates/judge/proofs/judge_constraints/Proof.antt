@@ -1,5 +1,4 @@
--- `judge_constraints`: every constraint holds and the records are written; or one does not, and both lists are cleared. Assumes nothing.
-use Prim.Native.Nat.{ℕ}
+-- `judge_constraints`: every constraint holds and the records are written; or one does not, and the state list is cleared. Assumes nothing.
 use Rattle.judge.proofs.Constrained.{constraints-ready, kept-not, records-ask, nodes-ask, records-done}
 use Rattle.judge.proofs.Phases.{refused-all}
 use Rattle.judge.proofs.judge_constraints.Statement.{statement}
@@ -7,8 +6,8 @@ use Rattle.judge.proofs.judge_constraints.Tie as tie
 use Rattle.reading.specs.TheCase.{caseOf}
 use Rattle.rules.specs.Verdict.{judgeTree}
 use borrow.Author.Needs.{needs}
-use lib.ListN.{length, replicate}
-use mathlib.Core.Path.{_≡_, ap, _∙_}
+use lib.ListN.{length}
+use mathlib.Core.Path.{_∙_}
 
 first-broken-requires : tie.Need-first-broken-requires
 first-broken-requires c κs = let a = c .before .before .before .before .before .before .before .args in
@@ -53,15 +52,14 @@ same-length-4 : tie.Need-same-length-4
 same-length-4 c = search needs
 
 returns-2 : tie.Need-returns-2
-returns-2 c = let a = c .before .before .before .before .before .before .before .before .before .before .before .before .before .before .before .before .before .before .before .before .args in
-    let b = c .before .before .before .before .before .before .before .before .before .before .before .before .first-broken in
-    let p = c .before .before .before .before .before .before .before .before .before .before .before .before .before .before .before .before .before .before .before .before .pre in
-    let x = c .before .before .before .before .before .before .before .before .kept .given in
-    let z = c .before .before .before .before .refuse in
-    let kept : length (b .last .1 .1 .1 .1 .1 .0) ≡ length (a .work .now) = b .kept .1 .1 .1 .1 .1 .0 in
+returns-2 c = let a = c .before .before .before .before .before .before .before .before .before .before .before .before .before .before .before .before .before .args in
+    let b = c .before .before .before .before .before .before .before .before .before .first-broken in
+    let p = c .before .before .before .before .before .before .before .before .before .before .before .before .before .before .before .before .before .pre in
+    let x = c .before .before .before .before .before .kept .given in
+    let z = c .before .before .refuse in
     let q = kept-not (a .text .now) (a .o) (a .states .now) (a .work .now) p (b .result) (b .ensures .0) (x .0 .0) (x .1) in
-    let r = refused-all (length (a .states .now)) (length (a .work .now)) (judgeTree (caseOf (a .text .now))) (x .0 .0) q in
-    (z .ensures .0 ∙ r .0, (z .ensures .1 .0 ∙ r .1, z .ensures .1 .1 ∙ ap (λ (n : ℕ). replicate n 0) kept ∙ r .2))
+    let r = refused-all (length (a .states .now)) (judgeTree (caseOf (a .text .now))) (x .0 .0) q in
+    (z .ensures .0 ∙ r .0, (z .ensures .1 ∙ r .1, r .2 _))
 
 pub judge-constraints-spec : {M : Type 1} → statement M
 judge-constraints-spec =

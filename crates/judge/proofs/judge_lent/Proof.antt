@@ -1,17 +1,16 @@
--- `judge_lent`: the text reads as its case, and the run follows; or it is refused, and both lists are cleared. Assumes nothing.
-use Prim.Native.Nat.{ℕ}
+-- `judge_lent`: the text reads as its case, and the run follows; or it is refused, and the state list is cleared. Assumes nothing.
 use Rattle.judge.proofs.Phases.{refused-all, read-opens, read-refuses, unused-front, front-size}
 use Rattle.judge.proofs.Verdicts.{text-refused, text-reads}
 use Rattle.judge.proofs.judge_lent.Statement.{statement}
 use Rattle.judge.proofs.judge_lent.Tie as tie
 use Rattle.reading.specs.Directory.{directorySize}
-use Rattle.records.specs.Records.{recordsAfter}
+use Rattle.records.specs.Records.{RecordsHeld}
 use Rattle.reading.specs.TheCase.{caseOf}
 use Rattle.rules.specs.Tree.{Tree}
 use Rattle.rules.specs.Verdict.{answerOf, statesAfter, textMost, workNeed, judgeText, judgeTree, Found}
 use borrow.Author.Needs.{needs}
-use lib.ListN.{length, take, drop, replicate, length-take}
-use mathlib.Core.Path.{_≡_, ap, sym, _∙_}
+use lib.ListN.{length, take, drop, length-take}
+use mathlib.Core.Path.{_≡_, ap, sym, subst, _∙_}
 use native.Mathlib.Omega.{arith}
 
 slice-relend-prefix-read-case : tie.Need-slice-relend-prefix-read-case
@@ -79,7 +78,7 @@ returns c = let a = c .before .before .before .before .before .before .before .b
     (x .0 .1 .1 .1 .1 .0) (x .1) (p .short) whole (omega arith) in
     let same = text-reads judgeTree (a .text .now) (caseOf (a .text .now)) (o .line) (o .place) (p .short) (o .reads) in (
       z .ensures .0 ∙ ap answerOf (sym same),
-      (z .ensures .1 .0 ∙ ap (λ (f : Found Tree). statesAfter (length (a .states .now)) f) (sym same), z .ensures .1 .1 ∙ (λ j. recordsAfter (size j) (sym same j))),
+      (z .ensures .1 .0 ∙ ap (λ (f : Found Tree). statesAfter (length (a .states .now)) f) (sym same), subst (λ (f : Found Tree). RecordsHeld f (z .last .1 .1 .1 .1 .0)) (sym same) (z .ensures .1 .1)),
     )
 
 same-length-3 : tie.Need-same-length-3
@@ -89,20 +88,15 @@ same-length-4 : tie.Need-same-length-4
 same-length-4 c = search needs
 
 returns-2 : tie.Need-returns-2
-unfolding workNeed
-returns-2 c = let a = c .before .before .before .before .before .before .before .before .before .before .before .before .before .before .before .before .before .args in
-    let p = c .before .before .before .before .before .before .before .before .before .before .before .before .before .before .before .before .before .pre in
-    let x = c .before .before .before .before .before .before .before .before .answer .given in
-    let b = c .before .before .before .before .before .before .before .before .before .before .before .before .read-case in
-    let z = c .before .before .before .before .refuse in
+returns-2 c = let a = c .before .before .before .before .before .before .before .before .before .before .before .before .before .before .args in
+    let p = c .before .before .before .before .before .before .before .before .before .before .before .before .before .before .pre in
+    let x = c .before .before .before .before .before .answer .given in
+    let b = c .before .before .before .before .before .before .before .before .before .read-case in
+    let z = c .before .before .refuse in
     let d = b .last .1 .0 in
-    let room = p .workRoom in
-    let kept : length d ≡ length (take 3072 (a .work .now)) = b .kept .1 .0 in
-    let whole : length d ≡ 3072 = omega (arith, length-take 3072 (a .work .now)) in
-    let size = front-size d (a .work .now) whole (omega arith) in
     let q = text-refused judgeTree (a .text .now) (x .0 .0) (p .short) (read-refuses (a .text .now) d (drop 3072 (a .work .now)) (b .result) (b .ensures) (x .0 .0) (x .1)) in
-    let r = refused-all (length (a .states .now)) (length (a .work .now)) (judgeText judgeTree (a .text .now)) (x .0 .0) q in
-    (z .ensures .0 ∙ r .0, (z .ensures .1 .0 ∙ r .1, z .ensures .1 .1 ∙ ap (λ (n : ℕ). replicate n 0) size ∙ r .2))
+    let r = refused-all (length (a .states .now)) (judgeText judgeTree (a .text .now)) (x .0 .0) q in
+    (z .ensures .0 ∙ r .0, (z .ensures .1 ∙ r .1, r .2 _))
 
 pub judge-lent-spec : {M : Type 1} → statement M
 judge-lent-spec =

@@ -1,15 +1,13 @@
--- `judge_nodes`: the walk finds the tree, and the claims follow; or it refuses, and both lists are cleared. Assumes nothing.
-use Prim.Native.Nat.{ℕ}
+-- `judge_nodes`: the walk finds the tree, and the claims follow; or it refuses, and the state list is cleared. Assumes nothing.
 use Rattle.judge.proofs.Phases.{refused-all, plan-stored, walk-ready, walk-refuses, walk-finds}
 use Rattle.judge.proofs.Verdicts.{tree-refused}
 use Rattle.judge.proofs.judge_nodes.Statement.{statement}
 use Rattle.judge.proofs.judge_nodes.Tie as tie
-use Rattle.records.specs.Records.{recordsAfter}
 use Rattle.reading.specs.TheCase.{caseOf}
 use Rattle.rules.specs.Verdict.{judgeTree}
 use borrow.Author.Needs.{needs}
-use lib.ListN.{length, replicate}
-use mathlib.Core.Path.{_≡_, ap, _∙_}
+use lib.ListN.{length}
+use mathlib.Core.Path.{_∙_}
 
 store-plan-requires : tie.Need-store-plan-requires
 store-plan-requires c κs = let a = c .before .before .before .before .before .before .before .args in
@@ -44,10 +42,7 @@ same-length-2 : tie.Need-same-length-2
 same-length-2 c = search needs
 
 returns : tie.Need-returns
-returns c = let a = c .before .before .before .before .before .before .before .before .before .before .before .before .before .before .before .before .before .before .before .before .before .before .before .args in
-    let z = c .before .before .before .before .judge-claims in
-    let kept : length (c .before .before .before .before .before .before .before .before .before .before .before .walk-tree .last .1 .1 .1 .1 .0) ≡ length (a .work .now) = c .before .before .before .before .before .before .before .before .before .before .before .walk-tree .kept .1 .1 .1 .1 .0 ∙ c .before .before .before .before .before .before .before .before .before .before .before .before .before .before .before .store-plan .kept .1 .1 .1 .0 in
-    (z .ensures .0, (z .ensures .1 .0, z .ensures .1 .1 ∙ ap (λ (n : ℕ). recordsAfter n (judgeTree (caseOf (a .text .now)))) kept))
+returns c = c .before .before .before .before .judge-claims .ensures
 
 same-length-3 : tie.Need-same-length-3
 same-length-3 c = search needs
@@ -56,18 +51,17 @@ same-length-4 : tie.Need-same-length-4
 same-length-4 c = search needs
 
 returns-2 : tie.Need-returns-2
-returns-2 c = let a = c .before .before .before .before .before .before .before .before .before .before .before .before .before .before .before .before .before .before .before .before .before .before .before .before .args in
-    let p = c .before .before .before .before .before .before .before .before .before .before .before .before .before .before .before .before .before .before .before .before .before .before .before .before .pre in
-    let b = c .before .before .before .before .before .before .before .before .before .before .before .before .walk-tree in
-    let x = c .before .before .before .before .before .before .before .before .answer .given in
-    let z = c .before .before .before .before .refuse in
+returns-2 c = let a = c .before .before .before .before .before .before .before .before .before .before .before .before .before .before .before .before .before .before .before .before .before .args in
+    let p = c .before .before .before .before .before .before .before .before .before .before .before .before .before .before .before .before .before .before .before .before .before .pre in
+    let b = c .before .before .before .before .before .before .before .before .before .walk-tree in
+    let x = c .before .before .before .before .before .answer .given in
+    let z = c .before .before .refuse in
     let k = caseOf (a .text .now) in
-    let kept : length (b .last .1 .1 .1 .1 .0) ≡ length (a .work .now) = b .kept .1 .1 .1 .1 .0 ∙ c .before .before .before .before .before .before .before .before .before .before .before .before .before .before .before .before .store-plan .kept .1 .1 .1 .0 in
-    let refuses = walk-refuses (a .text .now) (a .o) (p .initial) (a .work .now) (p .opens) (c .before .before .before .before .before .before .before .before .before .before .before .before .before .before .before .before .store-plan .last .1 .1 .1 .0) (c .before .before .before .before .before .before .before .before .before .before .before .before .before .before .before .before .store-plan .ensures) (p .unused)
+    let refuses = walk-refuses (a .text .now) (a .o) (p .initial) (a .work .now) (p .opens) (c .before .before .before .before .before .before .before .before .before .before .before .before .before .store-plan .last .1 .1 .1 .0) (c .before .before .before .before .before .before .before .before .before .before .before .before .before .store-plan .ensures) (p .unused)
     (b .result) (b .last .1 .1 .1 .1 .0) (b .ensures) (x .0 .0) (x .1) in
     let q = tree-refused k (x .0 .0) refuses in
-    let r = refused-all (length (a .states .now)) (length (a .work .now)) (judgeTree k) (x .0 .0) q in
-    (z .ensures .0 ∙ r .0, (z .ensures .1 .0 ∙ r .1, z .ensures .1 .1 ∙ ap (λ (n : ℕ). replicate n 0) kept ∙ r .2))
+    let r = refused-all (length (a .states .now)) (judgeTree k) (x .0 .0) q in
+    (z .ensures .0 ∙ r .0, (z .ensures .1 ∙ r .1, r .2 _))
 
 pub judge-nodes-spec : {M : Type 1} → statement M
 judge-nodes-spec =

@@ -1,8 +1,19 @@
 -- `letter_code`: each arm of the match is a clause. Assumes nothing.
-use Rattle.records.proofs.Codes.{code-leaf}
+use Prim.Native.Nat.{ℕ}
 use Rattle.records.proofs.letter_code.Statement.{statement}
 use Rattle.records.proofs.letter_code.Tie as tie
 use Rattle.records.specs.Records.{letterCode}
+use borrow.Author.Tests.{ne-eqb}
+use lib.Dec.{eqb}
+use mathlib.Core.Bool.{Bool, true, false}
+use mathlib.Core.Path.{_≡_, sym, ap, _∙_}
+
+-- A letter that is neither D nor E is a leaf's.
+code-leaf : (l : ℕ) → (l ≡ 68 → ⊥) → (l ≡ 69 → ⊥) → 3 ≡ letterCode l
+unfolding letterCode
+code-leaf l d e =
+    sym (ap (λ (b : Bool). elim b as (λ x. ℕ) [ true ↦ 1 | false ↦ elim (eqb l 69) [ true ↦ 2 | false ↦ 3 ] ]) (ne-eqb l 68 d)
+    ∙ ap (λ (b : Bool). elim b as (λ x. ℕ) [ true ↦ 2 | false ↦ 3 ]) (ne-eqb l 69 e))
 
 returns : tie.Need-returns
 unfolding letterCode

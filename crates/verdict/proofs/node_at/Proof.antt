@@ -1,82 +1,34 @@
--- `verdict::node_at` meets its contract: the test says that the row lies inside the list, so that each of its five numbers is read where it stands. Assumes nothing.
+-- `node_at`: each field is number i of its column. Assumes nothing.
 use borrow.Author.Needs.{needs}
-use borrow.Author.Tests.{lt-ltb, le-ltb}
-use Rattle.rules.specs.Verdict.{noNode}
-use Rattle.verdict.specs.Rows.{nodeFrom}
+use Rattle.records.specs.Records.{recordAt}
 use Rattle.verdict.proofs.node_at.Statement.{statement}
 use Rattle.verdict.proofs.node_at.Tie as tie
 
-mul-at : tie.Need-mul-at
-mul-at c = search needs
+number-requires : tie.Need-number-requires
+number-requires c κs = search needs
 
-mul-t7 : tie.Need-mul-t7
-mul-t7 c = search needs
+number-requires-2 : tie.Need-number-requires-2
+number-requires-2 c κs = search needs
 
-shared-slice-read-t9 : tie.Need-shared-slice-read-t9
-shared-slice-read-t9 c = search needs
+number-requires-3 : tie.Need-number-requires-3
+number-requires-3 c κs = search needs
 
-add-t10 : tie.Need-add-t10
-add-t10 c = search needs
+number-requires-4 : tie.Need-number-requires-4
+number-requires-4 c κs = search needs
 
-mul-t11 : tie.Need-mul-t11
-mul-t11 c = search needs
-
-shared-slice-read-t13 : tie.Need-shared-slice-read-t13
-shared-slice-read-t13 c = search needs
-
-add-t14 : tie.Need-add-t14
-add-t14 c = search needs
-
-mul-t15 : tie.Need-mul-t15
-mul-t15 c = search needs
-
-shared-slice-read-t17 : tie.Need-shared-slice-read-t17
-shared-slice-read-t17 c = search needs
-
-add-t18 : tie.Need-add-t18
-add-t18 c = search needs
-
-mul-t19 : tie.Need-mul-t19
-mul-t19 c = search needs
-
-shared-slice-read-t21 : tie.Need-shared-slice-read-t21
-shared-slice-read-t21 c = search needs
-
-add-t22 : tie.Need-add-t22
-add-t22 c = search needs
-
-mul-t23 : tie.Need-mul-t23
-mul-t23 c = search needs
-
-shared-slice-read-t25 : tie.Need-shared-slice-read-t25
-shared-slice-read-t25 c = search needs
+number-requires-5 : tie.Need-number-requires-5
+number-requires-5 c κs = search needs
 
 returns : tie.Need-returns
-unfolding nodeFrom
-returns c = simp (lt-ltb _ _ (c .before .before .before .before .before .if1 .taken))
-
-returns-2 : tie.Need-returns-2
-unfolding nodeFrom noNode
-returns-2 c = simp (le-ltb _ _ (c .if1 .left))
+unfolding recordAt
+returns c =
+    λ z. record {
+      letter = c .before .before .before .before .number .ensures z;
+      label = c .before .before .before .number2 .ensures z;
+      place = c .before .before .number3 .ensures z;
+      start = c .before .number4 .ensures z;
+      end = c .number5 .ensures z;
+    }
 
 pub node-at-spec : {M : Type 1} → statement M
-node-at-spec =
-    tie.close
-    (tie.spec
-    mul-at
-    mul-t7
-    shared-slice-read-t9
-    add-t10
-    mul-t11
-    shared-slice-read-t13
-    add-t14
-    mul-t15
-    shared-slice-read-t17
-    add-t18
-    mul-t19
-    shared-slice-read-t21
-    add-t22
-    mul-t23
-    shared-slice-read-t25
-    returns
-    returns-2)
+node-at-spec = tie.close (tie.spec number-requires number-requires-2 number-requires-3 number-requires-4 number-requires-5 returns)
