@@ -5,7 +5,11 @@ use records::LETTERS;
 use records::PLACES;
 use records::STARTS;
 use rules::Answer;
+use rules::NODES;
 use rules::Node;
+use rules::STATES;
+use rules::WORK;
+use state::WORDS;
 ghost use mathlib.Core.Path.{_≡_};
 ghost use Prim.Native.Nat.{_+_};
 ghost use lib.ListN.{length, getD};
@@ -98,14 +102,14 @@ pub fn check_text(text: &[u8]) -> Answer
     ensures demand2 { λ r. ⌜ Demand2 (checkLists 4004 3000 16384) (now (text .entry)) r ⌝ }
     ensures demand3 { λ r. ⌜ Demand3 (checkLists 4004 3000 16384) (now (text .entry)) r ⌝ }
 {
-    let mut states = [0u64; 4004];
+    let mut states = [0u64; STATES * WORDS];
     let mut nodes = [Node {
         letter: 0,
         label: 0,
         place: 0,
         start: 0,
         end: 0,
-    }; 3000];
-    let mut work = [0u32; 16384];
+    }; NODES];
+    let mut work = [0u32; WORK];
     check(text, &mut states, &mut nodes, &mut work)
 }
