@@ -1,33 +1,45 @@
 -- From the claims to the constraints, and from there to the answer and the records. Assumes nothing.
 use mathlib.Core.Path.{_≡_, refl, sym, ap, subst, _∙_}
-use mathlib.Core.List.{List, map}
+use mathlib.Core.List.{List, [], _∷_, map}
 use mathlib.Core.Option.{Option, none, some}
-use Prim.Native.Nat.{ℕ, _+_, _-_, _*_, _≤_}
+use Prim.Native.Nat.{ℕ, suc, _+_, _≤_, _<_}
 use native.Mathlib.Omega.{arith}
-use lib.ListN.{length, take}
+use lib.ListN.{length, getD}
 use Rattle.rules.specs.declared.Header.{Header}
 use Rattle.rules.specs.declared.Answer.{Answer}
 use Rattle.rules.specs.declared.Answer.the-variants.{Accepted}
-use Rattle.rules.specs.Tree.{Tree, preorder, rootLine, mayClaim}
+use Rattle.rules.specs.Tree.{Tree, leaf, preorder, rootLine, span}
 use Rattle.rules.specs.Constraint.{holdsIn, firstBroken}
-use Rattle.rules.specs.Verdict.{Found, right, wrong, workNeed, statesOf, answerOf, statesAfter, judgeTree}
-use Rattle.rules.proofs.Judgement.Walk.{walk-shows}
+use Rattle.rules.specs.Index.{Span}
+use Rattle.rules.specs.Verdict.{Found, right, wrong, workNeed, statesOf, answerOf, statesAfter, judgeTree, nodeRecord}
 use Rattle.reading.specs.TheCase.{caseOf}
 use Rattle.tree.specs.Layout as Lay
-use Rattle.tree.specs.Layout.{size, rows, rowsIn, rowsPast}
+use Rattle.parts.specs.Spans.{rowSpan}
 use Rattle.constraints.specs.Ready.{Ready, Leaves, brokenOfTree}
 use Rattle.constraints.specs.Ready as Con
 use Rattle.constraints.specs.Methods.{keptAs}
 use Rattle.constraints.specs.declared.method.Kept.{Kept}
 use Rattle.constraints.specs.declared.method.Kept.the-variants.{All, Broken}
-use Rattle.records.specs.Records.{recordAt, upTo, recordOf, RecordsHeld, rowSpan, recordsOf}
+use Rattle.constraints.proofs.Held.{preorder-length, root-row}
+use Rattle.constraints.proofs.Nodes.{tree-is, ready-leaves, node-held}
+use Rattle.records.specs.Records.{recordAt, upTo, recordOf, RecordsHeld, recordsOf}
 use Rattle.records.specs.Reading.{NodesRead, nodeLines}
-use Rattle.records.proofs.Trees.{records-are}
 use Rattle.judge.specs.declared.Opened.{Opened}
 use Rattle.judge.specs.Phases as P
 use Rattle.judge.proofs.Phases.{open-sound}
 use Rattle.judge.proofs.Verdicts.{constraints-refused, tree-right}
 use Rattle.judge.proofs.NodeLines.{nodes-read, lines-are}
+
+-- The records of node lines, each with the span of its tree.
+records-of : (xs : List Tree) (f : ℕ → Span) (i : ℕ) → ((j : ℕ) → j < length xs → f (i + j) ≡ span (getD xs j (leaf 0 0)))
+    → recordsOf f i (map rootLine xs) ≡ map recordOf xs
+unfolding recordOf
+records-of [] f i h = refl
+records-of (x ∷ xs) f i h =
+    let same : i ≡ i + 0 = omega arith in
+    let here : f i ≡ span x = ap f same ∙ h 0 (omega arith) in
+    λ z. nodeRecord (rootLine x) (here z)
+    ∷ records-of xs f (i + 1) (λ j l. let next : i + 1 + j ≡ i + suc j = omega arith in ap f next ∙ h (suc j) (omega arith)) z
 
 module _ (text : List ℕ) (o : Opened) (states work : List ℕ) (x : P.Claimed text o states work) where
   w : P.Walked text o states work
@@ -105,21 +117,24 @@ module _ (text : List ℕ) (o : Opened) (states work : List ℕ) (x : P.Claimed 
           → upTo (recordAt u) (o .header .nodes) ≡ recordsOf (rowSpan v) 0 (nodeLines text (o .header) (o .nodes .at))
           → (Accepted (o .header .cues) (o .header .nodes) ≡ answerOf (judgeTree (caseOf text)))
           × (states ≡ statesAfter (length states) (judgeTree (caseOf text))) × RecordsHeld (judgeTree (caseOf text)) u
-      unfolding statesAfter workNeed RecordsHeld rowsPast w
+      unfolding statesAfter RecordsHeld Con.nodeOfTree w
       records-done e u written =
           let k = caseOf text in
+          let t = Con.treeIn text in
+          let ready = ready-leaves (constraints-ready .0) v leaves in
           let accepts = kept-all e in
           let f = w .opens .finds in
-          let room = w .opens .workRoom in
-          let same = leaves .same-size in
-          let rowed : take (3 * size (w .tree)) (rowsIn v) ≡ rows (w .tree) 0 = ap (take (3 * size (w .tree))) (leaves .rows) ∙ w .rowed in
-          let lines : nodeLines text (k .head) (o .nodes .at) ≡ map rootLine (preorder (w .tree)) =
-          lines-are text k (o .nodes .at) (f .nodeLines) (f .nodesRead .0) (f .nodesRead .1) (f .nodesRead .2) (f .nodesAre)
-          ∙ sym (walk-shows k (mayClaim (k .plan)) (w .tree) (w .past) (w .left) (w .claimed) (w .walks) .1 .preordered) in
-          let held : upTo (recordAt u) (k .head .nodes) ≡ map recordOf (preorder (w .tree)) =
+          let lines : nodeLines text (k .head) (o .nodes .at) ≡ map rootLine (preorder t) =
+          lines-are text k (o .nodes .at) (f .nodeLines) (f .nodesRead .0) (f .nodesRead .1) (f .nodesRead .2) (f .nodesAre) ∙ sym (tree-is ready .preordered) in
+          let records : recordsOf (rowSpan v) 0 (map rootLine (preorder t)) ≡ map recordOf (preorder t) =
+          records-of (preorder t) (rowSpan v) 0
+          (λ j l.
+          let many = preorder-length t in
+          let here : 0 + j ≡ j = omega arith in ap (rowSpan v) here ∙ root-row v (Con.nodeOfTree t j) j (node-held ready j (omega arith)) .spanned) in
+          let held : upTo (recordAt u) (k .head .nodes) ≡ map recordOf (preorder t) =
           subst (λ (h : Header). upTo (recordAt u) (h .nodes) ≡ recordsOf (rowSpan v) 0 (nodeLines text h (o .nodes .at))) (w .opens .head) written
-          ∙ ap (recordsOf (rowSpan v) 0) lines ∙ records-are v (w .tree) (omega arith) rowed in (
+          ∙ ap (recordsOf (rowSpan v) 0) lines ∙ records in (
             ap (λ (h : Header). Accepted (h .cues) (h .nodes)) (w .opens .head) ∙ sym (ap answerOf accepts),
             w .run .statesHeld ∙ sym (ap (λ (y : Found Tree). statesAfter (length states) y) accepts),
-            subst (λ (y : Found Tree). RecordsHeld y u) (sym accepts) held,
+            subst (λ (y : Found Tree). RecordsHeld y u) (sym accepts) (held ∙ ap (λ (y : Tree). map recordOf (preorder y)) con-tree),
           )

@@ -10,7 +10,8 @@ use lib.Seq.{getD-set-same, getD-set-other}
 use Rattle.rules.specs.declared.Node.{Node}
 use Rattle.rules.specs.Index.{Span}
 use Rattle.tree.specs.Layout.{rowsFrom}
-use Rattle.records.specs.Records.{startsFrom, endsFrom, lettersFrom, labelsFrom, placesFrom, recordAt, upTo, rowSpan, columnSpan}
+use Rattle.parts.specs.Spans.{rowSpan}
+use Rattle.records.specs.Records.{startsFrom, endsFrom, lettersFrom, labelsFrom, placesFrom, recordAt, upTo, columnSpan}
 
 pub upTo-same : {A : Type 0} (f g : ℕ → A) (n : ℕ) → ((j : ℕ) → j < n → f j ≡ g j) → upTo f n ≡ upTo g n
 upTo-same f g zero h = refl
@@ -88,7 +89,7 @@ module _ (w : List ℕ) (i a b : ℕ) where
 
 pub spans-on : (start w : List ℕ) (i : ℕ) → SpansOut start w i → i < 3000 → 16384 ≤ length start
     → SpansOut start (spanPut w i (getD w (rowsFrom + 3 * i) 0) (getD (set w (startsFrom + i) (getD w (rowsFrom + 3 * i) 0)) (rowsFrom + 3 * i + 1) 0)) (i + 1)
-unfolding rowsFrom
+unfolding rowsFrom rowSpan
 spans-on start w i s few room =
     let a = getD w (rowsFrom + 3 * i) 0 in
     let b = getD (set w (startsFrom + i) a) (rowsFrom + 3 * i + 1) 0 in

@@ -2,7 +2,7 @@
 use mathlib.Core.Path.{_≡_}
 use mathlib.Core.Bool.{true, false}
 use mathlib.Core.List.{List, [], _∷_, _++_, map}
-use Prim.Native.Nat.{ℕ, zero, suc, _+_, _*_}
+use Prim.Native.Nat.{ℕ, zero, suc, _+_}
 use lib.Dec.{eqb}
 use lib.ListN.{getD}
 use Rattle.rules.specs.declared.Node.{Node}
@@ -10,7 +10,6 @@ use Rattle.rules.specs.Index.{Span}
 use Rattle.rules.specs.Case.{NodeLine}
 use Rattle.rules.specs.Tree.{Tree, preorder, rootLine, span}
 use Rattle.rules.specs.Verdict.{Found, right, wrong, nodeRecord}
-use Rattle.tree.specs.Layout.{rowsFrom}
 
 -- Where each column starts: those of the spans below the walk's rows, the others over the rows.
 abbrev pub startsFrom : ℕ
@@ -58,10 +57,7 @@ RecordsHeld (wrong r) w = Unit {0}
 unfoldable pub letterCode : ℕ → ℕ
 letterCode l = elim (eqb l 68) [ true ↦ 1 | false ↦ elim (eqb l 69) [ true ↦ 2 | false ↦ 3 ] ]
 
--- The span of node i, as its row has it; and as the columns have it.
-abbrev pub rowSpan : List ℕ → ℕ → Span
-rowSpan w i = record { start = getD w (rowsFrom + 3 * i) 0; end = getD w (rowsFrom + 3 * i + 1) 0 }
-
+-- The span of node i, as the columns have it.
 abbrev pub columnSpan : List ℕ → ℕ → Span
 columnSpan w i = record { start = getD w (startsFrom + i) 0; end = getD w (endsFrom + i) 0 }
 

@@ -2,7 +2,8 @@
 ghost use mathlib.Core.Path.{_≡_};
 ghost use Prim.Native.Nat.{ℕ, _≤_, _<_};
 ghost use lib.ListN.{length};
-ghost use Rattle.records.specs.Records.{recordAt, upTo, letterCode, rowSpan, columnSpan, recordsOf};
+ghost use Rattle.parts.specs.Spans.{rowSpan};
+ghost use Rattle.records.specs.Records.{recordAt, upTo, letterCode, columnSpan, recordsOf};
 ghost use Rattle.records.specs.Reading.{NodesRead, nodeLines};
 use reading::read_again;
 use rules::Header;

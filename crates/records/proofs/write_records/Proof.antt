@@ -3,7 +3,8 @@ use Rattle.records.proofs.Turns.{records-agree, length-lines}
 use Rattle.records.proofs.write_records.Statement.{statement}
 use Rattle.records.proofs.write_records.Tie as tie
 use Rattle.records.specs.Reading.{nodeLines}
-use Rattle.records.specs.Records.{rowSpan, columnSpan}
+use Rattle.parts.specs.Spans.{rowSpan}
+use Rattle.records.specs.Records.{columnSpan}
 use borrow.Author.Needs.{needs}
 use mathlib.Core.Path.{_∙_}
 use native.Mathlib.Omega.{arith}
