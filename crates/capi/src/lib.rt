@@ -3,10 +3,10 @@ use rules::Answer;
 use rules::Node;
 use state::State;
 ghost use mathlib.Core.Path.{_≡_};
-ghost use lib.ListN.{length};
 ghost use Rattle.rules.specs.State.{step};
-ghost use Rattle.rules.specs.Verdict.{replay, replayLists, check, checkLists, answerOf, statesAfter, nodesAfter, workAfter, refusal, reported};
-ghost use Rattle.capi.specs.Replies.{replyOf, stepReply, ReplyDemand2, ReplyDemand3};
+ghost use Rattle.rules.specs.Verdict.{refusal, reported};
+ghost use Rattle.rules.specs.Demands.{borrowed, lentBy, Demand1, Demand2, Demand3, ReplayDemand1};
+ghost use Rattle.capi.specs.Replies.{reportOf, stepReply};
 
 // The answer's row of the table: number, line and item, 0 for acceptance; k and n of an acceptance, 0 for a refusal.
 #[repr(C)]
@@ -19,7 +19,7 @@ pub struct Reply {
 }
 
 fn refusal(number: u32, line: u32, item: u32) -> Reply
-    ensures { λ r. ⌜ r ≡ replyOf (refusal number line item) ⌝ }
+    ensures { λ r. ⌜ reportOf r ≡ refusal number line item ⌝ }
 {
     Reply {
         number: number,
@@ -32,7 +32,7 @@ fn refusal(number: u32, line: u32, item: u32) -> Reply
 
 // The paper's numbers for an answer.
 pub fn as_reply(answer: Answer) -> Reply
-    ensures { λ r. ⌜ r ≡ replyOf (reported answer) ⌝ }
+    ensures { λ r. ⌜ reportOf r ≡ reported answer ⌝ }
 {
     match answer {
         Answer::Accepted { cues, nodes } => Reply {
@@ -66,12 +66,9 @@ pub extern "C" fn cuecheck_check(
     nodes: &mut [Node],
     work: &mut [u32],
 ) -> Reply
-    ensures reply { λ r. ⌜ r ≡ replyOf (reported (answerOf (check (checkLists (length (now (states .entry))) (length (now (nodes .entry))) (length (now (work .entry)))) (now (text .entry))))) ⌝ }
-    ensures states { λ r. ⌜ now (states .exit) ≡ statesAfter (length (now (states .entry))) (check (checkLists (length (now (states .entry))) (length (now (nodes .entry))) (length (now (work .entry)))) (now (text .entry))) ⌝ }
-    ensures nodes { λ r. ⌜ now (nodes .exit) ≡ nodesAfter (length (now (nodes .entry))) (check (checkLists (length (now (states .entry))) (length (now (nodes .entry))) (length (now (work .entry)))) (now (text .entry))) ⌝ }
-    ensures work { λ r. ⌜ now (work .exit) ≡ workAfter (length (now (work .entry))) ⌝ }
-    ensures demand2 { λ r. ⌜ ReplyDemand2 (checkLists (length (now (states .entry))) (length (now (nodes .entry))) (length (now (work .entry)))) (now (text .entry)) r ⌝ }
-    ensures demand3 { λ r. ⌜ ReplyDemand3 (checkLists (length (now (states .entry))) (length (now (nodes .entry))) (length (now (work .entry)))) (now (text .entry)) r ⌝ }
+    ensures demand1 { λ r. ⌜ Demand1 (now (text .entry)) (borrowed (now (states .entry)) (now (nodes .entry)) (now (work .entry))) (reportOf r) (borrowed (now (states .exit)) (now (nodes .exit)) (now (work .exit))) ⌝ }
+    ensures demand2 { λ r. ⌜ Demand2 (now (text .entry)) (lentBy (borrowed (now (states .entry)) (now (nodes .entry)) (now (work .entry)))) (reportOf r) ⌝ }
+    ensures demand3 { λ r. ⌜ Demand3 (now (text .entry)) (lentBy (borrowed (now (states .entry)) (now (nodes .entry)) (now (work .entry)))) (reportOf r) ⌝ }
 {
     as_reply(verdict::check(text, states, nodes, work))
 }
@@ -79,9 +76,7 @@ pub extern "C" fn cuecheck_check(
 // The replay call.
 #[no_mangle]
 pub extern "C" fn cuecheck_replay(text: &[u8], states: &mut [u64], work: &mut [u32]) -> Reply
-    ensures reply { λ r. ⌜ r ≡ replyOf (reported (answerOf (replay (replayLists (length (now (states .entry))) (length (now (work .entry)))) (now (text .entry))))) ⌝ }
-    ensures states { λ r. ⌜ now (states .exit) ≡ statesAfter (length (now (states .entry))) (replay (replayLists (length (now (states .entry))) (length (now (work .entry)))) (now (text .entry))) ⌝ }
-    ensures work { λ r. ⌜ now (work .exit) ≡ workAfter (length (now (work .entry))) ⌝ }
+    ensures { λ r. ⌜ ReplayDemand1 (now (text .entry)) (now (states .entry)) (now (work .entry)) (reportOf r) (now (states .exit)) (now (work .exit)) ⌝ }
 {
     as_reply(replay::replay(text, states, work))
 }

@@ -13,10 +13,10 @@ use lib.Seq.{sets}
 use Rattle.rules.specs.declared.Header.{Header}
 use Rattle.rules.specs.Table as T
 use Rattle.rules.specs.Table.{readLine}
-use Rattle.rules.specs.Case.{Constraint, constraintOf}
+use Rattle.rules.specs.Case.{Constraint, asConstraint}
 use Rattle.reading.specs.declared.again.Again.{Again}
 use Rattle.reading.specs.Again.{AgainAt}
-use Rattle.parts.specs.Tests.{numbered}
+use Rattle.rules.specs.Case.{constraintOf}
 use Rattle.tree.specs.Layout.{marksFrom, rowsFrom}
 use Rattle.constraints.specs.Methods.{followTest, testsAt, thenRead, TestsRead}
 use Rattle.constraints.specs.Ready.{Leaves}
@@ -28,20 +28,20 @@ use Rattle.constraints.proofs.Stores.{sets-before, sets-at, leaves-all,
 -- The first of the constraints is that of the line read again here, and the others follow it.
 module _ (text : List ℕ) (h : Header) (s left place : ℕ) (a : Again) (again : AgainAt text place a) where
   abbrev Split : ℕ → Type 0
-  Split count = (testsAt text h s count place ≡ numbered (a .letter) (a .first) (a .second) (a .third) ∷ testsAt text h s left (a .next .at))
+  Split count = (testsAt text h s count place ≡ constraintOf (a .letter) (a .first) (a .second) (a .third) ∷ testsAt text h s left (a .next .at))
       × TestsRead text h s left (a .next .at)
 
   pub tests-next : (count : ℕ) → count ≡ suc left → TestsRead text h s count place → Split count
-  unfolding AgainAt numbered constraintOf
+  unfolding AgainAt asConstraint
   tests-next count q t =
       subst Split (sym q) (go (readLine text T.constraint h s place) refl (subst (λ (k : ℕ). TestsRead text h s k place) q t))
     where
       go : (y : T.LineRead) → readLine text T.constraint h s place ≡ y → thenRead y (λ next. TestsRead text h s left next)
-          → (followTest y (λ next. testsAt text h s left next) ≡ numbered (a .letter) (a .first) (a .second) (a .third) ∷ testsAt text h s left (a .next .at))
+          → (followTest y (λ next. testsAt text h s left next) ≡ constraintOf (a .letter) (a .first) (a .second) (a .third) ∷ testsAt text h s left (a .next .at))
           × TestsRead text h s left (a .next .at)
       go (T.line l vs next) e f =
           let same = again T.constraint refl h s l vs next e in (
-            ap (λ (x : Again). numbered (x .letter) (x .first) (x .second) (x .third) ∷ testsAt text h s left (x .next .at)) (sym same),
+            ap (λ (x : Again). constraintOf (x .letter) (x .first) (x .second) (x .third) ∷ testsAt text h s left (x .next .at)) (sym same),
             subst (λ (x : Again). TestsRead text h s left (x .next .at)) (sym same) f,
           )
       go (T.LineRead.unreadable field) e f = absurd f
@@ -58,7 +58,7 @@ module _ (a b : List ℕ) (past : ℕ) (same : (q : ℕ) → testsFrom ≤ q →
       let x = same (testsFrom + 4 * i + 1) (omega arith) (omega arith) in
       let y = same (testsFrom + 4 * i + 2) (omega arith) (omega arith) in
       let z = same (testsFrom + 4 * i + 3) (omega arith) (omega arith) in
-      λ j. numbered (l j) (x j) (y j) (z j)
+      λ j. constraintOf (l j) (x j) (y j) (z j)
 
   tests-from : (i n : ℕ) → i + n ≤ past → testsIn b i n ≡ testsIn a i n
   tests-from i zero h = refl
@@ -113,7 +113,7 @@ module _ {text : List ℕ} {h : Header} {s count : ℕ} {before work : List ℕ}
     left = count - (number + 1)
 
     abbrev testOf : Constraint
-    testOf = numbered (a .letter) (a .first) (a .second) (a .third)
+    testOf = constraintOf (a .letter) (a .first) (a .second) (a .third)
 
     abbrev words : List ℕ
     words = a .letter ∷ a .first ∷ a .second ∷ a .third ∷ []
@@ -139,7 +139,7 @@ module _ {text : List ℕ} {h : Header} {s count : ℕ} {before work : List ℕ}
         let x = at-word 1 (omega arith) in
         let y = at-word 2 (omega arith) in
         let z = at-word 3 (omega arith) in
-        λ j. numbered (at-first j) (x j) (y j) (z j)
+        λ j. constraintOf (at-first j) (x j) (y j) (z j)
 
     earlier : (q : ℕ) → testsFrom ≤ q → q < testsFrom + 4 * number → getD stored q 0 ≡ getD work q 0
     earlier q l b = sets-before work (testsFrom + 4 * number) words q b

@@ -9,10 +9,10 @@ use Prim.Native.Nat.{ℕ, _+_, _-_, _*_, _≤_, _<_}
 use native.Mathlib.Omega.{arith}
 use lib.ListN.{length, getD, take, drop, length-map, List·getD-append}
 use lib.Seq.{sets, getD-take, getD-drop}
-use Rattle.rules.specs.State.{wordCount}
+use Rattle.rules.specs.State.{State, wordCount, actionAt}
 use Rattle.rules.specs.Index.{Span}
 use Rattle.rules.specs.Table as T
-use Rattle.rules.specs.Case.{Method, methodAt, noMethod, NodeLine, Case, Read, oneMethod}
+use Rattle.rules.specs.Case.{Method, methodAt, noMethod, NodeLine, Case, Read, oneMethod, Valued, initialOf, actionOf}
 use Rattle.rules.specs.Tree.{Tree, leaf, empty, task, preorder, rootLine, span, subtaskSpans, mayClaim}
 use Rattle.rules.specs.Constraint.{holdsIn, constraintsOf}
 use Rattle.rules.specs.Verdict.{stateNeed, workNeed, statesOf}
@@ -25,7 +25,8 @@ use Rattle.tree.specs.Layout.{marksFrom, planFrom, rowsFrom, rowsPast, subtasks
 use Rattle.parts.specs.States.{inRow}
 use Rattle.parts.specs.Spans.{rowSpan, RowInside, siblings, nodesIn, spansIn}
 use Rattle.constraints.specs.Ready.{Ready, Leaves, namesMethod, Labels, nodeOfTree}
-use Rattle.parts.proofs.Stretches.{whole-set, states-hold, filled-size}
+use Rattle.rules.proofs.Worded.{set-worded}
+use Rattle.parts.proofs.Stretches.{states-hold, filled-size}
 use Rattle.constraints.proofs.Held.{Held, HeldAll, Holds, held, held-node, held-subtrees, root-row, rows-length, preorder-length, subtreesOf, subtrees-spans, countOf, siblings-spans, siblings-inside}
 use Rattle.constraints.proofs.Within.{Within, Proper, proper}
 use Rattle.constraints.proofs.Judging.{Placed}
@@ -38,12 +39,14 @@ module _ (before after : List ℕ) (l : Leaves before after) where
   same-place i h =
       sym (getD-take marksFrom after i 0 h) ∙ ap (λ (x : List ℕ). getD x i 0) (l .directory) ∙ getD-take marksFrom before i 0 h
 
-  line-leaves : (text : List ℕ) (k : Case) (due : T.Role) (i : ℕ) → i < marksFrom → LineIs text k due (getD before i 0) → LineIs text k due (getD after i 0)
-  line-leaves text k due i h w = record {
+  line-leaves : (text : List ℕ) (k : Case) (due : T.Role) {A : Type 0} (means : Valued → A) (x : A) (i : ℕ) → i < marksFrom
+      → LineIs text k due (getD before i 0) means x → LineIs text k due (getD after i 0) means x
+  line-leaves text k due means x i h w = record {
     letter = w .letter;
     values = w .values;
     next = w .next;
     reads = ap (λ (p : ℕ). T.readLine text due (k .head) 0 p) (same-place i h) ∙ w .reads;
+    meant = w .meant;
   }
 
   finds-leaves : (text : List ℕ) (k : Case) (initial plan nodes : ℕ) → GoodHeader (k .head) → Finds text k before initial plan nodes
@@ -54,31 +57,31 @@ module _ (before after : List ℕ) (l : Leaves before after) where
       let some = g .few-methods in
       record {
         initialLine = f .initialLine;
-        initialSet = f .initialSet;
-        actionLine = λ a h. line-leaves text k T.action a (omega arith) (f .actionLine a h);
-        actionSets = λ a h. f .actionSets a h;
+        actionLine = λ a h. line-leaves text k T.action actionOf (actionAt (k .actions) a) a (omega arith) (f .actionLine a h);
         methodLine = λ m h.
             let w = f .methodLine m h in
             (w .0, w .1, w .2, ap (λ (p : ℕ). oneMethodAt (w .0) p) (same-place (methodsFrom + m) (omega arith)) ∙ w .3);
         planLine = f .planLine;
-        planCues = f .planCues;
         nodeLines = f .nodeLines;
-        nodesRead = f .nodesRead;
-        nodesAre = f .nodesAre;
       }
     where
       oneMethodAt : ℕ → ℕ → Read Method
       oneMethodAt n p = oneMethod text (k .head) n p
+
+-- A state that an I line means has as many words as a state has.
+initial-whole : {text : List ℕ} {k : Case} {place : ℕ} {s : State} → LineIs text k T.initial place initialOf s → length s ≡ wordCount
+unfolding initialOf
+initial-whole w = ap length (sym (w .meant)) ∙ set-worded (w .values) 0
 
 -- ---- the whole tree
 
 module _ {k : Case} {t : Tree} {text : List ℕ} {planLine nodes : ℕ} {states work : List ℕ}
     (r : Ready k t text planLine nodes states work) where
   pub is-sound : Sound k
-  is-sound = sound text k (r .reads .0) (r .reads .1) (r .reads .2)
+  is-sound = sound text k (r .reads)
 
   pub tree-is : TreeOf k (mayClaim (k .plan)) t
-  tree-is = walk-shows k (mayClaim (k .plan)) t (r .walks .0) (r .walks .1) (r .walks .2) (r .walks .3) .1
+  tree-is = walk-shows k (mayClaim (k .plan)) t (r .walks .0) (r .walks .1) .0
 
   pub size-is : size t ≡ k .head .nodes
   size-is =
@@ -87,6 +90,7 @@ module _ {k : Case} {t : Tree} {text : List ℕ} {planLine nodes : ℕ} {states 
   pub ready-leaves : (after : List ℕ) → Leaves work after → Ready k t text planLine nodes states after
   ready-leaves after l = record {
     reads = r .reads;
+    short = r .short;
     plans = r .plans;
     initial = r .initial;
     plan = r .plan;
@@ -134,7 +138,7 @@ module _ {k : Case} {t : Tree} {text : List ℕ} {planLine nodes : ℕ} {states 
   pub states-agree : (p l : ℕ) → l ≤ k .head .cues → inRow states p l ≡ holdsIn (statesOf k) p l
   states-agree p l h =
       ap (λ (w : List ℕ). inRow w p l) (r .statesHeld)
-      ∙ states-hold k (r .stateSize) p l (ap length (sym (r .finds .initialSet)) ∙ whole-set (r .finds .initialLine .values) 0)
+      ∙ states-hold k (r .stateSize) p l (initial-whole (r .finds .initialLine))
       (let e = is-sound .plan-length in omega arith)
 
   pub states-long : wordCount * (k .head .cues + 1) ≤ length states

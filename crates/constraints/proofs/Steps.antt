@@ -13,7 +13,7 @@ use Rattle.rules.specs.declared.Header.{Header}
 use Rattle.rules.specs.declared.Answer.{Answer}
 use Rattle.rules.specs.Index.{Span, spanOfPart}
 use Rattle.rules.specs.Table as T
-use Rattle.rules.specs.Case.{Constraint, Method, methodAt, NodeLine, L, Case, oneLine, many}
+use Rattle.rules.specs.Case.{Constraint, Method, methodAt, NodeLine, L, Case, oneLine, many, asNode}
 use Rattle.rules.specs.Tree.{Tree, leaf, preorder, rootLine, span, subtaskSpans}
 use Rattle.rules.specs.Constraint.{holdsIn, constraintsOf, partsOf, firstBrokenOf, orElse, firstBroken}
 use Rattle.rules.specs.Verdict.{workNeed, statesOf}
@@ -252,12 +252,10 @@ module _ {k : Case} {t : Tree} {text : List ℕ} {header : Header} {planLine nod
         leaves = leaves-all start;
         most = omega arith;
         lines = record {
-          lines = r .finds .nodeLines;
           number = k .planLine + 1;
-          past = r .finds .nodesRead .0;
-          next = r .finds .nodesRead .1;
-          reads = ap (λ (c : ℕ). many (oneLine text (k .head) T.node 0) c (k .planLine + 1) nodes) (sym all) ∙ r .finds .nodesRead .2;
-          are = r .finds .nodesAre;
+          past = r .finds .nodeLines .0;
+          next = r .finds .nodeLines .1;
+          reads = ap (λ (c : ℕ). many (oneLine text (k .head) T.node 0 asNode) c (k .planLine + 1) nodes) (sym all) ∙ r .finds .nodeLines .2;
         };
         same = ap (λ (l : ℕ). firstBroken k (holdsIn (statesOf k)) l (preorder t)) first;
       }

@@ -2,21 +2,19 @@
 -- such spans. By recursion on the tree. Assumes nothing.
 use mathlib.Core.Path.{_≡_, refl, sym, ap, subst, _∙_}
 use mathlib.Core.Logic.{_≢_, ⊎-elim}
-use mathlib.Core.Bool.{true, not}
 use mathlib.Core.List.{List, [], _∷_, _++_, map, headD, tail}
 use mathlib.Core.List.{List·Memᴰ as Mem, List·Memᴰ·head as here, List·Memᴰ·append-cases as append-cases, Memᴰ·append-left as in-left, Memᴰ·append-right as in-right}
 use Prim.Native.Nat.{ℕ, zero, suc, _+_, _*_, _^_, _≤_, _<_}
 use native.Mathlib.Nat.{lt-of-lt-of-le}
 use native.Mathlib.Omega.{arith}
-use borrow.Author.Tests.{eqb-true, eqb-false, not-true}
 use lib.ListN.{length, getD}
 use lib.Pow.{pow-mono}
 use Rattle.rules.specs.Index.{Span, at, ofCue, ofGap, hull, partOf, spanOfPart, c, f, roundedUp, roundedDown}
 use Rattle.rules.specs.Case.{methodAt, D, E, Case}
-use Rattle.rules.specs.Tree.{Tree, leaf, empty, task, Trees, noTree, more, preorder, preorders, rootLine, span, spans, noSubtasks, isMethodOf, fits}
-use Rattle.rules.specs.Rules.{FitsTask, FitsTasks}
+use Rattle.rules.specs.Tree.{Tree, leaf, empty, task, Trees, noTree, more, preorder, preorders, rootLine, span, spans}
+use Rattle.rules.specs.Rules.{Fits, FitsTask, FitsTasks}
 use Rattle.rules.proofs.Spans.{hull-one, hull-cons-start, hull-cons-end}
-use Rattle.rules.proofs.Judgement.Each.{Each, each-nil, each-cons, each-tail, both-true}
+use Rattle.rules.proofs.Judgement.Each.{Each, each-nil, each-cons, each-tail}
 use Rattle.rules.proofs.Judgement.Sound.{GoodNode}
 use Rattle.subsets.specs.Members.{membersOf}
 use Rattle.subsets.proofs.Members.{pick-members, members-cons, members-below}
@@ -119,16 +117,17 @@ proper-span k (task m ts) p = p .0
 abbrev GoodRoot : Case → Tree → Type 0
 GoodRoot k t = GoodNode (k .head) (rootLine t)
 
-no-subtasks : (k : Case) (m g t : ℕ) → fits k (E m g) t ≡ true → length (methodAt (k .methods) m .subtasks) ≡ 0
-unfolding fits noSubtasks
-no-subtasks k m g t e =
-    eqb-true (length (methodAt (k .methods) m .subtasks)) 0 (both-true (isMethodOf k m t) (noSubtasks (methodAt (k .methods) m)) e .1)
+no-subtasks : (k : Case) (m g t : ℕ) → Fits k (E m g) t → length (methodAt (k .methods) m .subtasks) ≡ 0
+unfolding Fits
+no-subtasks k m g t f = ap length (f .1)
 
-some-subtasks : (k : Case) (m t : ℕ) → fits k (D m) t ≡ true → length (methodAt (k .methods) m .subtasks) ≢ 0
-unfolding fits noSubtasks
-some-subtasks k m t e =
-    eqb-false (length (methodAt (k .methods) m .subtasks)) 0
-    (not-true (noSubtasks (methodAt (k .methods) m)) (both-true (isMethodOf k m t) (not (noSubtasks (methodAt (k .methods) m))) e .1))
+some-subtasks : (k : Case) (m t : ℕ) → Fits k (D m) t → length (methodAt (k .methods) m .subtasks) ≢ 0
+unfolding Fits
+some-subtasks k m t f e = f .1 (none (methodAt (k .methods) m .subtasks) e)
+  where
+    none : (ts : List ℕ) → length ts ≡ 0 → ts ≡ []
+    none [] e = refl
+    none (t ∷ ts) e = absurd (omega arith)
 
 fits-count : (k : Case) (ts : Trees) (us : List ℕ) → FitsTasks k ts us → countOf ts ≡ length us
 unfolding FitsTask

@@ -4,7 +4,7 @@ use mathlib.Core.List.{List, [], _∷_}
 use Prim.Native.Nat.{ℕ, zero, suc, _+_, _*_, _<_, _≤_}
 use lib.ListN.{length, getD}
 use Rattle.rules.specs.Case.{Constraint, Case, methodAt}
-use Rattle.parts.specs.Tests.{numbered}
+use Rattle.rules.specs.Case.{constraintOf}
 use Rattle.constraints.specs.declared.method.Loaded.{Loaded}
 
 -- Four words for each: its letter and its numbers.
@@ -16,7 +16,7 @@ testsPast = 5360
 
 unfoldable pub testAt : List ℕ → ℕ → Constraint
 testAt work i =
-    numbered (getD work (testsFrom + 4 * i) 0) (getD work (testsFrom + 4 * i + 1) 0) (getD work (testsFrom + 4 * i + 2) 0) (getD work (testsFrom + 4 * i + 3) 0)
+    constraintOf (getD work (testsFrom + 4 * i) 0) (getD work (testsFrom + 4 * i + 1) 0) (getD work (testsFrom + 4 * i + 2) 0) (getD work (testsFrom + 4 * i + 3) 0)
 
 -- So many, from the i-th on.
 abbrev pub testsIn : List ℕ → ℕ → ℕ → List Constraint

@@ -6,7 +6,7 @@ use Rattle.rules.specs.declared.Header.{Header}
 use Rattle.rules.specs.declared.Answer.{Answer}
 use Rattle.rules.specs.Table as T
 use Rattle.rules.specs.Table.{LineRead, line, readLine}
-use Rattle.rules.specs.Case.{Constraint, constraintOf}
+use Rattle.rules.specs.Case.{Constraint, asConstraint}
 use Rattle.reading.specs.declared.again.MethodAgain.{MethodAgain}
 use Rattle.constraints.specs.declared.method.Kept.{Kept}
 use Rattle.constraints.specs.declared.method.Kept.the-variants.{All, Broken}
@@ -18,7 +18,7 @@ keptAs none = All
 keptAs (some answer) = Broken answer
 
 abbrev pub followTest : LineRead → (ℕ → List Constraint) → List Constraint
-followTest (line l vs next) rest = constraintOf (l, vs) ∷ rest next
+followTest (line l vs next) rest = asConstraint (l, vs) ∷ rest next
 followTest (LineRead.unreadable field) rest = []
 followTest (LineRead.outside field) rest = []
 

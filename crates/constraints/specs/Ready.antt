@@ -4,13 +4,15 @@ use mathlib.Core.Bool.{Bool, true, false, _||_}
 use mathlib.Core.List.{List, flatten}
 use mathlib.Core.Option.{Option}
 use Prim.Native.Nat.{ℕ, _+_, _*_, _≤_}
+use Prim.Native.Char.{code}
 use lib.Dec.{eqb}
 use lib.ListN.{length, getD, take}
 use Rattle.rules.specs.declared.Answer.{Answer}
-use Rattle.rules.specs.Case.{NodeLine, D, E, L, Case, read, readCase}
-use Rattle.rules.specs.Tree.{Tree, leaf, preorder, Walk, mayClaim, walkTree}
+use Rattle.rules.specs.Result.{found}
+use Rattle.rules.specs.Case.{NodeLine, D, E, L, Case, readCase}
+use Rattle.rules.specs.Tree.{Tree, leaf, preorder, mayClaim, walkTree}
 use Rattle.rules.specs.Constraint.{holdsIn, constraintsOf, partsOf, firstBrokenOf, firstBroken}
-use Rattle.rules.specs.Verdict.{stateNeed, workNeed, statesOf, filled}
+use Rattle.rules.specs.Verdict.{textMost, stateNeed, workNeed, statesOf, filled}
 use Rattle.reading.specs.Directory.{Finds}
 use Rattle.reading.specs.TheCase.{caseOf}
 use Rattle.tree.specs.Layout.{size, rows, directoryOf, rowsIn, treeOf}
@@ -21,13 +23,14 @@ treeIn text = treeOf (walkTree (caseOf text) (mayClaim (caseOf text .plan)))
 
 -- The text of a case, its directory of lines, its states and the rows of its tree, where they were left.
 pub record Ready (k : Case) (t : Tree) (text : List ℕ) (planLine nodes : ℕ) (states work : List ℕ) : Type 0 where
-  pub reads : (line place : ℕ) × (readCase text ≡ read k line place)
+  pub reads : readCase text ≡ found k
+  pub short : length text ≤ textMost
   pub plans : planLine ≡ k .planLine
   pub initial : ℕ
   pub plan : ℕ
   pub finds : Finds text k work initial plan nodes
   pub room : workNeed ≤ length work
-  pub walks : (line : ℕ) × (left : List NodeLine) × (claimed : List ℕ) × (walkTree k (mayClaim (k .plan)) ≡ Walk.walked t line left claimed)
+  pub walks : (claimed : List ℕ) × (walkTree k (mayClaim (k .plan)) ≡ found (t, claimed))
   pub rowsHeld : take (3 * size t) (rowsIn work) ≡ rows t 0
   pub stateSize : ℕ
   pub stateRoom : stateNeed ≤ stateSize
@@ -41,7 +44,7 @@ pub record Leaves (before after : List ℕ) : Type 0 where
 
 -- Whether a node line's letter names a method: D and E.
 unfoldable pub namesMethod : ℕ → Bool
-namesMethod letter = eqb letter 68 || eqb letter 69
+namesMethod letter = eqb letter (code "D") || eqb letter (code "E")
 
 -- A node line's letter and its first number.
 abbrev pub Labels : ℕ → ℕ → NodeLine → Type 0

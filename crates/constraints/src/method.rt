@@ -10,7 +10,8 @@ ghost use Rattle.rules.proofs.Judgement.Each.{Each};
 ghost use Rattle.index.specs.Spans.{spanOf};
 ghost use Rattle.parts.specs.States.{inRow};
 ghost use Rattle.parts.specs.Spans.{spansIn};
-ghost use Rattle.parts.specs.Tests.{Tested, numbered};
+ghost use Rattle.parts.specs.Tests.{Tested};
+ghost use Rattle.rules.specs.Case.{constraintOf};
 ghost use Rattle.reading.specs.TheCase.{caseOf};
 ghost use Rattle.constraints.specs.Ready.{Leaves};
 ghost use Rattle.constraints.specs.Loaded.{testsFrom, testsPast, testsIn, Letters};
@@ -39,7 +40,7 @@ pub struct Loaded {
 
 // "first broken O, B, F, W": 10, 11, 12, 13.
 fn broken(letter: u8, line: u32, number: u32) -> Answer
-    ensures { λ r. ⌜ ((first second third : ℕ) → r ≡ brokenAt line number (numbered letter first second third)) ⌝ }
+    ensures { λ r. ⌜ ((first second third : ℕ) → r ≡ brokenAt line number (constraintOf letter first second third)) ⌝ }
 {
     if letter == b'O' {
         return Answer::OrderBroken {

@@ -23,7 +23,7 @@ use text::Cursor;
 // The number of no method.
 const NONE: u32 = 4294967295;
 
-// Whether a node line's letter names a method: "D,m (method m, not empty); E,m,g (empty method m in gap g)".
+// Whether a node line's letter names a method: "D,m (method m, not empty); E,m,g (empty method m in gap g, 0 to k)".
 fn names_method(letter: u8) -> bool
     ensures { λ r. ⌜ r ≡ namesMethod letter ⌝ }
 {

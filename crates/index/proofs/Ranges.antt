@@ -5,9 +5,9 @@ use mir.Val.{Val}
 use denote.Laws.{Is}
 use denote.Struct.Laws as L
 use Rattle.index.specs.declared.StateNumber.{StateNumber}
-use Rattle.index.specs.Spans.{numberOf}
+use Rattle.index.specs.Spans.{stateOf}
 use Rattle.index.proofs.StateNumber as T
 use Rattle.index.proofs.StateNumber.Laws as T′
 
-pub number-fits : (l : StateNumber) (vs : List Val) → Is T.the-row l vs → numberOf l < 4294967296
+pub number-fits : (l : StateNumber) (vs : List Val) → Is T.the-row l vs → stateOf l < 4294967296
 number-fits l vs p = L.owed T.the-type T′.the-laws l vs p .0 .1

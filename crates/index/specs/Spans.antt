@@ -6,18 +6,18 @@ use Rattle.index.specs.declared.StateNumber.{StateNumber}
 use Rattle.index.specs.declared.Span.{Span}
 
 -- The number of a doubled index, and the doubled index of a number.
-abbrev pub indexOf : Doubled → ℕ
-indexOf d = d .0
+abbrev pub indexIn : Doubled → ℕ
+indexIn d = d .0
 
 abbrev pub doubled : ℕ → Doubled
 doubled n = record { 0 = n }
 
 -- The number of a state.
-abbrev pub numberOf : StateNumber → ℕ
-numberOf l = l .0
+abbrev pub stateOf : StateNumber → ℕ
+stateOf l = l .0
 
 abbrev pub spanOf : Span → rules.Span
-spanOf s = record { start = indexOf (s .start); end = indexOf (s .end) }
+spanOf s = record { start = indexIn (s .start); end = indexIn (s .end) }
 
 -- A span of the code, from one of the definitions.
 abbrev pub asSpan : rules.Span → Span

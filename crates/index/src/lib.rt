@@ -5,7 +5,7 @@ ghost use mathlib.Core.List.{[], _∷_};
 ghost use Prim.Native.Nat.{_+_, _-_, _<_, _≤_, min, max};
 ghost use lib.Dec.{ltb};
 ghost use Rattle.rules.specs.Index.{ofCue, ofGap, at, hull, roundedUp, roundedDown, c, f, isBefore};
-ghost use Rattle.index.specs.Spans.{indexOf, doubled, numberOf, spanOf};
+ghost use Rattle.index.specs.Spans.{indexIn, doubled, stateOf, spanOf};
 
 // "The program carries twice the index: cue i is 2i, gap g is 2g + 1."
 pub struct Doubled(u32);
@@ -22,21 +22,21 @@ pub struct Span {
 impl Doubled {
     pub fn of_cue(i: u32) -> Doubled
         requires { ⌜ i < 2147483648 ⌝ }
-        ensures { λ r. ⌜ indexOf r ≡ ofCue i ⌝ }
+        ensures { λ r. ⌜ indexIn r ≡ ofCue i ⌝ }
     {
         Doubled(2 * i)
     }
 
     pub fn of_gap(g: u32) -> Doubled
         requires { ⌜ g < 2147483648 ⌝ }
-        ensures { λ r. ⌜ indexOf r ≡ ofGap g ⌝ }
+        ensures { λ r. ⌜ indexIn r ≡ ofGap g ⌝ }
     {
         Doubled(2 * g + 1)
     }
 
     // As a plain number, and again from it: for a row of the work space.
     pub fn number(self) -> u32
-        ensures { λ r. ⌜ r ≡ indexOf self ⌝ }
+        ensures { λ r. ⌜ r ≡ indexIn self ⌝ }
     {
         self.0
     }
@@ -49,13 +49,13 @@ impl Doubled {
 
     // (index + 1) / 2, in a form that fits for every index.
     pub fn rounded_up(self) -> StateNumber
-        ensures { λ r. ⌜ numberOf r ≡ roundedUp (indexOf self) ⌝ }
+        ensures { λ r. ⌜ stateOf r ≡ roundedUp (indexIn self) ⌝ }
     {
         StateNumber(self.0 / 2 + self.0 % 2)
     }
 
     pub fn rounded_down(self) -> StateNumber
-        ensures { λ r. ⌜ numberOf r ≡ roundedDown (indexOf self) ⌝ }
+        ensures { λ r. ⌜ stateOf r ≡ roundedDown (indexIn self) ⌝ }
     {
         StateNumber(self.0 / 2)
     }
@@ -64,48 +64,48 @@ impl Doubled {
 impl StateNumber {
     // "State 0 is the initial one"
     pub fn initial() -> StateNumber
-        ensures { λ r. ⌜ numberOf r ≡ 0 ⌝ }
+        ensures { λ r. ⌜ stateOf r ≡ 0 ⌝ }
     {
         StateNumber(0)
     }
 
     // The state after this one, and the state before it.
     pub fn next(self) -> StateNumber
-        requires { ⌜ numberOf self < 4294967295 ⌝ }
-        ensures { λ r. ⌜ numberOf r ≡ numberOf self + 1 ⌝ }
+        requires { ⌜ stateOf self < 4294967295 ⌝ }
+        ensures { λ r. ⌜ stateOf r ≡ stateOf self + 1 ⌝ }
     {
         StateNumber(self.0 + 1)
     }
 
     pub fn previous(self) -> StateNumber
-        requires { ⌜ 1 ≤ numberOf self ⌝ }
-        ensures { λ r. ⌜ numberOf r ≡ numberOf self - 1 ⌝ }
+        requires { ⌜ 1 ≤ stateOf self ⌝ }
+        ensures { λ r. ⌜ stateOf r ≡ stateOf self - 1 ⌝ }
     {
         StateNumber(self.0 - 1)
     }
 
     pub fn is_less(self, other: StateNumber) -> bool
-        ensures { λ r. ⌜ r ≡ ltb (numberOf self) (numberOf other) ⌝ }
+        ensures { λ r. ⌜ r ≡ ltb (stateOf self) (stateOf other) ⌝ }
     {
         self.0 < other.0
     }
 
     // As a plain number: of the state's row, and of the cue that it follows.
     pub fn number(self) -> u32
-        ensures { λ r. ⌜ r ≡ numberOf self ⌝ }
+        ensures { λ r. ⌜ r ≡ stateOf self ⌝ }
     {
         self.0
     }
 }
 
 fn lesser(a: Doubled, b: Doubled) -> Doubled
-    ensures { λ r. ⌜ indexOf r ≡ min (indexOf a) (indexOf b) ⌝ }
+    ensures { λ r. ⌜ indexIn r ≡ min (indexIn a) (indexIn b) ⌝ }
 {
     if a.0 < b.0 { a } else { b }
 }
 
 fn greater(a: Doubled, b: Doubled) -> Doubled
-    ensures { λ r. ⌜ indexOf r ≡ max (indexOf a) (indexOf b) ⌝ }
+    ensures { λ r. ⌜ indexIn r ≡ max (indexIn a) (indexIn b) ⌝ }
 {
     if a.0 < b.0 { b } else { a }
 }
@@ -113,7 +113,7 @@ fn greater(a: Doubled, b: Doubled) -> Doubled
 impl Span {
     // A cue, or a task that sits in a gap: it starts and ends at one index.
     pub fn at(d: Doubled) -> Span
-        ensures { λ r. ⌜ spanOf r ≡ at (indexOf d) ⌝ }
+        ensures { λ r. ⌜ spanOf r ≡ at (indexIn d) ⌝ }
     {
         Span { start: d, end: d }
     }
@@ -130,13 +130,13 @@ impl Span {
 
     // "With c = start rounded up and f = end rounded down"
     pub fn c(self) -> StateNumber
-        ensures { λ r. ⌜ numberOf r ≡ c (spanOf self) ⌝ }
+        ensures { λ r. ⌜ stateOf r ≡ c (spanOf self) ⌝ }
     {
         self.start.rounded_up()
     }
 
     pub fn f(self) -> StateNumber
-        ensures { λ r. ⌜ numberOf r ≡ f (spanOf self) ⌝ }
+        ensures { λ r. ⌜ stateOf r ≡ f (spanOf self) ⌝ }
     {
         self.end.rounded_down()
     }

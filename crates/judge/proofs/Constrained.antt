@@ -8,10 +8,12 @@ use lib.ListN.{length, getD}
 use Rattle.rules.specs.declared.Header.{Header}
 use Rattle.rules.specs.declared.Answer.{Answer}
 use Rattle.rules.specs.declared.Answer.the-variants.{Accepted}
+use Rattle.rules.specs.Result.{found, refused}
 use Rattle.rules.specs.Tree.{Tree, leaf, preorder, rootLine, span}
 use Rattle.rules.specs.Constraint.{holdsIn, firstBroken}
 use Rattle.rules.specs.Index.{Span}
-use Rattle.rules.specs.Verdict.{Found, right, wrong, workNeed, statesOf, answerOf, statesAfter, judgeTree, nodeRecord}
+use Rattle.rules.specs.Verdict.{Found, workNeed, statesOf, answerOf, statesAfter, nodeRecord}
+use Rattle.rules.proofs.Judgement.Rows.{fromTree}
 use Rattle.reading.specs.TheCase.{caseOf}
 use Rattle.tree.specs.Layout as Lay
 use Rattle.parts.specs.Spans.{rowSpan}
@@ -54,13 +56,14 @@ module _ (text : List ℕ) (o : Opened) (states work : List ℕ) (x : P.Claimed 
   constraints-ready = (
     subst (λ (t : Tree). Ready (caseOf text) t text (o .«plan_line») (o .nodes .at) states work) (sym con-tree)
         (record {
-          reads = (w .opens .line, w .opens .place, w .opens .reads);
+          reads = w .opens .reads;
+          short = w .opens .short;
           plans = w .opens .planned;
           initial = w .initial;
           plan = o .plan .at;
           finds = w .opens .finds;
           room = w .opens .workRoom;
-          walks = (w .past, w .left, w .claimed, w .walks);
+          walks = (w .claimed, w .walks);
           rowsHeld = w .rowed;
           stateSize = length states;
           stateRoom = w .run .stateRoom;
@@ -74,24 +77,24 @@ module _ (text : List ℕ) (o : Opened) (states work : List ℕ) (x : P.Claimed 
     unfolding brokenOfTree
     broken = λ j. brokenOfTree (caseOf text) (con-tree j)
 
-    pub kept-not : (a : Answer) → r ≡ Broken a → judgeTree (caseOf text) ≡ wrong a
+    pub kept-not : (a : Answer) → r ≡ Broken a → fromTree (caseOf text) ≡ refused a
     unfolding w
     kept-not a e = go (brokenOfTree (caseOf text) (Con.treeIn text)) refl
       where
-        go : (y : Option Answer) → brokenOfTree (caseOf text) (Con.treeIn text) ≡ y → judgeTree (caseOf text) ≡ wrong a
+        go : (y : Option Answer) → brokenOfTree (caseOf text) (Con.treeIn text) ≡ y → fromTree (caseOf text) ≡ refused a
         go none q = let v : Broken a ≡ All = sym e ∙ said ∙ ap keptAs q in let z : _≡_ {A = ℕ} 0 1 = cc in absurd (omega arith)
         go (some b) q =
             let v : Broken a ≡ Broken b = sym e ∙ said ∙ ap keptAs q in
             let same : b ≡ a = cc in
-            constraints-refused (caseOf text) (w .tree) (w .past) (w .left) (w .claimed) (w .walks) (x .claims) a
+            constraints-refused (caseOf text) (w .tree) (w .claimed) (w .walks) (x .claims) a
             (sym broken ∙ q ∙ ap (λ (y : Answer). some y) same)
 
-    kept-all : r ≡ All → judgeTree (caseOf text) ≡ right (caseOf text) (w .tree)
+    kept-all : r ≡ All → fromTree (caseOf text) ≡ found (caseOf text, w .tree)
     unfolding w
     kept-all e = go (brokenOfTree (caseOf text) (Con.treeIn text)) refl
       where
-        go : (y : Option Answer) → brokenOfTree (caseOf text) (Con.treeIn text) ≡ y → judgeTree (caseOf text) ≡ right (caseOf text) (w .tree)
-        go none q = tree-right (caseOf text) (w .tree) (w .past) (w .left) (w .claimed) (w .walks) (x .claims) (sym broken ∙ q)
+        go : (y : Option Answer) → brokenOfTree (caseOf text) (Con.treeIn text) ≡ y → fromTree (caseOf text) ≡ found (caseOf text, w .tree)
+        go none q = tree-right (caseOf text) (w .tree) (w .claimed) (w .walks) (x .claims) (sym broken ∙ q)
         go (some b) q = let v : All ≡ Broken b = sym e ∙ said ∙ ap keptAs q in let z : _≡_ {A = ℕ} 0 1 = cc in absurd (omega arith)
 
     -- ---- The records
@@ -111,12 +114,12 @@ module _ (text : List ℕ) (o : Opened) (states work : List ℕ) (x : P.Claimed 
       nodes-ask =
           let f = w .opens .finds in
           subst (λ (h : Header). NodesRead text h (o .nodes .at)) (sym (w .opens .head))
-          (nodes-read text (caseOf text) (o .nodes .at) (f .nodeLines) (f .nodesRead .0) (f .nodesRead .1) (f .nodesRead .2) (f .nodesAre))
+          (nodes-read text (caseOf text) (o .nodes .at) (f .nodeLines .0) (f .nodeLines .1) (f .nodeLines .2))
 
       pub records-done : r ≡ All → (u : List ℕ)
           → upTo (recordAt u) (o .header .nodes) ≡ recordsOf (rowSpan v) 0 (nodeLines text (o .header) (o .nodes .at))
-          → (Accepted (o .header .cues) (o .header .nodes) ≡ answerOf (judgeTree (caseOf text)))
-          × (states ≡ statesAfter (length states) (judgeTree (caseOf text))) × RecordsHeld (judgeTree (caseOf text)) u
+          → (Accepted (o .header .cues) (o .header .nodes) ≡ answerOf (fromTree (caseOf text)))
+          × (states ≡ statesAfter (length states) (fromTree (caseOf text))) × RecordsHeld (fromTree (caseOf text)) u
       unfolding statesAfter RecordsHeld Con.nodeOfTree w
       records-done e u written =
           let k = caseOf text in
@@ -125,7 +128,7 @@ module _ (text : List ℕ) (o : Opened) (states work : List ℕ) (x : P.Claimed 
           let accepts = kept-all e in
           let f = w .opens .finds in
           let lines : nodeLines text (k .head) (o .nodes .at) ≡ map rootLine (preorder t) =
-          lines-are text k (o .nodes .at) (f .nodeLines) (f .nodesRead .0) (f .nodesRead .1) (f .nodesRead .2) (f .nodesAre) ∙ sym (tree-is ready .preordered) in
+          lines-are text k (o .nodes .at) (f .nodeLines .0) (f .nodeLines .1) (f .nodeLines .2) ∙ sym (tree-is ready .preordered) in
           let records : recordsOf (rowSpan v) 0 (map rootLine (preorder t)) ≡ map recordOf (preorder t) =
           records-of (preorder t) (rowSpan v) 0
           (λ j l.

@@ -7,21 +7,23 @@ use Prim.Native.Nat.{ℕ, zero, suc, _+_, _-_, _≤_, _<_}
 use native.Mathlib.Omega.{arith}
 use lib.ListN.{length, getD, take, drop, replicate, List·getD-append}
 use lib.Seq.{sets, sets-eq, length-sets, slice, getD-take, take-add, take-at, drop-at, length-take-le}
-use Rattle.rules.specs.State.{tabulate}
+use Rattle.rules.specs.State.{tabulate, actionAt}
 use Rattle.rules.specs.Table as T
 use Rattle.rules.specs.Table.{readLine}
-use Rattle.rules.specs.Case.{Case, oneMethod}
+use Rattle.rules.specs.Case.{Case, Valued, actionOf, oneMethod}
 use Rattle.rules.specs.Tree.{isIn}
 use Rattle.reading.specs.Directory.{Finds, LineIs, methodsFrom, directorySize}
 use Rattle.tree.specs.Layout.{marksFrom, planFrom, directoryOf, marksIn, planIn, marksOf}
 use Rattle.tree.proofs.Stores.{slice-sets-after}
 
-abbrev line-moved : (text : List ℕ) (k : Case) (due : T.Role) (p q : ℕ) → p ≡ q → LineIs text k due p → LineIs text k due q
-line-moved text k due p q e x = record {
+abbrev line-moved : (text : List ℕ) (k : Case) (due : T.Role) {A : Type 0} (means : Valued → A) (y : A) (p q : ℕ) → p ≡ q → LineIs text k due p means y
+    → LineIs text k due q means y
+line-moved text k due means y p q e x = record {
   letter = x .letter;
   values = x .values;
   next = x .next;
   reads = ap (λ (r : ℕ). readLine text due (k .head) 0 r) (sym e) ∙ x .reads;
+  meant = x .meant;
 }
 
 -- A directory that agrees with another finds the same lines.
@@ -30,17 +32,12 @@ pub finds-same : (text : List ℕ) (k : Case) (d d′ : List ℕ) (initial plan 
 unfolding methodsFrom
 finds-same text k d d′ initial plan nodes few-actions few-methods same f = record {
   initialLine = f .initialLine;
-  initialSet = f .initialSet;
-  actionLine = λ a h. line-moved text k T.action (getD d a 0) (getD d′ a 0) (same a (omega arith)) (f .actionLine a h);
-  actionSets = λ a h. f .actionSets a h;
+  actionLine = λ a h. line-moved text k T.action actionOf (actionAt (k .actions) a) (getD d a 0) (getD d′ a 0) (same a (omega arith)) (f .actionLine a h);
   methodLine = λ m h.
       let w = f .methodLine m h in
       (w .0, w .1, w .2, ap (λ (p : ℕ). oneMethod text (k .head) (w .0) p) (sym (same (1024 + m) (omega arith))) ∙ w .3);
   planLine = f .planLine;
-  planCues = f .planCues;
   nodeLines = f .nodeLines;
-  nodesRead = f .nodesRead;
-  nodesAre = f .nodesAre;
 }
 
 directory-agrees : (v w : List ℕ) → directoryOf v ≡ directoryOf w → (a : ℕ) → a < 3072 → getD w a 0 ≡ getD v a 0

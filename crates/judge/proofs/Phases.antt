@@ -9,10 +9,10 @@ use lib.Seq.{drop-at, sets, length-sets}
 use Rattle.rules.specs.declared.Header.{Header}
 use Rattle.rules.specs.declared.Answer.{Answer}
 use Rattle.rules.specs.State.{firstStop}
-use Rattle.rules.specs.Case as C
+use Rattle.rules.specs.Result.{Result, found, refused}
 use Rattle.rules.specs.Case.{Case, readCase}
-use Rattle.rules.specs.Tree.{Tree, mayClaim, Walk, walkTree, leastUnclaimed}
-use Rattle.rules.specs.Verdict.{Found, right, wrong, stateNeed, workNeed, textMost, statesOf, filled, answerOf, statesAfter}
+use Rattle.rules.specs.Tree.{Tree, mayClaim, walkTree, leastUnclaimed}
+use Rattle.rules.specs.Verdict.{Found, stateNeed, workNeed, textMost, statesOf, filled, answerOf, statesAfter}
 use Rattle.rules.proofs.Judgement.Sound.{Sound, sound}
 use Rattle.text.specs.declared.Cursor.{Cursor}
 use Rattle.reading.specs.Directory.{Finds, ReadsAs, directorySize}
@@ -22,13 +22,13 @@ use Rattle.rows.specs.Rows.{putRows}
 use Rattle.rows.proofs.Written.{drop-zeros, rows-fill}
 use Rattle.reading.specs.TheCase.{caseOf}
 use Rattle.reading.proofs.TheCase.{case-is}
-use Rattle.replay.specs.Running.{Left, ranOf, RanAs}
+use Rattle.replay.specs.Running.{Left, RanAs}
 use Rattle.replay.specs.declared.running.Ran.{Ran}
 use Rattle.replay.specs.declared.running.Ran.the-variants.{All, Stopped}
-use Rattle.replay.proofs.Calls.{left-worded, ran-all}
+use Rattle.replay.proofs.Calls.{left-worded, stopped-at, ran-all}
 use Rattle.tree.specs.Layout.{planFrom, directoryOf, marksIn, planIn}
 use Rattle.tree.specs.Numbers.{PlanAt}
-use Rattle.tree.specs.Whole.{Ready, TreeTold}
+use Rattle.tree.specs.Whole.{WalkReady, TreeTold}
 use Rattle.tree.specs.Marks.{leastUnmarked, asUnclaimed}
 use Rattle.tree.specs.declared.marks.Unclaimed.{Unclaimed}
 use Rattle.tree.specs.declared.marks.Unclaimed.the-variants.{None, At}
@@ -44,7 +44,7 @@ use Rattle.judge.proofs.Frames.{finds-kept, finds-front, marks-none, pl
 -- ---- Answers
 
 -- A refusal answers so, and leaves the state list zero, whatever the work space is.
-pub refused-all : (s : ℕ) (f : Found Tree) (r : Answer) → f ≡ wrong r → (r ≡ answerOf f) × (replicate s 0 ≡ statesAfter s f) × ((w : List ℕ) → RecordsHeld f w)
+pub refused-all : (s : ℕ) (f : Found Tree) (r : Answer) → f ≡ refused r → (r ≡ answerOf f) × (replicate s 0 ≡ statesAfter s f) × ((w : List ℕ) → RecordsHeld f w)
 unfolding statesAfter RecordsHeld
 refused-all s f r e =
     (sym (ap answerOf e), sym (ap (λ (x : Found Tree). statesAfter s x) e), λ w. subst (λ (x : Found Tree). RecordsHeld x w) (sym e) tt)
@@ -59,40 +59,38 @@ module _ (text d rest : List ℕ) (r : CaseRead) (as-read : ReadsAs text (readCa
       → Opens text (record { header = h; «plan_line» = l; plan = p; nodes = ns }) (i .at) (d ++ rest)
   read-opens h l i p ns e short whole room = go (readCase text) refl as-read
     where
-      go : (x : C.Read Case) → readCase text ≡ x → ReadsAs text x r d
+      go : (x : Result Case) → readCase text ≡ x → ReadsAs text x r d
           → Opens text (record { header = h; «plan_line» = l; plan = p; nodes = ns }) (i .at) (d ++ rest)
-      go (C.read k n place) q w =
-          let here : caseOf text ≡ k = case-is text k n place q in
+      go (found k) q w =
+          let here : caseOf text ≡ k = case-is text k q in
           let same : CaseIs h l i p ns ≡ CaseIs (k .head) (k .planLine) (w .0) (w .1) (w .2) = sym e ∙ w .3 in
           let head : h ≡ k .head = cc in
           let line : l ≡ k .planLine = cc in
           let first : i ≡ w .0 = cc in
           let cues : p ≡ w .1 = cc in
           let lines : ns ≡ w .2 = cc in
-          let good = sound text k n place q in
-          let found : Finds text k d (i .at) (p .at) (ns .at) =
+          let good = sound text k q in
+          let there : Finds text k d (i .at) (p .at) (ns .at) =
           subst (λ (x : Cursor). Finds text k d (x .at) (p .at) (ns .at)) (sym first)
           (subst (λ (x : Cursor). Finds text k d (w .0 .at) (x .at) (ns .at)) (sym cues)
           (subst (λ (x : Cursor). Finds text k d (w .0 .at) (w .1 .at) (x .at)) (sym lines) (w .4))) in
           record {
             short = short;
             workRoom = room;
-            line = n;
-            place = place;
-            reads = q ∙ ap (λ (c : Case). C.read c n place) (sym here);
+            reads = q ∙ ap (λ (c : Case). found c) (sym here);
             head = head ∙ ap (λ (c : Case). c .head) (sym here);
             planned = line ∙ ap (λ (c : Case). c .planLine) (sym here);
             finds = subst (λ (c : Case). Finds text c (d ++ rest) (i .at) (p .at) (ns .at)) (sym here)
-                (finds-front text k d rest (i .at) (p .at) (ns .at) (good .head-good .few-actions) (good .head-good .few-methods) whole found);
+                (finds-front text k d rest (i .at) (p .at) (ns .at) (good .head-good .few-actions) (good .head-good .few-methods) whole there);
           }
-      go (C.refused b) q w = let z : _≡_ {A = ℕ} 0 1 = cc in absurd (omega arith)
+      go (refused b) q w = let z : _≡_ {A = ℕ} 0 1 = cc in absurd (omega arith)
 
-  pub read-refuses : (a : Answer) → r ≡ CaseRefused a → readCase text ≡ C.refused a
+  pub read-refuses : (a : Answer) → r ≡ CaseRefused a → readCase text ≡ refused a
   read-refuses a e = go (readCase text) refl as-read
     where
-      go : (x : C.Read Case) → readCase text ≡ x → ReadsAs text x r d → readCase text ≡ C.refused a
-      go (C.read k n place) q w = let z : _≡_ {A = ℕ} 0 1 = cc (w .3, e) in absurd (omega arith)
-      go (C.refused b) q w = let same : b ≡ a = cc in q ∙ ap (λ (x : Answer). C.refused x) same
+      go : (x : Result Case) → readCase text ≡ x → ReadsAs text x r d → readCase text ≡ refused a
+      go (found k) q w = let z : _≡_ {A = ℕ} 0 1 = cc (w .3, e) in absurd (omega arith)
+      go (refused b) q w = let same : b ≡ a = cc in q ∙ ap (λ (x : Answer). refused x) same
 
 -- The part after the directory is as it was: zero.
 pub unused-front : (d w : List ℕ) → length d ≡ 3072 → 3072 ≤ length w → w ≡ replicate (length w) 0 → Unused (d ++ drop 3072 w)
@@ -108,13 +106,13 @@ front-size d w whole room = omega (arith, length-append d (drop 3072 w), length-
 
 module _ (text : List ℕ) (o : Opened) (initial : ℕ) (work : List ℕ) (x : Opens text o initial work) where
   pub open-sound : Sound (caseOf text)
-  open-sound = sound text (caseOf text) (x .line) (x .place) (x .reads)
+  open-sound = sound text (caseOf text) (x .reads)
 
   pub open-left : Left text work (o .header) initial (o .plan .at)
   unfolding directorySize workNeed
   open-left =
       let room = x .workRoom in
-      record { line = x .line; place = x .place; nodes = o .nodes .at; reads = x .reads; head = x .head; long = omega arith; finds = x .finds }
+      record { nodes = o .nodes .at; reads = x .reads; head = x .head; long = omega arith; finds = x .finds }
 
   -- The same of a work space with the same directory.
   pub open-kept : (v : List ℕ) → workNeed ≤ length v → directoryOf v ≡ directoryOf work → Opens text o initial v
@@ -123,17 +121,11 @@ module _ (text : List ℕ) (o : Opened) (initial : ℕ) (work : List ℕ) (x : O
       record {
         short = x .short;
         workRoom = room;
-        line = x .line;
-        place = x .place;
         reads = x .reads;
         head = x .head;
         planned = x .planned;
         finds = finds-kept text (caseOf text) work v initial (o .plan .at) (o .nodes .at) (good .few-actions) (good .few-methods) e (x .finds);
       }
-
-  stopped-at : (s : Option ℕ) (i : ℕ) → Stopped i ≡ ranOf s → s ≡ some i
-  stopped-at none i e = let z : _≡_ {A = ℕ} 0 1 = cc in absurd (omega arith)
-  stopped-at (some j) i e = let same : j ≡ i = cc in ap (λ (n : ℕ). some n) same
 
   module _ (r : Ran) (before after : List ℕ) (ran : RanAs (caseOf text) r before after) where
     pub run-stops : (i : ℕ) → r ≡ Stopped i → firstStop (caseOf text .actions) (caseOf text .plan) (caseOf text .initial) 1 ≡ some i
@@ -157,7 +149,7 @@ module _ (text : List ℕ) (o : Opened) (initial : ℕ) (work : List ℕ) (x : O
   plan-stored =
       let few = open-sound .head-good .few-cues in
       let same : o .header .cues ≡ caseOf text .head .cues = ap (λ (h : Header). h .cues) (x .head) in
-      record { planLine = x .finds .planLine; planCues = x .finds .planCues; count = same; few = omega arith; room = x .workRoom }
+      record { planLine = x .finds .planLine; count = same; few = omega arith; room = x .workRoom }
 
   module _ (v : List ℕ) (stored : v ≡ sets work planFrom (caseOf text .plan)) (unused : Unused work) where
     areas : (directoryOf v ≡ directoryOf work) × (marksIn (caseOf text .head .cues) v ≡ marksIn (caseOf text .head .cues) work)
@@ -176,12 +168,10 @@ module _ (text : List ℕ) (o : Opened) (initial : ℕ) (work : List ℕ) (x : O
     pub stored-opens : Opens text o initial v
     stored-opens = open-kept v room (areas .0)
 
-    pub walk-ready : Ready text (caseOf text) (o .header) (o .«plan_line») (o .nodes .at) v
+    pub walk-ready : WalkReady text (caseOf text) (o .header) (o .«plan_line») (o .nodes .at) v
     unfolding workNeed textMost
     walk-ready =
         record {
-          line = x .line;
-          place = x .place;
           reads = x .reads;
           head = x .head;
           planned = x .planned;
@@ -196,32 +186,30 @@ module _ (text : List ℕ) (o : Opened) (initial : ℕ) (work : List ℕ) (x : O
 
     -- What the walk answered: the tree, its rows and its claims; or the refusal.
     module _ (r : TreeWalk) (u : List ℕ) (told : TreeTold (caseOf text) v (walkTree (caseOf text) (mayClaim (caseOf text .plan))) r u) where
-      pub walk-refuses : (a : Answer) → r ≡ Refused a → walkTree (caseOf text) (mayClaim (caseOf text .plan)) ≡ Walk.refused a
+      pub walk-refuses : (a : Answer) → r ≡ Refused a → walkTree (caseOf text) (mayClaim (caseOf text .plan)) ≡ refused a
       walk-refuses a e = go (walkTree (caseOf text) (mayClaim (caseOf text .plan))) refl told
         where
-          go : (y : Walk) → walkTree (caseOf text) (mayClaim (caseOf text .plan)) ≡ y → TreeTold (caseOf text) v y r u
-              → walkTree (caseOf text) (mayClaim (caseOf text .plan)) ≡ Walk.refused a
-          go (Walk.walked t n left claimed) q w = let z : _≡_ {A = ℕ} 0 1 = cc (w .right, e) in absurd (omega arith)
-          go (Walk.refused b) q w = let same : b ≡ a = cc in q ∙ ap (λ (y : Answer). Walk.refused y) same
+          go : (y : Result (Tree × List ℕ)) → walkTree (caseOf text) (mayClaim (caseOf text .plan)) ≡ y → TreeTold (caseOf text) v y r u
+              → walkTree (caseOf text) (mayClaim (caseOf text .plan)) ≡ refused a
+          go (found (t, claimed)) q w = let z : _≡_ {A = ℕ} 0 1 = cc (w .right, e) in absurd (omega arith)
+          go (refused b) q w = let same : b ≡ a = cc in q ∙ ap (λ (y : Answer). refused y) same
 
       pub walk-finds : (states : List ℕ) → r ≡ Right → length u ≡ length v → HasRun text states → P.Walked text o states u
       walk-finds states e same run = go (walkTree (caseOf text) (mayClaim (caseOf text .plan))) refl told
         where
-          go : (y : Walk) → walkTree (caseOf text) (mayClaim (caseOf text .plan)) ≡ y → TreeTold (caseOf text) v y r u → P.Walked text o states u
-          go (Walk.walked t n left claimed) q w =
+          go : (y : Result (Tree × List ℕ)) → walkTree (caseOf text) (mayClaim (caseOf text .plan)) ≡ y → TreeTold (caseOf text) v y r u → P.Walked text o states u
+          go (found (t, claimed)) q w =
               record {
                 initial = initial;
                 opens = open-kept u (let s = room in omega arith) (w .directory ∙ areas .0);
                 run = run;
                 tree = t;
-                past = n;
-                left = left;
                 claimed = claimed;
                 walks = q;
                 rowed = w .rowed;
                 marked = w .marked;
               }
-          go (Walk.refused b) q w = let z : _≡_ {A = ℕ} 0 1 = cc (w, e) in absurd (omega arith)
+          go (refused b) q w = let z : _≡_ {A = ℕ} 0 1 = cc (w, e) in absurd (omega arith)
 
 -- ---- Claims
 

@@ -1,5 +1,5 @@
 -- The verdict row by row: what the rows up to here have answered settles it, or leaves it to the rows after. Assumes nothing.
-use mathlib.Core.Path.{_≡_, refl, ap, _∙_}
+use mathlib.Core.Path.{_≡_, ap, _∙_}
 use mathlib.Core.Bool.{Bool, true, false}
 use mathlib.Core.List.{List}
 use mathlib.Core.Option.{Option, none, some}
@@ -10,85 +10,100 @@ use lib.ListN.{length}
 use Rattle.rules.specs.declared.Answer.{Answer}
 use Rattle.rules.specs.declared.Answer.the-variants.{ShortList, LongText, Inapplicable, Unclaimed}
 use Rattle.rules.specs.State.{firstStop}
-use Rattle.rules.specs.Case.{NodeLine, Case, read, refused, readCase}
-use Rattle.rules.specs.Tree.{Tree, preorder, Walk, mayClaim, walkTree, leastUnclaimed}
+use Rattle.rules.specs.Result.{Result, found, refused, _>>=_, _>>_}
+use Rattle.rules.specs.Case.{Case, readCase}
+use Rattle.rules.specs.Tree.{Tree, preorder, mayClaim, walkTree, leastUnclaimed}
 use Rattle.rules.specs.Constraint.{holdsIn, firstBroken}
-use Rattle.rules.specs.Verdict.{Found, right, wrong, stateNeed, nodeNeed, workNeed, checkLists, firstShort, statesOf, noneBroken, judgeConstraints, allClaimed, treeWalked, judgeTree, planRuns, judgeRun, textRead, textMost, judgeText, listsLent, check}
+use Rattle.rules.specs.Verdict.{Found, stateNeed, nodeNeed, workNeed, checkLists, unless, statesOf, planRuns, allClaimed, noneBroken, textMost, check}
+use Rattle.rules.proofs.Judgement.Rows.{fromConstraints, fromClaims, fromTree, fromRun, fromText}
 
 -- ---- Rows 6 to 13
 
 module _ (k : Case) where
-  pub tree-refused : (a : Answer) → walkTree k (mayClaim (k .plan)) ≡ Walk.refused a → judgeTree k ≡ wrong a
-  unfolding judgeTree
-  tree-refused a e = ap (treeWalked k) e
+  abbrev onTree : Result (Tree × List ℕ) → Found Tree
+  onTree x = x >>= λ (t, claimed). fromClaims k t claimed
 
-  module _ (t : Tree) (n : ℕ) (left : List NodeLine) (claimed : List ℕ) (walks : walkTree k (mayClaim (k .plan)) ≡ Walk.walked t n left claimed) where
-    pub claims-refused : (i : ℕ) → leastUnclaimed claimed (k .head .cues) 1 ≡ some i → judgeTree k ≡ wrong (Unclaimed (k .planLine) i)
-    unfolding judgeTree
-    claims-refused i e = ap (treeWalked k) walks ∙ ap (allClaimed k t) e
+  pub tree-refused : (a : Answer) → walkTree k (mayClaim (k .plan)) ≡ refused a → fromTree k ≡ refused a
+  unfolding fromTree
+  tree-refused a e = ap onTree e
+
+  module _ (t : Tree) (claimed : List ℕ) (walks : walkTree k (mayClaim (k .plan)) ≡ found (t, claimed)) where
+    claims-are : (o : Option ℕ) → leastUnclaimed claimed (k .head .cues) 1 ≡ o → fromTree k ≡ (unless (Unclaimed (k .planLine)) o >> fromConstraints k t)
+    unfolding fromTree allClaimed
+    claims-are o e = ap onTree walks ∙ ap (λ (x : Option ℕ). unless (Unclaimed (k .planLine)) x >> fromConstraints k t) e
+
+    pub claims-refused : (i : ℕ) → leastUnclaimed claimed (k .head .cues) 1 ≡ some i → fromTree k ≡ refused (Unclaimed (k .planLine) i)
+    claims-refused i e = claims-are (some i) e
 
     module _ (claims : leastUnclaimed claimed (k .head .cues) 1 ≡ none) where
-      pub constraints-refused : (a : Answer) → firstBroken k (holdsIn (statesOf k)) (k .planLine + 1) (preorder t) ≡ some a → judgeTree k ≡ wrong a
-      unfolding judgeTree judgeConstraints
-      constraints-refused a e = ap (treeWalked k) walks ∙ ap (allClaimed k t) claims ∙ ap (noneBroken k t) e
+      constraints-are : (o : Option Answer) → firstBroken k (holdsIn (statesOf k)) (k .planLine + 1) (preorder t) ≡ o
+          → fromTree k ≡ (unless (λ r. r) o >> found (k, t))
+      unfolding noneBroken
+      constraints-are o e = claims-are none claims ∙ ap (λ (x : Option Answer). _>>_ {B = Case × Tree} (unless (λ r. r) x) (found (k, t))) e
 
-      pub tree-right : firstBroken k (holdsIn (statesOf k)) (k .planLine + 1) (preorder t) ≡ none → judgeTree k ≡ right k t
-      unfolding judgeTree judgeConstraints
-      tree-right e = ap (treeWalked k) walks ∙ ap (allClaimed k t) claims ∙ ap (noneBroken k t) e
+      pub constraints-refused : (a : Answer) → firstBroken k (holdsIn (statesOf k)) (k .planLine + 1) (preorder t) ≡ some a → fromTree k ≡ refused a
+      constraints-refused a e = constraints-are (some a) e
+
+      pub tree-right : firstBroken k (holdsIn (statesOf k)) (k .planLine + 1) (preorder t) ≡ none → fromTree k ≡ found (k, t)
+      tree-right e = constraints-are none e
 
 -- ---- Row 5
 
-pub run-refused : {A : Type 0} (rest : Case → Found A) (k : Case) (i : ℕ) → firstStop (k .actions) (k .plan) (k .initial) 1 ≡ some i
-    → judgeRun rest k ≡ wrong (Inapplicable (k .planLine) i)
-unfolding judgeRun
-run-refused rest k i e = ap (planRuns rest k) e
+module _ {A : Type 0} (rest : Case → Found A) (k : Case) where
+  run-is : (o : Option ℕ) → firstStop (k .actions) (k .plan) (k .initial) 1 ≡ o → fromRun rest k ≡ (unless (Inapplicable (k .planLine)) o >> rest k)
+  unfolding fromRun planRuns
+  run-is o e = ap (λ (x : Option ℕ). unless (Inapplicable (k .planLine)) x >> rest k) e
 
-pub run-right : {A : Type 0} (rest : Case → Found A) (k : Case) → firstStop (k .actions) (k .plan) (k .initial) 1 ≡ none → judgeRun rest k ≡ rest k
-unfolding judgeRun
-run-right rest k e = ap (planRuns rest k) e
+  pub run-refused : (i : ℕ) → firstStop (k .actions) (k .plan) (k .initial) 1 ≡ some i → fromRun rest k ≡ refused (Inapplicable (k .planLine) i)
+  run-refused i e = run-is (some i) e
+
+  pub run-right : firstStop (k .actions) (k .plan) (k .initial) 1 ≡ none → fromRun rest k ≡ rest k
+  run-right e = run-is none e
 
 -- ---- Rows 2 to 4
 
-pub text-long : {A : Type 0} (rest : Case → Found A) (text : List ℕ) → textMost < length text → judgeText rest text ≡ wrong LongText
-unfolding judgeText
-text-long {A} rest text h =
-    ap (λ (b : Bool). elim b as (λ x. Found A) [ true ↦ wrong LongText | false ↦ textRead rest (readCase text) ]) (lt-ltb textMost (length text) h)
+module _ {A : Type 0} (rest : Case → Found A) (text : List ℕ) where
+  abbrev onCase : Result Case → Found A
+  onCase r = r >>= λ k. fromRun rest k
 
-text-short : {A : Type 0} (rest : Case → Found A) (text : List ℕ) → length text ≤ textMost → judgeText rest text ≡ textRead rest (readCase text)
-unfolding judgeText
-text-short {A} rest text h =
-    ap (λ (b : Bool). elim b as (λ x. Found A) [ true ↦ wrong LongText | false ↦ textRead rest (readCase text) ]) (le-ltb textMost (length text) h)
+  text-is : (b : Bool) → ltb textMost (length text) ≡ b
+      → fromText rest text ≡ _>>_ {A = Unit {0}} (elim b [ true ↦ refused LongText | false ↦ found tt ]) (onCase (readCase text))
+  unfolding fromText
+  text-is b e = ap (λ (x : Bool). _>>_ {A = Unit {0}} (elim x [ true ↦ refused LongText | false ↦ found tt ]) (onCase (readCase text))) e
 
-pub text-refused : {A : Type 0} (rest : Case → Found A) (text : List ℕ) (a : Answer) → length text ≤ textMost → readCase text ≡ refused a → judgeText rest text ≡ wrong a
-text-refused rest text a h e = text-short rest text h ∙ ap (textRead rest) e
+  pub text-long : textMost < length text → fromText rest text ≡ refused LongText
+  text-long h = text-is true (lt-ltb textMost (length text) h)
 
-pub text-reads : {A : Type 0} (rest : Case → Found A) (text : List ℕ) (k : Case) (n place : ℕ) → length text ≤ textMost → readCase text ≡ read k n place
-    → judgeText rest text ≡ judgeRun rest k
-text-reads rest text k n place h e = text-short rest text h ∙ ap (textRead rest) e
+  pub text-refused : (a : Answer) → length text ≤ textMost → readCase text ≡ refused a → fromText rest text ≡ refused a
+  text-refused a h e = text-is false (le-ltb textMost (length text) h) ∙ ap onCase e
+
+  pub text-reads : (k : Case) → length text ≤ textMost → readCase text ≡ found k → fromText rest text ≡ fromRun rest k
+  text-reads k h e = text-is false (le-ltb textMost (length text) h) ∙ ap onCase e
 
 -- ---- Row 1
 
 -- The first of three lists that is short.
-abbrev pub shortOf : Bool → Bool → Bool → Option ℕ
-shortOf s n w = elim s [ true ↦ some 1 | false ↦ elim n [ true ↦ some 2 | false ↦ elim w [ true ↦ some 3 | false ↦ none ] ] ]
+abbrev pub shortOf : Bool → Bool → Bool → Result (Unit {0})
+shortOf s n w =
+    elim s [
+      | true ↦ refused (ShortList 1)
+      | false ↦ elim n [ true ↦ refused (ShortList 2) | false ↦ elim w [ true ↦ refused (ShortList 3) | false ↦ found tt ] ]
+    ]
 
 module _ (states nodes work : ℕ) (text : List ℕ) where
-  short-is : firstShort (checkLists states nodes work) ≡ shortOf (ltb states stateNeed) (ltb nodes nodeNeed) (ltb work workNeed)
-  unfolding checkLists
-  short-is = refl
+  lists-are : (o : Result (Unit {0})) → shortOf (ltb states stateNeed) (ltb nodes nodeNeed) (ltb work workNeed) ≡ o
+      → check (checkLists states nodes work) text ≡ (o >> fromText fromTree text)
+  unfolding check checkLists fromTree fromRun fromText
+  lists-are o e = ap (λ (x : Result (Unit {0})). x >> fromText fromTree text) e
 
-  found : (o : Option ℕ) → shortOf (ltb states stateNeed) (ltb nodes nodeNeed) (ltb work workNeed) ≡ o → check (checkLists states nodes work) text ≡ listsLent judgeTree text o
-  unfolding check
-  found o e = ap (listsLent judgeTree text) (short-is ∙ e)
+  pub states-short : states < stateNeed → check (checkLists states nodes work) text ≡ refused (ShortList 1)
+  states-short s = lists-are (refused (ShortList 1)) (ap (λ (b : Bool). shortOf b (ltb nodes nodeNeed) (ltb work workNeed)) (lt-ltb states stateNeed s))
 
-  pub states-short : states < stateNeed → check (checkLists states nodes work) text ≡ wrong (ShortList 1)
-  states-short s = found (some 1) (ap (λ (b : Bool). shortOf b (ltb nodes nodeNeed) (ltb work workNeed)) (lt-ltb states stateNeed s))
+  pub nodes-short : stateNeed ≤ states → nodes < nodeNeed → check (checkLists states nodes work) text ≡ refused (ShortList 2)
+  nodes-short s n = lists-are (refused (ShortList 2)) (λ j. shortOf (le-ltb states stateNeed s j) (lt-ltb nodes nodeNeed n j) (ltb work workNeed))
 
-  pub nodes-short : stateNeed ≤ states → nodes < nodeNeed → check (checkLists states nodes work) text ≡ wrong (ShortList 2)
-  nodes-short s n = found (some 2) (λ j. shortOf (le-ltb states stateNeed s j) (lt-ltb nodes nodeNeed n j) (ltb work workNeed))
+  pub work-short : stateNeed ≤ states → nodeNeed ≤ nodes → work < workNeed → check (checkLists states nodes work) text ≡ refused (ShortList 3)
+  work-short s n w = lists-are (refused (ShortList 3)) (λ j. shortOf (le-ltb states stateNeed s j) (le-ltb nodes nodeNeed n j) (lt-ltb work workNeed w j))
 
-  pub work-short : stateNeed ≤ states → nodeNeed ≤ nodes → work < workNeed → check (checkLists states nodes work) text ≡ wrong (ShortList 3)
-  work-short s n w = found (some 3) (λ j. shortOf (le-ltb states stateNeed s j) (le-ltb nodes nodeNeed n j) (lt-ltb work workNeed w j))
-
-  pub lists-long : stateNeed ≤ states → nodeNeed ≤ nodes → workNeed ≤ work → check (checkLists states nodes work) text ≡ judgeText judgeTree text
-  lists-long s n w = found none (λ j. shortOf (le-ltb states stateNeed s j) (le-ltb nodes nodeNeed n j) (le-ltb work workNeed w j))
+  pub lists-long : stateNeed ≤ states → nodeNeed ≤ nodes → workNeed ≤ work → check (checkLists states nodes work) text ≡ fromText fromTree text
+  lists-long s n w = lists-are (found tt) (λ j. shortOf (le-ltb states stateNeed s j) (le-ltb nodes nodeNeed n j) (le-ltb work workNeed w j))

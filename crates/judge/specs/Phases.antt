@@ -5,9 +5,9 @@ use mathlib.Core.Option.{none}
 use Prim.Native.Nat.{ℕ, _-_, _*_, _≤_}
 use lib.ListN.{length, take, drop, replicate}
 use Rattle.rules.specs.State.{firstStop}
-use Rattle.rules.specs.Case as C
-use Rattle.rules.specs.Case.{NodeLine, readCase}
-use Rattle.rules.specs.Tree.{Tree, mayClaim, Walk, walkTree, leastUnclaimed}
+use Rattle.rules.specs.Result.{found}
+use Rattle.rules.specs.Case.{readCase}
+use Rattle.rules.specs.Tree.{Tree, mayClaim, walkTree, leastUnclaimed}
 use Rattle.rules.specs.Verdict.{stateNeed, workNeed, textMost, statesOf, filled}
 use Rattle.reading.specs.Directory.{Finds, directorySize}
 use Rattle.reading.specs.TheCase.{caseOf}
@@ -26,9 +26,7 @@ pub record Cleared (text states work : List ℕ) : Type 0 where
 pub record Opens (text : List ℕ) (o : Opened) (initial : ℕ) (work : List ℕ) : Type 0 where
   pub short : length text ≤ textMost
   pub workRoom : workNeed ≤ length work
-  pub line : ℕ
-  pub place : ℕ
-  pub reads : readCase text ≡ C.read (caseOf text) line place
+  pub reads : readCase text ≡ found (caseOf text)
   pub head : o .header ≡ caseOf text .head
   pub planned : o .«plan_line» ≡ caseOf text .planLine
   pub finds : Finds text (caseOf text) work initial (o .plan .at) (o .nodes .at)
@@ -37,7 +35,7 @@ pub record Opens (text : List ℕ) (o : Opened) (initial : ℕ) (work : List ℕ
 abbrev pub Unused : List ℕ → Type 0
 Unused work = drop directorySize work ≡ replicate (length work - directorySize) 0
 
-pub record Read (text : List ℕ) (o : Opened) (initial : ℕ) (states work : List ℕ) : Type 0 where
+pub record HasRead (text : List ℕ) (o : Opened) (initial : ℕ) (states work : List ℕ) : Type 0 where
   pub opens : Opens text o initial work
   pub stateRoom : stateNeed ≤ length states
   pub statesZero : states ≡ replicate (length states) 0
@@ -61,10 +59,8 @@ pub record Walked (text : List ℕ) (o : Opened) (states work : List ℕ) : Type
   pub opens : Opens text o initial work
   pub run : HasRun text states
   pub tree : Tree
-  pub past : ℕ
-  pub left : List NodeLine
   pub claimed : List ℕ
-  pub walks : walkTree (caseOf text) (mayClaim (caseOf text .plan)) ≡ Walk.walked tree past left claimed
+  pub walks : walkTree (caseOf text) (mayClaim (caseOf text .plan)) ≡ found (tree, claimed)
   pub rowed : take (3 * size tree) (rowsIn work) ≡ rows tree 0
   pub marked : marksIn (caseOf text .head .cues) work ≡ marksOf (caseOf text .head .cues) claimed
 

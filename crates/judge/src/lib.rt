@@ -2,10 +2,11 @@
 // the node records, which the call then gathers into the node list.
 ghost use mathlib.Core.Path.{_≡_};
 ghost use lib.ListN.{length, replicate};
-ghost use Rattle.rules.specs.Verdict.{check, checkLists, answerOf, statesAfter, judgeText, judgeRun, judgeTree};
+ghost use Rattle.rules.specs.Verdict.{check, checkLists, answerOf, statesAfter};
+ghost use Rattle.rules.proofs.Judgement.Rows.{fromText, fromRun, fromTree};
 ghost use Rattle.records.specs.Records.{RecordsHeld};
 ghost use Rattle.reading.specs.TheCase.{caseOf};
-ghost use Rattle.judge.specs.Phases.{Cleared, Read, Ran as HasRun, Walked, Claimed};
+ghost use Rattle.judge.specs.Phases.{Cleared, HasRead, Ran as HasRun, Walked, Claimed};
 use constraints::Kept;
 use reading::CaseRead;
 use reading::DIRECTORY;
@@ -41,9 +42,9 @@ fn refuse(states: &mut [u64], answer: Answer) -> Answer
 // Rows 10 to 13, of a tree whose positions are all claimed; then the records.
 fn judge_constraints(text: &[u8], o: Opened, states: &mut [u64], work: &mut [u32]) -> Answer
     requires { ⌜ Claimed (now text) o (now states) (now work) ⌝ }
-    ensures answer { λ r. ⌜ r ≡ answerOf (judgeTree (caseOf (now (text .entry)))) ⌝ }
-    ensures states { λ r. ⌜ now (states .exit) ≡ statesAfter (length (now (states .entry))) (judgeTree (caseOf (now (text .entry)))) ⌝ }
-    ensures work { λ r. ⌜ RecordsHeld (judgeTree (caseOf (now (text .entry)))) (now (work .exit)) ⌝ }
+    ensures answer { λ r. ⌜ r ≡ answerOf (fromTree (caseOf (now (text .entry)))) ⌝ }
+    ensures states { λ r. ⌜ now (states .exit) ≡ statesAfter (length (now (states .entry))) (fromTree (caseOf (now (text .entry)))) ⌝ }
+    ensures work { λ r. ⌜ RecordsHeld (fromTree (caseOf (now (text .entry)))) (now (work .exit)) ⌝ }
 {
     let header = o.header;
     let nodes = o.nodes;
@@ -63,9 +64,9 @@ fn judge_constraints(text: &[u8], o: Opened, states: &mut [u64], work: &mut [u32
 // Row 9, of a tree that is right; then the rest.
 fn judge_claims(text: &[u8], o: Opened, states: &mut [u64], work: &mut [u32]) -> Answer
     requires { ⌜ Walked (now text) o (now states) (now work) ⌝ }
-    ensures answer { λ r. ⌜ r ≡ answerOf (judgeTree (caseOf (now (text .entry)))) ⌝ }
-    ensures states { λ r. ⌜ now (states .exit) ≡ statesAfter (length (now (states .entry))) (judgeTree (caseOf (now (text .entry)))) ⌝ }
-    ensures work { λ r. ⌜ RecordsHeld (judgeTree (caseOf (now (text .entry)))) (now (work .exit)) ⌝ }
+    ensures answer { λ r. ⌜ r ≡ answerOf (fromTree (caseOf (now (text .entry)))) ⌝ }
+    ensures states { λ r. ⌜ now (states .exit) ≡ statesAfter (length (now (states .entry))) (fromTree (caseOf (now (text .entry)))) ⌝ }
+    ensures work { λ r. ⌜ RecordsHeld (fromTree (caseOf (now (text .entry)))) (now (work .exit)) ⌝ }
 {
     let header = o.header;
     match tree::least_unclaimed(work, header.cues) {
@@ -83,9 +84,9 @@ fn judge_claims(text: &[u8], o: Opened, states: &mut [u64], work: &mut [u32]) ->
 // Rows 6 to 8, of a plan that runs; then the rest.
 fn judge_nodes(text: &[u8], o: Opened, states: &mut [u64], work: &mut [u32]) -> Answer
     requires { ⌜ HasRun (now text) o (now states) (now work) ⌝ }
-    ensures answer { λ r. ⌜ r ≡ answerOf (judgeTree (caseOf (now (text .entry)))) ⌝ }
-    ensures states { λ r. ⌜ now (states .exit) ≡ statesAfter (length (now (states .entry))) (judgeTree (caseOf (now (text .entry)))) ⌝ }
-    ensures work { λ r. ⌜ RecordsHeld (judgeTree (caseOf (now (text .entry)))) (now (work .exit)) ⌝ }
+    ensures answer { λ r. ⌜ r ≡ answerOf (fromTree (caseOf (now (text .entry)))) ⌝ }
+    ensures states { λ r. ⌜ now (states .exit) ≡ statesAfter (length (now (states .entry))) (fromTree (caseOf (now (text .entry)))) ⌝ }
+    ensures work { λ r. ⌜ RecordsHeld (fromTree (caseOf (now (text .entry)))) (now (work .exit)) ⌝ }
 {
     let header = o.header;
     let plan = o.plan;
@@ -105,10 +106,10 @@ fn judge_run(
     states: &mut [u64],
     work: &mut [u32],
 ) -> Answer
-    requires { ⌜ Read (now text) o (initial .at) (now states) (now work) ⌝ }
-    ensures answer { λ r. ⌜ r ≡ answerOf (judgeRun judgeTree (caseOf (now (text .entry)))) ⌝ }
-    ensures states { λ r. ⌜ now (states .exit) ≡ statesAfter (length (now (states .entry))) (judgeRun judgeTree (caseOf (now (text .entry)))) ⌝ }
-    ensures work { λ r. ⌜ RecordsHeld (judgeRun judgeTree (caseOf (now (text .entry)))) (now (work .exit)) ⌝ }
+    requires { ⌜ HasRead (now text) o (initial .at) (now states) (now work) ⌝ }
+    ensures answer { λ r. ⌜ r ≡ answerOf (fromRun fromTree (caseOf (now (text .entry)))) ⌝ }
+    ensures states { λ r. ⌜ now (states .exit) ≡ statesAfter (length (now (states .entry))) (fromRun fromTree (caseOf (now (text .entry)))) ⌝ }
+    ensures work { λ r. ⌜ RecordsHeld (fromRun fromTree (caseOf (now (text .entry)))) (now (work .exit)) ⌝ }
 {
     let header = o.header;
     let plan = o.plan;
@@ -128,9 +129,9 @@ fn judge_run(
 // Rows 3 and 4, with lists that are long enough and a text that is not too long; then the rest.
 fn judge_lent(text: &[u8], states: &mut [u64], work: &mut [u32]) -> Answer
     requires { ⌜ Cleared (now text) (now states) (now work) ⌝ }
-    ensures answer { λ r. ⌜ r ≡ answerOf (judgeText judgeTree (now (text .entry))) ⌝ }
-    ensures states { λ r. ⌜ now (states .exit) ≡ statesAfter (length (now (states .entry))) (judgeText judgeTree (now (text .entry))) ⌝ }
-    ensures work { λ r. ⌜ RecordsHeld (judgeText judgeTree (now (text .entry))) (now (work .exit)) ⌝ }
+    ensures answer { λ r. ⌜ r ≡ answerOf (fromText fromTree (now (text .entry))) ⌝ }
+    ensures states { λ r. ⌜ now (states .exit) ≡ statesAfter (length (now (states .entry))) (fromText fromTree (now (text .entry))) ⌝ }
+    ensures work { λ r. ⌜ RecordsHeld (fromText fromTree (now (text .entry))) (now (work .exit)) ⌝ }
 {
     match reading::read_case(text, &mut work[..DIRECTORY]) {
         CaseRead::Case {

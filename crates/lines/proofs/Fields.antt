@@ -11,7 +11,7 @@ use lib.ListN.{length}
 use Rattle.rules.specs.declared.Header.{Header}
 use Rattle.rules.specs.Text.{Number, number, notPlain, missing, numberAt, Letter, letter, noLetter, letterAt, Ending, ended, surplus, endingAt, feedFollows}
 use Rattle.rules.specs.Table as T
-use Rattle.rules.specs.Table.{Role, Item, one, Row, rowOf, roleNumber, inRange, Value, scalar, members, numberOf, ItemRead, item, followTaken, withMember, leastAfter, readMembers, readList, readItem, LineRead, line, followItem, withValue, finishLine, readItems, readRow, readLetter, readLine}
+use Rattle.rules.specs.Table.{Role, Item, one, Row, rowOf, roleNumber, inRange, Value, scalar, listed, numberOf, ItemRead, item, followTaken, withMember, leastAfter, readMembers, readList, readItem, LineRead, line, followItem, withValue, finishLine, readItems, readRow, readLetter, readLine}
 use Rattle.text.proofs.Laws.{number-next, letter-next, ending-next}
 
 -- A line from `start` on: read, it takes a byte at least and stays in the text; refused, its field's number is bounded.
@@ -32,21 +32,21 @@ module _ (text : List ℕ) where
 
   module _ (start : ℕ) where
     taken-within : (ok : ℕ → Bool) (field place : ℕ) (rest : ℕ → ℕ → ItemRead) → Ahead start field place
-        → ((v next : ℕ) → Ahead start (field + 1) next → ItemWithin start (rest v next)) → ItemWithin start (followTaken (T.take ok (numberAt text place)) field rest)
+        → ((v next : ℕ) → Ahead start (field + 1) next → ItemWithin start (rest v next)) → ItemWithin start (followTaken (T.within ok (numberAt text place)) field rest)
     taken-within ok field place rest a f = go (numberAt text place) refl
       where
         chosen : (v next : ℕ) → Ahead start (field + 1) next → (b : Bool) → ItemWithin start (followTaken (elim b [ true ↦ T.taken v next | false ↦ T.out ]) field rest)
         chosen v next h true = f v next h
         chosen v next h false = omega arith
 
-        go : (x : Number) → numberAt text place ≡ x → ItemWithin start (followTaken (T.take ok x) field rest)
+        go : (x : Number) → numberAt text place ≡ x → ItemWithin start (followTaken (T.within ok x) field rest)
         go (number v next) e = let p = number-next text place e in chosen v next (omega arith) (ok v)
         go notPlain e = omega arith
         go missing e = omega arith
 
     member-within : (v : ℕ) (r : ItemRead) → ItemWithin start r → ItemWithin start (withMember v r)
     member-within v (item (scalar w) field next) h = h
-    member-within v (item (members vs) field next) h = h
+    member-within v (item (listed vs) field next) h = h
     member-within v (ItemRead.unreadable field) h = h
     member-within v (ItemRead.outside field) h = h
 

@@ -9,7 +9,7 @@ use lib.ListN.{length}
 use Rattle.rules.specs.Text.{number, notPlain, missing, numberAt}
 use Rattle.rules.specs.Text.{Number as FieldNumber}
 use Rattle.rules.specs.Table as T
-use Rattle.rules.specs.Table.{scalar, members, item, take, followTaken, withMember, leastAfter, readMembers}
+use Rattle.rules.specs.Table.{scalar, listed, item, within, followTaken, withMember, leastAfter, readMembers}
 use Rattle.text.specs.declared.Cursor.{Cursor}
 use Rattle.text.specs.declared.Field.{Field}
 use Rattle.text.specs.declared.Field.the-variants.{Number as ReadNumber, NotPlain, Missing}
@@ -26,7 +26,7 @@ takenBy ok (ReadNumber v d) = elim (ok v) [ true ↦ Number v d | false ↦ Out 
 takenBy ok NotPlain = NoNumber
 takenBy ok Missing = NoNumber
 
-take-field : (ok : ℕ → Bool) (x : FieldNumber) → takenBy ok (asField x) ≡ asTaken (take ok x)
+take-field : (ok : ℕ → Bool) (x : FieldNumber) → takenBy ok (asField x) ≡ asTaken (within ok x)
 take-field ok (number v n) = go (ok v)
   where
     go : (b : Bool) → elim b as (λ t. Taken) [ true ↦ Number v (cursor n) | false ↦ Out ] ≡ asTaken (elim b [ true ↦ T.taken v n | false ↦ T.out ])
@@ -36,7 +36,7 @@ take-field ok notPlain = refl
 take-field ok missing = refl
 
 -- The field that was read, with what its range said.
-pub take-read : (ok : ℕ → Bool) (x : FieldNumber) {f : Field} {t : Taken} → f ≡ asField x → t ≡ takenBy ok f → t ≡ asTaken (take ok x)
+pub take-read : (ok : ℕ → Bool) (x : FieldNumber) {f : Field} {t : Taken} → f ≡ asField x → t ≡ takenBy ok f → t ≡ asTaken (within ok x)
 take-read ok x e q = q ∙ ap (takenBy ok) e ∙ take-field ok x
 
 pub taken-yes : (ok : ℕ → Bool) (v : ℕ) (d : Cursor) → ok v ≡ true → Number v d ≡ takenBy ok (ReadNumber v d)
@@ -46,7 +46,7 @@ pub taken-no : (ok : ℕ → Bool) (v : ℕ) (d : Cursor) → ok v ≡ false →
 taken-no ok v d e = ap (λ (b : Bool). elim b as (λ t. Taken) [ true ↦ Number v d | false ↦ Out ]) (sym e)
 
 -- Every number is at least 0.
-pub take-zero : (ok : ℕ → Bool) (x : FieldNumber) → take (λ v. leb 0 v && ok v) x ≡ take ok x
+pub take-zero : (ok : ℕ → Bool) (x : FieldNumber) → within (λ v. leb 0 v && ok v) x ≡ within ok x
 take-zero ok (number v n) = ap (λ (b : Bool). elim (b && ok v) as (λ t. T.Taken) [ true ↦ T.taken v n | false ↦ T.out ]) (leb·zero v)
 take-zero ok notPlain = refl
 take-zero ok missing = refl
@@ -70,13 +70,13 @@ follow-taken n t y field rest e =
 
 -- The same where the code asked for at least 0.
 pub follow-any : (ok : ℕ → Bool) (x : FieldNumber) (t : Taken) (field : ℕ) (rest : ℕ → ℕ → T.ItemRead)
-    → t ≡ asTaken (take (λ v. leb 0 v && ok v) x)
-    → collected 0 (followTaken (take ok x) field rest) ≡ onTaken t field (λ v d. collected 0 (rest v (d .at)))
-follow-any ok x t field rest e = follow-taken 0 t (take ok x) field rest (e ∙ ap asTaken (take-zero ok x))
+    → t ≡ asTaken (within (λ v. leb 0 v && ok v) x)
+    → collected 0 (followTaken (within ok x) field rest) ≡ onTaken t field (λ v d. collected 0 (rest v (d .at)))
+follow-any ok x t field rest e = follow-taken 0 t (within ok x) field rest (e ∙ ap asTaken (take-zero ok x))
 
 collected-member : (n : ℕ) (v : ℕ) (r : T.ItemRead) → collected n (withMember v r) ≡ collected (n + 1) r
 collected-member n v (item (scalar w) field next) = refl
-collected-member n v (item (members vs) field next) =
+collected-member n v (item (listed vs) field next) =
     let e : n + suc (length vs) ≡ n + 1 + length vs = omega arith in
     ap (λ (k : ℕ). Done k field (cursor next)) e
 collected-member n v (T.ItemRead.unreadable field) = refl
@@ -92,12 +92,12 @@ module _ (text : List ℕ) (ok : ℕ → Bool) (ascending : Bool) where
   onMember n left field Out = refl
 
   pub members-next : (n : ℕ) (count left low field place : ℕ) (t : Taken) → count ≡ suc left
-      → t ≡ asTaken (take (λ v. leb low v && ok v) (numberAt text place))
+      → t ≡ asTaken (within (λ v. leb low v && ok v) (numberAt text place))
       → collected n (readMembers text ok ascending count low field place)
       ≡ onTaken t field (λ v d. collected (n + 1) (readMembers text ok ascending left (leastAfter ascending v) (field + 1) (d .at)))
   members-next n count left low field place t e q =
       ap (λ (c : ℕ). collected n (readMembers text ok ascending c low field place)) e
-      ∙ follow-taken n t (take (λ v. leb low v && ok v) (numberAt text place)) field
+      ∙ follow-taken n t (within (λ v. leb low v && ok v) (numberAt text place)) field
       (λ v next. withMember v (readMembers text ok ascending left (leastAfter ascending v) (field + 1) next)) q
       ∙ onMember n left field t
 
@@ -110,7 +110,7 @@ module _ (text : List ℕ) (ok : ℕ → Bool) (ascending : Bool) where
       λ j. collected 0 (readMembers text ok ascending (c j) 0 (f j) place)
 
   pub members-again : (n : ℕ) (count left low field place v : ℕ) (d : Cursor) {low′ field′ : ℕ} → count ≡ suc left
-      → Number v d ≡ asTaken (take (λ w. leb low w && ok w) (numberAt text place))
+      → Number v d ≡ asTaken (within (λ w. leb low w && ok w) (numberAt text place))
       → low′ ≡ leastAfter ascending v → field′ ≡ field + 1
       → collected n (readMembers text ok ascending count low field place)
       ≡ collected (n + 1) (readMembers text ok ascending left low′ field′ (d .at))

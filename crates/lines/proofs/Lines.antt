@@ -14,7 +14,7 @@ use lib.Seq.{getD-take, getD-set-other, take-suc-set}
 use Rattle.rules.specs.declared.Header.{Header}
 use Rattle.rules.specs.Text.{Ending, ended, surplus, numberAt}
 use Rattle.rules.specs.Table as T
-use Rattle.rules.specs.Table.{Kind, Item, one, inRange, scalar, members, numberOf, item, followTaken, readMembers, readList, readItem, followItem, withValue, readItems, withMember, leastAfter}
+use Rattle.rules.specs.Table.{Kind, Item, one, inRange, scalar, listed, numberOf, item, followTaken, readMembers, readList, readItem, followItem, withValue, readItems, withMember, leastAfter}
 use Rattle.text.specs.declared.Cursor.{Cursor}
 use Rattle.text.specs.declared.Ending.{Ending as LineEnd}
 use Rattle.text.specs.declared.Ending.the-variants.{Line, Surplus}
@@ -43,8 +43,8 @@ follow-item : (i : ℕ) (before : List ℕ) (y : T.ItemRead) (rest : ℕ → ℕ
     ≡ onItem (asOutcome y) (λ m after d. stored (suc i) (set before i m) (rest m after (d .at)))
 unfolding asOutcome
 follow-item i before (item (scalar v) field next) rest = stored-value i before (scalar v) (rest v field next)
-follow-item i before (item (members vs) field next) rest =
-    stored-value i before (members vs) (rest (length vs) field next)
+follow-item i before (item (listed vs) field next) rest =
+    stored-value i before (listed vs) (rest (length vs) field next)
     ∙ ap (λ (m : ℕ). stored (suc i) (set before i m) (rest m field next)) (sym (zero-add (length vs)))
 follow-item i before (T.ItemRead.unreadable field) rest = refl
 follow-item i before (T.ItemRead.outside field) rest = refl
@@ -75,7 +75,7 @@ module _ (h : Header) (n : ℕ) (before values : List ℕ) (same : (j : ℕ) →
   pub item-same : (text : List ℕ) (i : Item) (field place : ℕ) → readItem text h n before i field place ≡ readItem text h n values i field place
   unfolding readItem
   item-same text (one kind) field place =
-      ap (λ (r : Kind → ℕ → Bool). followTaken (T.take (r kind) (numberAt text place)) field (λ v next. item (scalar v) (field + 1) next)) range-same
+      ap (λ (r : Kind → ℕ → Bool). followTaken (T.within (r kind) (numberAt text place)) field (λ v next. item (scalar v) (field + 1) next)) range-same
   item-same text T.set field place = ap (λ (r : Kind → ℕ → Bool). readList text (r T.memberCount) (r T.proposition) true field place) range-same
   item-same text T.subtaskList field place = ap (λ (r : Kind → ℕ → Bool). readList text (r (T.upTo 32)) (r T.task) false field place) range-same
   item-same text T.cues field place = ap (λ (r : Kind → ℕ → Bool). readMembers text (r T.anAction) false (h .cues) 0 field place) range-same
@@ -155,13 +155,13 @@ module _ (text : List ℕ) (h : Header) (n l : ℕ) where
 -- A list counts a field for each member.
 abbrev CountsMembers : ℕ → T.ItemRead → Type 0
 CountsMembers field (item (scalar v) after next) = ⊥
-CountsMembers field (item (members vs) after next) = after ≡ field + length vs
+CountsMembers field (item (listed vs) after next) = after ≡ field + length vs
 CountsMembers field (T.ItemRead.unreadable f) = Unit {0}
 CountsMembers field (T.ItemRead.outside f) = Unit {0}
 
 counts-member : (field v : ℕ) (r : T.ItemRead) → CountsMembers (field + 1) r → CountsMembers field (withMember v r)
 counts-member field v (item (scalar w) after next) h = h
-counts-member field v (item (members vs) after next) h = omega arith
+counts-member field v (item (listed vs) after next) h = omega arith
 counts-member field v (T.ItemRead.unreadable f) h = tt
 counts-member field v (T.ItemRead.outside f) h = tt
 
@@ -173,7 +173,7 @@ counts-taken field T.out rest h = tt
 counts-members : (text : List ℕ) (ok : ℕ → Bool) (ascending : Bool) (count low field place : ℕ) → CountsMembers field (readMembers text ok ascending count low field place)
 counts-members text ok ascending zero low field place = omega arith
 counts-members text ok ascending (suc count) low field place =
-    counts-taken field (T.take (λ v. leb low v && ok v) (numberAt text place))
+    counts-taken field (T.within (λ v. leb low v && ok v) (numberAt text place))
     (λ v next. withMember v (readMembers text ok ascending count (leastAfter ascending v) (field + 1) next))
     (λ v next. counts-member field v (readMembers text ok ascending count (leastAfter ascending v) (field + 1) next)
     (counts-members text ok ascending count (leastAfter ascending v) (field + 1) next))
@@ -186,13 +186,13 @@ Counts field (T.ItemRead.outside f) = Unit {0}
 
 counts-list : (field : ℕ) (r : T.ItemRead) → CountsMembers (field + 1) r → Counts field r
 counts-list field (item (scalar v) after next) h = absurd h
-counts-list field (item (members vs) after next) h = omega arith
+counts-list field (item (listed vs) after next) h = omega arith
 counts-list field (T.ItemRead.unreadable f) h = tt
 counts-list field (T.ItemRead.outside f) h = tt
 
 counts-cues : (field : ℕ) (r : T.ItemRead) → CountsMembers field r → Counts field r
 counts-cues field (item (scalar v) after next) h = absurd h
-counts-cues field (item (members vs) after next) h = omega arith
+counts-cues field (item (listed vs) after next) h = omega arith
 counts-cues field (T.ItemRead.unreadable f) h = tt
 counts-cues field (T.ItemRead.outside f) h = tt
 
@@ -204,13 +204,13 @@ counts-follow field T.out rest h = tt
 counts-item : (text : List ℕ) (h : Header) (n : ℕ) (before : List ℕ) (i : Item) (field place : ℕ) → Counts field (readItem text h n before i field place)
 unfolding readItem readList
 counts-item text h n before (one kind) field place =
-    counts-follow field (T.take (inRange h n before kind) (numberAt text place)) (λ v next. item (scalar v) (field + 1) next) (λ v next. omega arith)
+    counts-follow field (T.within (inRange h n before kind) (numberAt text place)) (λ v next. item (scalar v) (field + 1) next) (λ v next. omega arith)
 counts-item text h n before T.set field place =
-    counts-follow field (T.take (inRange h n before T.memberCount) (numberAt text place))
+    counts-follow field (T.within (inRange h n before T.memberCount) (numberAt text place))
     (λ c next. readMembers text (inRange h n before T.proposition) true c 0 (field + 1) next)
     (λ c next. counts-list field (readMembers text (inRange h n before T.proposition) true c 0 (field + 1) next) (counts-members text (inRange h n before T.proposition) true c 0 (field + 1) next))
 counts-item text h n before T.subtaskList field place =
-    counts-follow field (T.take (inRange h n before (T.upTo 32)) (numberAt text place))
+    counts-follow field (T.within (inRange h n before (T.upTo 32)) (numberAt text place))
     (λ c next. readMembers text (inRange h n before T.task) false c 0 (field + 1) next)
     (λ c next. counts-list field (readMembers text (inRange h n before T.task) false c 0 (field + 1) next) (counts-members text (inRange h n before T.task) false c 0 (field + 1) next))
 counts-item text h n before T.cues field place =
@@ -221,7 +221,7 @@ counts-outcome : (field : ℕ) (y : T.ItemRead) (v after : ℕ) (d : Cursor) →
 unfolding asOutcome
 counts-outcome field (item (scalar w) f next) v after d h e =
     let same : w ≡ v = cc in let last : after ≡ f = cc in omega arith
-counts-outcome field (item (members vs) f next) v after d h e =
+counts-outcome field (item (listed vs) f next) v after d h e =
     let same : 0 + length vs ≡ v = cc in let last : after ≡ f = cc in omega arith
 counts-outcome field (T.ItemRead.unreadable f) v after d h e = let z : _≡_ {A = ℕ} 0 1 = cc in absurd (omega arith)
 counts-outcome field (T.ItemRead.outside f) v after d h e = let z : _≡_ {A = ℕ} 0 1 = cc in absurd (omega arith)

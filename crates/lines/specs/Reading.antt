@@ -5,7 +5,7 @@ use Prim.Native.Nat.{ℕ, _+_}
 use lib.ListN.{length}
 use lib.Seq.{sets}
 use Rattle.rules.specs.Table as T
-use Rattle.rules.specs.Table.{scalar, members, item}
+use Rattle.rules.specs.Table.{scalar, listed, item}
 use Rattle.text.specs.Cursor.{cursor}
 use Rattle.lines.specs.Shapes.{kindOf}
 use Rattle.lines.specs.declared.range.Context.{Context}
@@ -34,7 +34,7 @@ asTaken T.out = Out
 -- An item that is read: its number, or n and as many as its members.
 abbrev pub collected : ℕ → T.ItemRead → Outcome
 collected n (item (scalar v) field next) = Done v field (cursor next)
-collected n (item (members vs) field next) = Done (n + length vs) field (cursor next)
+collected n (item (listed vs) field next) = Done (n + length vs) field (cursor next)
 collected n (T.ItemRead.unreadable field) = Bad field
 collected n (T.ItemRead.outside field) = Range field
 

@@ -4,7 +4,7 @@ ghost use mathlib.Core.Bool.{_&&_};
 ghost use Prim.Native.Nat.{_<_, _^_};
 ghost use lib.Dec.{leb, eqb};
 ghost use Rattle.rules.specs.Text.{numberAt};
-ghost use Rattle.rules.specs.Table.{one, take, leastAfter, readMembers, readList};
+ghost use Rattle.rules.specs.Table.{one, within, leastAfter, readMembers, readList};
 ghost use Rattle.lines.specs.Shapes.{kindOf, itemOf};
 ghost use Rattle.lines.specs.Reading.{inKind, readItemIn, asTaken, asOutcome, collected};
 use crate::range;
@@ -57,7 +57,7 @@ fn take_number(
     kind: u64,
     low: u64,
 ) -> Taken
-    ensures { λ r. ⌜ r ≡ asTaken (take (λ v. leb low v && inKind x (now (before .entry)) kind v) (numberAt (now (text .entry)) (c .at))) ⌝ }
+    ensures { λ r. ⌜ r ≡ asTaken (within (λ v. leb low v && inKind x (now (before .entry)) kind v) (numberAt (now (text .entry)) (c .at))) ⌝ }
 {
     match c.number(text) {
         Field::Number { value, next } => {

@@ -16,7 +16,8 @@ use Rattle.rules.proofs.Spans.{hull-one}
 use Rattle.tree.specs.Layout.{planFrom}
 use Rattle.parts.specs.States.{inRow}
 use Rattle.parts.specs.Spans.{rowSpan, nodesIn, subtaskSpan, spansIn, SubtaskInside}
-use Rattle.parts.specs.Tests.{numbered, Tested}
+use Rattle.parts.specs.Tests.{Tested}
+use Rattle.rules.specs.Case.{constraintOf}
 use Rattle.parts.proofs.Parts.{length-nodes}
 
 -- ---- the letter
@@ -31,20 +32,20 @@ abbrev byO : ℕ → ℕ → ℕ → ℕ → Bool → Constraint
 byO l x y z b = elim b [ true ↦ O x y | false ↦ byB l x y z (eqb l 66) ]
 
 module _ (l x y z : ℕ) where
-  pub numbered-O : l ≡ 79 → numbered l x y z ≡ O x y
-  unfolding numbered
+  pub numbered-O : l ≡ 79 → constraintOf l x y z ≡ O x y
+  unfolding constraintOf
   numbered-O e = ap (byO l x y z) (eq-eqb l 79 e)
 
-  pub numbered-B : l ≢ 79 → l ≡ 66 → numbered l x y z ≡ B x y
-  unfolding numbered
+  pub numbered-B : l ≢ 79 → l ≡ 66 → constraintOf l x y z ≡ B x y
+  unfolding constraintOf
   numbered-B n e = ap (byO l x y z) (ne-eqb l 79 n) ∙ ap (byB l x y z) (eq-eqb l 66 e)
 
-  pub numbered-F : l ≢ 79 → l ≢ 66 → l ≡ 70 → numbered l x y z ≡ F x y
-  unfolding numbered
+  pub numbered-F : l ≢ 79 → l ≢ 66 → l ≡ 70 → constraintOf l x y z ≡ F x y
+  unfolding constraintOf
   numbered-F n m e = ap (byO l x y z) (ne-eqb l 79 n) ∙ ap (byB l x y z) (ne-eqb l 66 m) ∙ ap (byF x y z) (eq-eqb l 70 e)
 
-  pub numbered-W : l ≢ 79 → l ≢ 66 → l ≢ 70 → numbered l x y z ≡ W x y z
-  unfolding numbered
+  pub numbered-W : l ≢ 79 → l ≢ 66 → l ≢ 70 → constraintOf l x y z ≡ W x y z
+  unfolding constraintOf
   numbered-W n m o = ap (byO l x y z) (ne-eqb l 79 n) ∙ ap (byB l x y z) (ne-eqb l 66 m) ∙ ap (byF x y z) (ne-eqb l 70 o)
 
 -- What the test reads, once the letter is known.

@@ -1,8 +1,6 @@
--- The constraint of a line's letter and numbers, and what its test reads of the lists. Assumes nothing.
-use mathlib.Core.Bool.{true, false}
+-- What the test of a constraint reads of the lists. Assumes nothing.
 use mathlib.Core.List.{List}
 use Prim.Native.Nat.{ℕ, _+_, _*_, _≤_}
-use lib.Dec.{eqb}
 use lib.ListN.{length}
 use Rattle.rules.specs.State.{wordCount}
 use Rattle.rules.specs.Index.{Span, partOf, spanOfPart, c, f}
@@ -10,14 +8,6 @@ use Rattle.rules.specs.Case.{Constraint, O, B, F, W}
 use Rattle.rules.proofs.Judgement.Each.{Each}
 use Rattle.subsets.specs.Members.{membersOf}
 use Rattle.parts.specs.Spans.{spansIn, SubtaskInside}
-
--- "O,i,j (i before j, i ≠ j, both subtask numbers); B,p,U (before); F,p,U (after); W,U,p,V (between)."
-unfoldable pub numbered : ℕ → ℕ → ℕ → ℕ → Constraint
-numbered letter first second third =
-    elim (eqb letter 79) [
-      | true ↦ O first second
-      | false ↦ elim (eqb letter 66) [ true ↦ B first second | false ↦ elim (eqb letter 70) [ true ↦ F first second | false ↦ W first second third ] ]
-    ]
 
 -- The states around a span lie inside the state list.
 pub record Timed (words : List ℕ) (s : Span) : Type 0 where

@@ -9,7 +9,8 @@ ghost use Rattle.index.specs.Spans.{spanOf};
 ghost use Rattle.tree.specs.Layout.{planFrom};
 ghost use Rattle.parts.specs.States.{inRow};
 ghost use Rattle.parts.specs.Spans.{spansIn};
-ghost use Rattle.parts.specs.Tests.{Timed, Tested, numbered};
+ghost use Rattle.parts.specs.Tests.{Timed, Tested};
+ghost use Rattle.rules.specs.Case.{constraintOf};
 use crate::spans::span_of_set;
 use crate::spans::subtask_span;
 use crate::states::holds_from;
@@ -51,8 +52,8 @@ pub fn keeps(
     third: u32,
 ) -> bool
     requires { ⌜ planFrom ≤ length (now work) ⌝ }
-    requires { ⌜ Tested (now work) (now states) (spanOf own) (numbered letter first second third) ⌝ }
-    ensures { λ r. ⌜ r ≡ keeps (inRow (now (states .entry))) (spanOfPart (spanOf own) (spansIn (now (work .entry)))) (numbered letter first second third) ⌝ }
+    requires { ⌜ Tested (now work) (now states) (spanOf own) (constraintOf letter first second third) ⌝ }
+    ensures { λ r. ⌜ r ≡ keeps (inRow (now (states .entry))) (spanOfPart (spanOf own) (spansIn (now (work .entry)))) (constraintOf letter first second third) ⌝ }
 {
     if letter == b'O' {
         return subtask_span(work, first).is_before(subtask_span(work, second));

@@ -2,7 +2,8 @@
 ghost use mathlib.Core.Path.{_≡_};
 ghost use Prim.Native.Nat.{_≤_};
 ghost use lib.ListN.{length, drop};
-ghost use Rattle.rules.specs.Verdict.{printedReport};
+ghost use Rattle.rules.specs.Line.{printedReport};
+ghost use Rattle.capi.specs.Replies.{reportOf};
 use capi::Reply;
 use libc::STDOUT_FILENO;
 use report::LONGEST;
@@ -10,7 +11,7 @@ use report::LONGEST;
 // The line of a reply, at the end of `out`; answers where it starts.
 fn line_of(r: Reply, out: &mut [u8]) -> usize
     requires { ⌜ 35 ≤ length (now out) ⌝ }
-    ensures { λ n. ⌜ drop n (now (out .exit)) ≡ printedReport (record { number = r .number; line = r .line; item = r .item; cues = r .cues; nodes = r .nodes }) ⌝ }
+    ensures { λ n. ⌜ drop n (now (out .exit)) ≡ printedReport (reportOf r) ⌝ }
     ensures { λ n. ⌜ n ≤ length (now (out .exit)) ⌝ }
 {
     report::line(r.number, r.line, r.item, r.cues, r.nodes, out)

@@ -9,7 +9,8 @@ use Rattle.rules.specs.declared.Header.{Header}
 use Rattle.rules.specs.declared.Answer.{Answer}
 use Rattle.rules.specs.Text.{feedFollows}
 use Rattle.rules.specs.Table as T
-use Rattle.rules.specs.Case.{Case, Valued, Read, read, follow, oneLine, headerOf, readBody, noHeader, readCase}
+use Rattle.rules.specs.Result.{Result, found, _>>=_}
+use Rattle.rules.specs.Case.{Case, Valued, Read, headerIn, headerOf, oneLine, readBody, noHeader, readFrom, readCase}
 use Rattle.rules.proofs.Judgement.Reading.{ReadSays, one-line-says}
 use Rattle.rules.proofs.Judgement.Sound.{GoodHeader, header-good}
 use Rattle.text.specs.declared.Cursor.{Cursor}
@@ -20,10 +21,10 @@ use Rattle.reading.specs.declared.CaseRead.the-variants.{Refused as Case
 use Rattle.reading.specs.declared.Spot.{Spot}
 use Rattle.reading.specs.declared.Group.the-variants.{Done, Refused}
 use Rattle.reading.specs.declared.Entry.{Entry}
-use Rattle.reading.specs.Directory.{ReadsAs}
-use Rattle.reading.specs.Groups.{entryOf, numbersOf, headerIn, Due}
+use Rattle.reading.specs.Directory.{ReadsAs, toTheEnd}
+use Rattle.reading.specs.Groups.{valuedLine, lineEntry, numbersOf, Due}
 use Rattle.reading.proofs.Stores.{header-in}
-use Rattle.reading.proofs.Turns.{got, entry-group, stays-line, due-next}
+use Rattle.reading.proofs.Turns.{got, turned, line-means, entry-group, stays-line, due-next}
 use Rattle.reading.proofs.Parts.{refuses}
 
 module _ (text : List ℕ) (past : ℕ) (h₀ : Header) (none : h₀ ≡ headerIn noValues) (c₀ : Cursor) (top : c₀ ≡ cursor 0) where
@@ -36,43 +37,47 @@ module _ (text : List ℕ) (past : ℕ) (h₀ : Header) (none : h₀ ≡ headerI
       record { feeds = feeds; short = short; inside = omega arith; counted = omega arith }
 
   abbrev first : Read Valued
-  first = oneLine text noHeader T.header 0 1 0
+  first = valuedLine text noHeader T.header 0 1 0
 
-  module _ (e : Entry) (q : e ≡ entryOf (oneLine text h₀ T.header 0 1 (c₀ .at))) where
-    settled : e ≡ entryOf first
+  -- The header that it is.
+  abbrev headed : Read Header
+  headed = oneLine text noHeader T.header 0 headerOf 1 0
+
+  module _ (e : Entry) (q : e ≡ lineEntry (valuedLine text h₀ T.header 0 1 (c₀ .at))) where
+    settled : e ≡ lineEntry first
     unfolding noHeader
-    settled = q ∙ λ j. entryOf (oneLine text (none j) T.header 0 1 (top j .at))
+    settled = q ∙ λ j. lineEntry (valuedLine text (none j) T.header 0 1 (top j .at))
 
     pub first-refused : (a : Answer) → e .group ≡ Refused a → (directory : List ℕ) → ReadsAs text (readCase text) (CaseRefused a) directory
-    unfolding readCase
+    unfolding readCase readFrom
     first-refused a d directory =
-        refuses text (readCase text) first (λ x n place. readBody text (headerOf (x .1)) n place) refl (e .group) (entry-group e first settled) a d directory
+        refuses text (readCase text) headed (λ (h, n, place). readBody text h n place) refl (e .group)
+        (entry-group e first settled ∙ sym (turned text noHeader T.header 0 headerOf 1 0)) a d directory
 
     module _ (s : Spot) (d : e .group ≡ Done s) (h : Header) (k : h ≡ headerIn (e .values)) where
-      line-is : (x : Valued) × (first ≡ read x (s .line) (s .start .at))
+      line-is : (x : Valued) × (first ≡ found (x, s .line, s .start .at))
       line-is = got first s (sym d ∙ entry-group e first settled)
 
-      header-is : h ≡ headerOf (line-is .0 .1)
+      header-is : h ≡ headerOf (line-is .0)
       header-is =
-          let values : e .values ≡ numbersOf (line-is .0 .1) = ap (λ (x : Entry). x .values) (settled ∙ ap entryOf (line-is .1)) in
-          k ∙ ap headerIn values ∙ header-in (line-is .0 .1)
+          let values : e .values ≡ numbersOf (line-is .0 .1) = ap (λ (x : Entry). x .values) (settled ∙ ap lineEntry (line-is .1)) in
+          k ∙ ap headerIn values ∙ header-in (line-is .0 .0) (line-is .0 .1)
+
+      headed-is : headed ≡ found (h, s .line, s .start .at)
+      headed-is = line-means text noHeader T.header 0 headerOf 1 0 (line-is .0) (s .line) (s .start .at) (line-is .1) ∙ ap (λ (x : Header). found (x, s .line, s .start .at)) (sym header-is)
 
       pub header-small : GoodHeader h
-      header-small =
-          subst GoodHeader (sym header-is)
-          (subst (ReadSays {A = Valued} (λ x. GoodHeader (headerOf (x .1)))) (line-is .1)
-          (one-line-says text noHeader T.header 0 1 0 (λ l vs. GoodHeader (headerOf vs)) header-good))
+      header-small = subst (ReadSays GoodHeader) headed-is (one-line-says text noHeader T.header 0 headerOf 1 0 GoodHeader header-good)
 
       pub body-due : Due text past start → Due text past s
       body-due due =
-          due-next text (oneLine text h₀ T.header 0) (stays-line text h₀ T.header 0) past start s (e .group) due d
-          (entry-group e (oneLine text h₀ T.header 0 1 (c₀ .at)) q)
+          due-next text (valuedLine text h₀ T.header 0) (stays-line text h₀ T.header 0 (λ x. x)) past start s (e .group) due d
+          (entry-group e (valuedLine text h₀ T.header 0 1 (c₀ .at)) q)
 
-      pub case-read : (r : CaseRead) (directory : List ℕ) → ReadsAs text (readBody text h (s .line) (s .start .at)) r directory
+      pub case-read : (r : CaseRead) (directory : List ℕ) → ReadsAs text (toTheEnd text (readBody text h (s .line) (s .start .at))) r directory
           → ReadsAs text (readCase text) r directory
-      unfolding readCase
+      unfolding readCase readFrom
       case-read r directory w =
-          let goes : readCase text ≡ readBody text h (s .line) (s .start .at) =
-          ap (λ (x : Read Valued). follow x (λ y n place. readBody text (headerOf (y .1)) n place)) (line-is .1)
-          ∙ ap (λ (y : Header). readBody text y (s .line) (s .start .at)) (sym header-is) in
-          subst (λ (x : Read Case). ReadsAs text x r directory) (sym goes) w
+          let goes : readCase text ≡ toTheEnd text (readBody text h (s .line) (s .start .at)) =
+          ap (λ (x : Read Header). toTheEnd text (x >>= λ (y, n, place). readBody text y n place)) headed-is in
+          subst (λ (x : Result Case). ReadsAs text x r directory) (sym goes) w

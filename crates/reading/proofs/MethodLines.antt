@@ -10,7 +10,7 @@ use lib.ListN.{length}
 use Rattle.rules.specs.declared.Header.{Header}
 use Rattle.rules.specs.Text.{Number, number, numberAt, letterAt, endingAt}
 use Rattle.rules.specs.Table as T
-use Rattle.rules.specs.Table.{Item, one, table, roleNumber, inRange, Value, scalar, members, numberOf, ItemRead, item, withMember, leastAfter, readMembers, readList, readItem, LineRead, withValue, readItems}
+use Rattle.rules.specs.Table.{Item, one, table, roleNumber, inRange, Value, scalar, listed, numberOf, ItemRead, item, withMember, leastAfter, readMembers, readList, readItem, LineRead, withValue, readItems}
 use Rattle.rules.specs.Case.{scalarAt}
 use Rattle.text.specs.declared.Cursor.{Cursor}
 use Rattle.text.specs.declared.Letter.the-variants.{Byte, Wrong}
@@ -53,13 +53,13 @@ method-are text c x y z at d p q s r e =
 -- A list of so many members that ends after so many numbers.
 abbrev Listed : List ℕ → ℕ → ℕ → Value → ℕ → Type 0
 Listed text count place (scalar v) next = ⊥
-Listed text count place (members vs) next = (length vs ≡ count) × (fieldFrom text count (cursor place) ≡ cursor next)
+Listed text count place (listed vs) next = (length vs ≡ count) × (fieldFrom text count (cursor place) ≡ cursor next)
 
 member-tells : (text : List ℕ) (count place v start : ℕ) → numberAt text place ≡ number v start → (r : ItemRead) → ItemTells (Listed text count start) r
     → ItemTells (Listed text (suc count) place) (withMember v r)
 unfolding fieldFrom
 member-tells text count place v start e (item (scalar w) field next) t = absurd t
-member-tells text count place v start e (item (members vs) field next) t =
+member-tells text count place v start e (item (listed vs) field next) t =
     (ap suc (t .0), ap (λ (x : Number). fieldFrom text count (numberOr (cursor place) x .next)) e ∙ t .1)
 member-tells text count place v start e (ItemRead.unreadable field) t = tt
 member-tells text count place v start e (ItemRead.outside field) t = tt
@@ -82,14 +82,14 @@ list-tells : (text : List ℕ) (count? ok : ℕ → Bool) (ascending : Bool) (fi
 unfolding readList
 list-tells text count? ok ascending field place =
     taken-tells (ListAt text place) count? (numberAt text place) field (λ count next. readMembers text ok ascending count 0 (field + 1) next)
-    (λ count next e. listed count next e (readMembers text ok ascending count 0 (field + 1) next) (members-tell text ok ascending count 0 (field + 1) next))
+    (λ count next e. gathered count next e (readMembers text ok ascending count 0 (field + 1) next) (members-tell text ok ascending count 0 (field + 1) next))
   where
-    listed : (count start : ℕ) → numberAt text place ≡ number count start → (r : ItemRead) → ItemTells (Listed text count start) r → ItemTells (ListAt text place) r
-    listed count start e (item (scalar w) f next) t = absurd t
-    listed count start e (item (members vs) f next) t =
+    gathered : (count start : ℕ) → numberAt text place ≡ number count start → (r : ItemRead) → ItemTells (Listed text count start) r → ItemTells (ListAt text place) r
+    gathered count start e (item (scalar w) f next) t = absurd t
+    gathered count start e (item (listed vs) f next) t =
         (start, e ∙ ap (λ (c : ℕ). number c start) (sym (t .0)), ap (λ (c : ℕ). fieldFrom text c (cursor start)) (t .0) ∙ t .1)
-    listed count start e (ItemRead.unreadable f) t = tt
-    listed count start e (ItemRead.outside f) t = tt
+    gathered count start e (ItemRead.unreadable f) t = tt
+    gathered count start e (ItemRead.outside f) t = tt
 
 -- The M line's items, read in turn, are what the code finds.
 method-told : (text : List ℕ) (l place p q : ℕ) (v u : Value) → numberAt text place ≡ number (numberOf v) p → ListAt text p u q

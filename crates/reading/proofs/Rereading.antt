@@ -9,7 +9,7 @@ use borrow.Author.Tests.{eqb-true}
 use lib.Dec.{eqb}
 use lib.ListN.{drop}
 use Rattle.rules.specs.declared.Header.{Header}
-use Rattle.rules.specs.Text.{Number, number, notPlain, missing, isFeed, isComma, numberOf as numberIn, fieldOf, numberAfter, numberAt, Letter, letter, noLetter, letterAt, Ending, ended, surplus, endingOf, endingAt, feedFollows}
+use Rattle.rules.specs.Text.{Number, number, notPlain, missing, isFeed, isComma, numberIn, fieldOf, numberAfter, numberAt, Letter, letter, noLetter, letterAt, Ending, ended, surplus, endingOf, endingAt, feedFollows}
 use Rattle.rules.specs.Table as T
 use Rattle.rules.specs.Table.{Role, Kind, Item, one, Row, table, rowIn, rowOf, roleNumber, inRange, taken, out, Value, scalar, numberOf, ItemRead, item, followTaken, readItem, LineRead, line, followItem, withValue, finishLine, readItems, readRow, readLetter, readLine}
 use Rattle.rules.specs.Case.{scalarAt}
@@ -150,7 +150,7 @@ item-then P Q (ItemRead.unreadable field) rest q f = tt
 item-then P Q (ItemRead.outside field) rest q f = tt
 
 pub taken-tells : (P : Value → ℕ → Type 0) (ok : ℕ → Bool) (x : Number) (field : ℕ) (rest : ℕ → ℕ → ItemRead)
-    → ((v next : ℕ) → x ≡ number v next → ItemTells P (rest v next)) → ItemTells P (followTaken (T.take ok x) field rest)
+    → ((v next : ℕ) → x ≡ number v next → ItemTells P (rest v next)) → ItemTells P (followTaken (T.within ok x) field rest)
 taken-tells P ok (number v next) field rest f = go (ok v)
   where
     go : (b : Bool) → ItemTells P (followTaken (elim b [ true ↦ taken v next | false ↦ out ]) field rest)

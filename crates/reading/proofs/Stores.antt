@@ -7,10 +7,10 @@ use native.Mathlib.Omega.{arith}
 use lib.ListN.{length, getD, set, length-set, length-map, List·getD-map, List·getD-eq-default}
 use lib.Seq.{sets, getD-set-same, getD-set-other}
 use Rattle.rules.specs.Table.{Value, scalar, numberOf}
-use Rattle.rules.specs.Case.{scalarAt, headerOf}
+use Rattle.rules.specs.Case.{scalarAt, headerIn, headerOf}
 use Rattle.lines.specs.Reading.{noValues}
 use Rattle.lines.proofs.Progress.{no-values}
-use Rattle.reading.specs.Groups.{numbersOf, headerIn}
+use Rattle.reading.specs.Groups.{numbersOf}
 
 -- ---- A run of stores
 
@@ -40,9 +40,8 @@ map-at f (x ∷ l) (suc i) d e h = map-at f l i d e (omega arith)
 
 -- ---- The numbers of a line
 
-pub numbers-at : (vs : List Value) (i : ℕ) → i < 7 → getD (numbersOf vs) i 0 ≡ scalarAt vs i
-unfolding scalarAt
-numbers-at vs i h = go (decLt i (length vs))
+numbers-is : (vs : List Value) (i : ℕ) → i < 7 → getD (numbersOf vs) i 0 ≡ numberOf (getD vs i (scalar 0))
+numbers-is vs i h = go (decLt i (length vs))
   where
     mapped : getD (map numberOf vs) i 0 ≡ numberOf (getD vs i (scalar 0))
     mapped = List·getD-map numberOf vs i (scalar 0)
@@ -56,15 +55,22 @@ numbers-at vs i h = go (decLt i (length vs))
         let n = length-map vs numberOf in
         sets-past noValues 0 i (map numberOf vs) (omega arith) ∙ no-values i (omega arith) ∙ ap numberOf (sym (List·getD-eq-default vs (scalar 0) (omega arith)))
 
-pub header-in : (vs : List Value) → headerIn (numbersOf vs) ≡ headerOf vs
+pub numbers-at : (vs : List Value) (i : ℕ) → i < 7 → getD (numbersOf vs) i 0 ≡ scalarAt vs i
+unfolding scalarAt
+numbers-at vs i h = numbers-is vs i h
+
+pub header-in : (l : ℕ) (vs : List Value) → headerIn (numbersOf vs) ≡ headerOf (l, vs)
 unfolding headerOf
-header-in vs =
+header-in l vs =
     λ j. record {
-      propositions = numbers-at vs 0 (omega arith) j;
-      actions = numbers-at vs 1 (omega arith) j;
-      compounds = numbers-at vs 2 (omega arith) j;
-      methods = numbers-at vs 3 (omega arith) j;
-      goal = numbers-at vs 4 (omega arith) j;
-      cues = numbers-at vs 5 (omega arith) j;
-      nodes = numbers-at vs 6 (omega arith) j;
+      propositions = same 0 (omega arith) j;
+      actions = same 1 (omega arith) j;
+      compounds = same 2 (omega arith) j;
+      methods = same 3 (omega arith) j;
+      goal = same 4 (omega arith) j;
+      cues = same 5 (omega arith) j;
+      nodes = same 6 (omega arith) j;
     }
+  where
+    same : (i : ℕ) → i < 7 → getD (numbersOf vs) i 0 ≡ getD (map numberOf vs) i 0
+    same i h = numbers-is vs i h ∙ sym (List·getD-map numberOf vs i (scalar 0))

@@ -2,9 +2,10 @@
 use mathlib.Core.Path.{_≡_, ap}
 use mathlib.Core.List.{List}
 use Prim.Native.Nat.{ℕ}
-use Rattle.rules.specs.Case.{Case, read, readCase}
+use Rattle.rules.specs.Result.{found}
+use Rattle.rules.specs.Case.{Case, readCase}
 use Rattle.reading.specs.TheCase.{caseIn, caseOf}
 
-pub case-is : (text : List ℕ) (k : Case) (n place : ℕ) → readCase text ≡ read k n place → caseOf text ≡ k
+pub case-is : (text : List ℕ) (k : Case) → readCase text ≡ found k → caseOf text ≡ k
 unfolding caseOf
-case-is text k n place e = ap caseIn e
+case-is text k e = ap caseIn e

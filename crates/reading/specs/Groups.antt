@@ -4,14 +4,15 @@ use mathlib.Core.Bool.{Bool, true, false}
 use mathlib.Core.List.{List, [], _∷_, map}
 use Prim.Native.Nat.{ℕ, zero, suc, _+_, _≤_}
 use lib.Dec.{ltb}
-use lib.ListN.{length, getD}
+use lib.ListN.{length}
 use lib.Seq.{sets}
 use Rattle.rules.specs.declared.Header.{Header}
 use Rattle.rules.specs.declared.Answer.{Answer}
 use Rattle.rules.specs.declared.Answer.the-variants.{Unreadable, OutOfRange}
 use Rattle.rules.specs.Text.{feedFollows}
 use Rattle.rules.specs.Table as T
-use Rattle.rules.specs.Case.{Valued, Read, read, refused, many}
+use Rattle.rules.specs.Result.{found, refused}
+use Rattle.rules.specs.Case.{Valued, Read, oneLine, many}
 use Rattle.text.specs.Cursor.{cursor}
 use Rattle.lines.specs.declared.line.Finish.{Finish}
 use Rattle.lines.specs.declared.line.Finish.the-variants.{Done as LineDone, Bad, Range}
@@ -39,27 +40,20 @@ afterLine n (Range field) = Refused (OutOfRange n field)
 
 -- Lines that are read, whatever they say.
 abbrev pub groupOf : {A : Type 0} → Read A → Group
-groupOf (read a n place) = Done (spot n place)
+groupOf (found (a, n, place)) = Done (spot n place)
 groupOf (refused r) = Refused r
+
+-- A line of a role as its letter and its values.
+abbrev pub valuedLine : List ℕ → Header → T.Role → ℕ → ℕ → ℕ → Read Valued
+valuedLine text h due s n place = oneLine text h due s (λ x. x) n place
 
 -- The number of each item of a line, or how many members it has.
 abbrev pub numbersOf : List T.Value → List ℕ
 numbersOf vs = sets noValues 0 (map T.numberOf vs)
 
-abbrev pub entryOf : Read Valued → Entry
-entryOf (read x n place) = record { group = Done (spot n place); values = numbersOf (x .1) }
-entryOf (refused r) = record { group = Refused r; values = noValues }
-
-abbrev pub headerIn : List ℕ → Header
-headerIn ns = record {
-  propositions = getD ns 0 0;
-  actions = getD ns 1 0;
-  compounds = getD ns 2 0;
-  methods = getD ns 3 0;
-  goal = getD ns 4 0;
-  cues = getD ns 5 0;
-  nodes = getD ns 6 0;
-}
+abbrev pub lineEntry : Read Valued → Entry
+lineEntry (found (x, n, place)) = record { group = Done (spot n place); values = numbersOf (x .1) }
+lineEntry (refused r) = record { group = Refused r; values = noValues }
 
 -- A line may be due at a spot: it is in the text, and since each line before it took a byte at least, its number and its fields' fit 32 bits.
 pub record Due (text : List ℕ) (past : ℕ) (at : Spot) : Type 0 where
@@ -70,7 +64,7 @@ pub record Due (text : List ℕ) (past : ℕ) (at : Spot) : Type 0 where
 
 -- The places where so many in turn are read, up to the first that is refused.
 abbrev pub placesNext : {A : Type 0} → Read A → ℕ → (ℕ → ℕ → List ℕ) → List ℕ
-placesNext (read a n place) here rest = here ∷ rest n place
+placesNext (found (a, n, place)) here rest = here ∷ rest n place
 placesNext (refused r) here rest = []
 
 abbrev pub places : {A : Type 0} → (ℕ → ℕ → Read A) → ℕ → ℕ → ℕ → List ℕ

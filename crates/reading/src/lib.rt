@@ -4,10 +4,10 @@ ghost use mathlib.Core.Path.{_≡_};
 ghost use Prim.Native.Nat.{_≤_};
 ghost use lib.ListN.{length};
 ghost use Rattle.rules.specs.Table as T;
-ghost use Rattle.rules.specs.Case.{oneLine, oneMethod, many, readBody, readCase};
+ghost use Rattle.rules.specs.Case.{headerIn, oneMethod, many, readBody, readCase};
 ghost use Rattle.lines.specs.Reading.{roleOf};
-ghost use Rattle.reading.specs.Directory.{methodsFrom, directorySize, ReadsAs};
-ghost use Rattle.reading.specs.Groups.{wholeCase, FieldBelow, afterLine, entryOf, groupOf, headerIn, Due, Listed};
+ghost use Rattle.reading.specs.Directory.{methodsFrom, directorySize, ReadsAs, toTheEnd};
+ghost use Rattle.reading.specs.Groups.{wholeCase, FieldBelow, afterLine, lineEntry, groupOf, valuedLine, Due, Listed};
 
 mod again;
 
@@ -89,7 +89,7 @@ fn after(finish: Finish, line: u32) -> Group
 // The line of role `due` that is due at a spot. `past` is the place past the text's last line feed.
 fn valued_line(text: &[u8], past: usize, at: Spot, due: Role, x: Context) -> Entry
     requires { ⌜ Due (now text) past at ⌝ }
-    ensures { λ r. ⌜ r ≡ entryOf (oneLine (now (text .entry)) (x .header) (roleOf due) (x .subtasks) (at .line) (at .start .at)) ⌝ }
+    ensures { λ r. ⌜ r ≡ lineEntry (valuedLine (now (text .entry)) (x .header) (roleOf due) (x .subtasks) (at .line) (at .start .at)) ⌝ }
 {
     let line = at.line;
     let read = lines::read_line(text, past, at.start, due, x);
@@ -104,7 +104,7 @@ fn valued_line(text: &[u8], past: usize, at: Spot, due: Role, x: Context) -> Ent
 // The same where the line's numbers are not asked for: they are not copied.
 fn one_line(text: &[u8], past: usize, at: Spot, due: Role, x: Context) -> Group
     requires { ⌜ Due (now text) past at ⌝ }
-    ensures { λ r. ⌜ r ≡ groupOf (oneLine (now (text .entry)) (x .header) (roleOf due) (x .subtasks) (at .line) (at .start .at)) ⌝ }
+    ensures { λ r. ⌜ r ≡ groupOf (valuedLine (now (text .entry)) (x .header) (roleOf due) (x .subtasks) (at .line) (at .start .at)) ⌝ }
 {
     let line = at.line;
     let read = lines::read_line(text, past, at.start, due, x);
@@ -115,7 +115,7 @@ fn one_line(text: &[u8], past: usize, at: Spot, due: Role, x: Context) -> Group
 // `count` lines of one role: the constraints of a method, or the nodes.
 fn lines_of(text: &[u8], past: usize, from: Spot, due: Role, x: Context, count: u32) -> Group
     requires { ⌜ Due (now text) past from ⌝ }
-    ensures { λ r. ⌜ r ≡ groupOf (many (oneLine (now (text .entry)) (x .header) (roleOf due) (x .subtasks)) count (from .line) (from .start .at)) ⌝ }
+    ensures { λ r. ⌜ r ≡ groupOf (many (valuedLine (now (text .entry)) (x .header) (roleOf due) (x .subtasks)) count (from .line) (from .start .at)) ⌝ }
 {
     let mut at = from;
     let mut i: u32 = 0;
@@ -169,7 +169,7 @@ fn place(at: Spot) -> u32
 fn actions(text: &[u8], past: usize, from: Spot, header: Header, directory: &mut [u32]) -> Group
     requires { ⌜ Due (now text) past from ⌝ }
     requires { ⌜ (header .actions ≤ 1024) × (3072 ≤ length (now directory)) ⌝ }
-    ensures { λ r. ⌜ Listed (oneLine (now (text .entry)) header T.action 0) (header .actions) from 0 (now (directory .entry)) r (now (directory .exit)) ⌝ }
+    ensures { λ r. ⌜ Listed (valuedLine (now (text .entry)) header T.action 0) (header .actions) from 0 (now (directory .entry)) r (now (directory .exit)) ⌝ }
 {
     let x = Context {
         header,
@@ -262,7 +262,7 @@ fn whole(text: &[u8], header: Header, initial: Spot, plan: Spot, node: Spot, end
 fn body(text: &[u8], past: usize, first: Spot, header: Header, directory: &mut [u32]) -> CaseRead
     requires { ⌜ Due (now text) past first ⌝ }
     requires { ⌜ (header .actions ≤ 1024) × (header .methods ≤ 2048) × (3072 ≤ length (now directory)) ⌝ }
-    ensures { λ r. ⌜ ReadsAs (now (text .entry)) (readBody (now (text .entry)) header (first .line) (first .start .at)) r (now (directory .exit)) ⌝ }
+    ensures { λ r. ⌜ ReadsAs (now (text .entry)) (toTheEnd (now (text .entry)) (readBody (now (text .entry)) header (first .line) (first .start .at))) r (now (directory .exit)) ⌝ }
 {
     let x = Context {
         header,

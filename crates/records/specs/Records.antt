@@ -1,15 +1,14 @@
 -- The node records in the work space: five columns of 3,000 numbers, one for each field. Assumes nothing.
 use mathlib.Core.Path.{_≡_}
-use mathlib.Core.Bool.{true, false}
 use mathlib.Core.List.{List, [], _∷_, _++_, map}
 use Prim.Native.Nat.{ℕ, zero, suc, _+_}
-use lib.Dec.{eqb}
 use lib.ListN.{getD}
 use Rattle.rules.specs.declared.Node.{Node}
-use Rattle.rules.specs.Index.{Span}
-use Rattle.rules.specs.Case.{NodeLine}
+use Rattle.rules.specs.Index.{Span, at}
+use Rattle.rules.specs.Result.{found, refused}
+use Rattle.rules.specs.Case.{NodeLine, nodeOf}
 use Rattle.rules.specs.Tree.{Tree, preorder, rootLine, span}
-use Rattle.rules.specs.Verdict.{Found, right, wrong, nodeRecord}
+use Rattle.rules.specs.Verdict.{Found, nodeRecord}
 
 -- Where each column starts: those of the spans below the walk's rows, the others over the rows.
 abbrev pub startsFrom : ℕ
@@ -48,14 +47,14 @@ recordOf x = nodeRecord (rootLine x) (span x)
 
 -- What the columns hold: the records of an accepted tree, from their starts on. Nothing is said of the rest, nor of a refusal.
 unfoldable pub RecordsHeld : Found Tree → List ℕ → Type 0
-RecordsHeld (right k t) w = upTo (recordAt w) (k .head .nodes) ≡ map recordOf (preorder t)
-RecordsHeld (wrong r) w = Unit {0}
+RecordsHeld (found (k, t)) w = upTo (recordAt w) (k .head .nodes) ≡ map recordOf (preorder t)
+RecordsHeld (refused r) w = Unit {0}
 
 -- ---- How they are written
 
--- The code of a node line's letter.
+-- The letter code of a node line: that of its record.
 unfoldable pub letterCode : ℕ → ℕ
-letterCode l = elim (eqb l 68) [ true ↦ 1 | false ↦ elim (eqb l 69) [ true ↦ 2 | false ↦ 3 ] ]
+letterCode l = nodeRecord (nodeOf l 0 0) (at 0) .letter
 
 -- The span of node i, as the columns have it.
 abbrev pub columnSpan : List ℕ → ℕ → Span

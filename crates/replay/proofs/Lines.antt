@@ -7,10 +7,10 @@ use Prim.Native.Nat.{ℕ, zero, suc, _+_, _-_}
 use native.Mathlib.Omega.{arith}
 use lib.Dec.{eqb, leb}
 use Rattle.rules.specs.declared.Header.{Header}
-use Rattle.rules.specs.State.{empty, insert, insertAll}
+use Rattle.rules.specs.State.{noPropositions, insert, insertAll}
 use Rattle.rules.specs.Text.{Letter, letter, noLetter, letterAt, feedFollows, Number, number, notPlain, missing, numberAt}
 use Rattle.rules.specs.Table as T
-use Rattle.rules.specs.Table.{Role, Item, Row, Value, scalar, members, Taken, taken, out, take, ItemRead, item, LineRead, line, table, roleNumber, inRange, rowIn, rowOf, numberOf, followTaken, withMember, leastAfter, readMembers, readList, readItem, followItem, withValue, readItems, readRow, readLetter, readLine}
+use Rattle.rules.specs.Table.{Role, Item, Row, Value, scalar, listed, Taken, taken, out, within, ItemRead, item, LineRead, line, table, roleNumber, inRange, rowIn, rowOf, numberOf, followTaken, withMember, leastAfter, readMembers, readList, readItem, followItem, withValue, readItems, readRow, readLetter, readLine}
 use Rattle.rules.specs.Case as C
 use Rattle.rules.specs.Case.{listOf, membersAt, setAt}
 use Rattle.state.specs.declared.State.{State}
@@ -130,20 +130,20 @@ item-out e = let z : _≡_ {A = ℕ} 0 1 = cc in omega arith
 
 -- A value that is a list of members, which the code puts into the set s.
 abbrev PutIn : List ℕ → ℕ → List ℕ → Cursor → Value → ℕ → Type 0
-PutIn text count s c v next = (vs : List ℕ) × (v ≡ members vs) × (membersAgain text count s c ≡ setThen (insertAll s vs) (cursor next))
+PutIn text count s c v next = (vs : List ℕ) × (v ≡ listed vs) × (membersAgain text count s c ≡ setThen (insertAll s vs) (cursor next))
 
 -- The member a, and those that are read after it.
 with-put : (text : List ℕ) (count a : ℕ) (s : List ℕ) (c : Cursor) (r : ItemRead) {v : Value} {after next : ℕ}
     → ((w : Value) (f q : ℕ) → r ≡ item w f q → PutIn text count (insert s a) c w q) → withMember a r ≡ item v after next
-    → (vs : List ℕ) × (v ≡ members vs) × (membersAgain text count (insert s a) c ≡ setThen (insertAll s vs) (cursor next))
+    → (vs : List ℕ) × (v ≡ listed vs) × (membersAgain text count (insert s a) c ≡ setThen (insertAll s vs) (cursor next))
 with-put text count a s c (item (scalar x) f q) rest e =
     let w = rest (scalar x) f q refl in
     let z : _≡_ {A = ℕ} 0 1 = cc (w .1) in
     absurd (omega arith)
-with-put text count a s c (item (members vs) f q) {v} {after} {next} rest e =
-    let w = rest (members vs) f q refl in
+with-put text count a s c (item (listed vs) f q) {v} {after} {next} rest e =
+    let w = rest (listed vs) f q refl in
     let same : w .0 ≡ vs = cc (w .1) in
-    let all : v ≡ members (a ∷ vs) = cc in
+    let all : v ≡ listed (a ∷ vs) = cc in
     let here : q ≡ next = cc in
     (a ∷ vs, all, w .2 ∙ λ j. setThen (insertAll (insert s a) (same j)) (cursor (here j)))
 with-put text count a s c (ItemRead.unreadable f) rest e = absurd (no-item e)
@@ -151,7 +151,7 @@ with-put text count a s c (ItemRead.outside f) rest e = absurd (item-out e)
 
 -- What was taken where a number is due: it is the number there.
 taken-there : (ok : ℕ → Bool) (x : Number) (field : ℕ) (rest : ℕ → ℕ → ItemRead) {v : Value} {after next : ℕ}
-    → followTaken (take ok x) field rest ≡ item v after next → (a p : ℕ) × (x ≡ number a p) × (rest a p ≡ item v after next)
+    → followTaken (within ok x) field rest ≡ item v after next → (a p : ℕ) × (x ≡ number a p) × (rest a p ≡ item v after next)
 taken-there ok (number a p) field rest {v} {after} {next} e = go (ok a) e
   where
     go : (d : Bool) → followTaken (elim d as (λ t. Taken) [ true ↦ taken a p | false ↦ out ]) field rest ≡ item v after next
@@ -164,7 +164,7 @@ taken-there ok missing field rest e = absurd (no-item e)
 members-put : (text : List ℕ) (ok : ℕ → Bool) (ascending : Bool) (count low field : ℕ) (s : List ℕ) (c : Cursor) {v : Value} {after next : ℕ}
     → readMembers text ok ascending count low field (c .at) ≡ item v after next → PutIn text count s c v next
 members-put text ok ascending zero low field s c {v} {after} {next} e =
-    let none : v ≡ members [] = cc in let here : c .at ≡ next = cc in ([], none, ap (λ (p : ℕ). setThen s (cursor p)) here)
+    let none : v ≡ listed [] = cc in let here : c .at ≡ next = cc in ([], none, ap (λ (p : ℕ). setThen s (cursor p)) here)
 members-put text ok ascending (suc count) low field s c {v} {after} {next} e =
     let t = taken-there (λ w. leb low w && ok w) (numberAt text (c .at)) field
     (λ w p. withMember w (readMembers text ok ascending count (leastAfter ascending w) (field + 1) p)) e in
@@ -176,14 +176,14 @@ members-put text ok ascending (suc count) low field s c {v} {after} {next} e =
 
 -- A set that reads is read again as its members.
 set-again : (text : List ℕ) (h : Header) (n : ℕ) (before : List ℕ) (field : ℕ) (c : Cursor) {v : Value} {after next : ℕ}
-    → readItem text h n before T.set field (c .at) ≡ item v after next → setAgain text c ≡ setThen (insertAll empty (listOf v)) (cursor next)
+    → readItem text h n before T.set field (c .at) ≡ item v after next → setAgain text c ≡ setThen (insertAll noPropositions (listOf v)) (cursor next)
 unfolding readItem readList setAgain
 set-again text h n before field c {v} {after} {next} e =
     let t = taken-there (inRange h n before T.memberCount) (numberAt text (c .at)) field
     (λ count p. readMembers text (inRange h n before T.proposition) true count 0 (field + 1) p) e in
-    let w = members-put text (inRange h n before T.proposition) true (t .0) 0 (field + 1) empty (cursor (t .1)) (t .3) in
-    ap (λ (x : Number). membersAgain text (numberOr c x .value) empty (numberOr c x .next)) (t .2)
-    ∙ w .2 ∙ ap (λ (y : Value). setThen (insertAll empty (listOf y)) (cursor next)) (sym (w .1))
+    let w = members-put text (inRange h n before T.proposition) true (t .0) 0 (field + 1) noPropositions (cursor (t .1)) (t .3) in
+    ap (λ (x : Number). membersAgain text (numberOr c x .value) noPropositions (numberOr c x .next)) (t .2)
+    ∙ w .2 ∙ ap (λ (y : Value). setThen (insertAll noPropositions (listOf y)) (cursor next)) (sym (w .1))
 
 -- What the code read for a set: the first value's members, and the other items from there.
 pub record FirstSet (text : List ℕ) (h : Header) (n b : ℕ) (is : List Item) (l : ℕ) (vs : List Value) (next : ℕ) (r : SetRead) : Type 0 where
@@ -192,14 +192,14 @@ pub record FirstSet (text : List ℕ) (h : Header) (n b : ℕ) (is : List Item) 
   pub before : List ℕ
   pub field : ℕ
   pub all : vs ≡ value ∷ others
-  pub set : r .set .words ≡ insertAll empty (listOf value)
+  pub set : r .set .words ≡ insertAll noPropositions (listOf value)
   pub rest : readItems text h n b is before field (r .next .at) ≡ line l others next
 
 pub set-first : (text : List ℕ) (h : Header) (n b : ℕ) (is : List Item) (before : List ℕ) (field : ℕ) (c : Cursor) (r : SetRead) {l : ℕ} {vs : List Value} {next : ℕ}
     → r ≡ setAgain text c → readItems text h n b (T.set ∷ is) before field (c .at) ≡ line l vs next → FirstSet text h n b is l vs next r
 set-first text h n b is before field c r {l} {vs} {next} q e =
     let w = item-first text h n b T.set is before field (c .at) e in
-    let same : r ≡ setThen (insertAll empty (listOf (w .value))) (cursor (w .then)) = q ∙ set-again text h n before field c (w .reads) in
+    let same : r ≡ setThen (insertAll noPropositions (listOf (w .value))) (cursor (w .then)) = q ∙ set-again text h n before field c (w .reads) in
     record {
       value = w .value;
       others = w .others;
@@ -211,32 +211,32 @@ set-first text h n b is before field c r {l} {vs} {next} q e =
     }
 
 -- The action of four values.
-four-sets : (ws ws₁ ws₂ ws₃ ws₄ : List Value) (v₀ v₁ v₂ v₃ : Value) (n f a d : State) → ws ≡ v₀ ∷ ws₁ → ws₁ ≡ v₁ ∷ ws₂ → ws₂ ≡ v₂ ∷ ws₃ → ws₃ ≡ v₃ ∷ ws₄
-    → n .words ≡ insertAll empty (listOf v₀) → f .words ≡ insertAll empty (listOf v₁) → a .words ≡ insertAll empty (listOf v₂)
-    → d .words ≡ insertAll empty (listOf v₃) → actionOf n f a d ≡ C.actionOf ws
+four-sets : (l : ℕ) (ws ws₁ ws₂ ws₃ ws₄ : List Value) (v₀ v₁ v₂ v₃ : Value) (n f a d : State) → ws ≡ v₀ ∷ ws₁ → ws₁ ≡ v₁ ∷ ws₂ → ws₂ ≡ v₂ ∷ ws₃ → ws₃ ≡ v₃ ∷ ws₄
+    → n .words ≡ insertAll noPropositions (listOf v₀) → f .words ≡ insertAll noPropositions (listOf v₁) → a .words ≡ insertAll noPropositions (listOf v₂)
+    → d .words ≡ insertAll noPropositions (listOf v₃) → actionOf n f a d ≡ C.actionOf (l, ws)
 unfolding C.actionOf setAt membersAt
-four-sets ws ws₁ ws₂ ws₃ ws₄ v₀ v₁ v₂ v₃ n f a d e₀ e₁ e₂ e₃ p q r s =
+four-sets l ws ws₁ ws₂ ws₃ ws₄ v₀ v₁ v₂ v₃ n f a d e₀ e₁ e₂ e₃ p q r s =
     (λ j. record { needed = p j; forbidden = q j; added = r j; deleted = s j })
-    ∙ sym (ap C.actionOf (e₀ ∙ ap (λ (l : List Value). v₀ ∷ l) (e₁ ∙ ap (λ (l : List Value). v₁ ∷ l) (e₂ ∙ ap (λ (l : List Value). v₂ ∷ l) e₃))))
+    ∙ sym (ap (λ (ws : List Value). C.actionOf (l, ws)) (e₀ ∙ ap (λ (l : List Value). v₀ ∷ l) (e₁ ∙ ap (λ (l : List Value). v₁ ∷ l) (e₂ ∙ ap (λ (l : List Value). v₂ ∷ l) e₃))))
 
 -- The four sets of an A line: one after the other.
 module _ (text : List ℕ) (h : Header) (m : ℕ) (n f a d : SetRead) (ef : f ≡ setAgain text (n .next)) (ea : a ≡ setAgain text (f .next)) (ed : d ≡ setAgain text (a .next)) (l b : ℕ) (vs : List Value) (next : ℕ) where
   all-four : (v₀ : FirstSet text h m b (T.set ∷ T.set ∷ T.set ∷ []) l vs next n) (v₁ : FirstSet text h m b (T.set ∷ T.set ∷ []) l (v₀ .others) next f)
       (v₂ : FirstSet text h m b (T.set ∷ []) l (v₁ .others) next a) (v₃ : FirstSet text h m b [] l (v₂ .others) next d)
-      → actionOf (n .set) (f .set) (a .set) (d .set) ≡ C.actionOf vs
+      → actionOf (n .set) (f .set) (a .set) (d .set) ≡ C.actionOf (l, vs)
   all-four v₀ v₁ v₂ v₃ =
-      four-sets vs (v₀ .others) (v₁ .others) (v₂ .others) (v₃ .others) (v₀ .value) (v₁ .value) (v₂ .value) (v₃ .value) (n .set) (f .set) (a .set) (d .set)
+      four-sets l vs (v₀ .others) (v₁ .others) (v₂ .others) (v₃ .others) (v₀ .value) (v₁ .value) (v₂ .value) (v₃ .value) (n .set) (f .set) (a .set) (d .set)
       (v₀ .all) (v₁ .all) (v₂ .all) (v₃ .all) (v₀ .set) (v₁ .set) (v₂ .set) (v₃ .set)
 
   first-three : (v₀ : FirstSet text h m b (T.set ∷ T.set ∷ T.set ∷ []) l vs next n) (v₁ : FirstSet text h m b (T.set ∷ T.set ∷ []) l (v₀ .others) next f)
-      (v₂ : FirstSet text h m b (T.set ∷ []) l (v₁ .others) next a) → actionOf (n .set) (f .set) (a .set) (d .set) ≡ C.actionOf vs
+      (v₂ : FirstSet text h m b (T.set ∷ []) l (v₁ .others) next a) → actionOf (n .set) (f .set) (a .set) (d .set) ≡ C.actionOf (l, vs)
   first-three v₀ v₁ v₂ = all-four v₀ v₁ v₂ (set-first text h m b [] (v₂ .before) (v₂ .field) (a .next) d ed (v₂ .rest))
 
   first-two : (v₀ : FirstSet text h m b (T.set ∷ T.set ∷ T.set ∷ []) l vs next n) (v₁ : FirstSet text h m b (T.set ∷ T.set ∷ []) l (v₀ .others) next f)
-      → actionOf (n .set) (f .set) (a .set) (d .set) ≡ C.actionOf vs
+      → actionOf (n .set) (f .set) (a .set) (d .set) ≡ C.actionOf (l, vs)
   first-two v₀ v₁ = first-three v₀ v₁ (set-first text h m b (T.set ∷ []) (v₁ .before) (v₁ .field) (f .next) a ea (v₁ .rest))
 
-  first-one : (v₀ : FirstSet text h m b (T.set ∷ T.set ∷ T.set ∷ []) l vs next n) → actionOf (n .set) (f .set) (a .set) (d .set) ≡ C.actionOf vs
+  first-one : (v₀ : FirstSet text h m b (T.set ∷ T.set ∷ T.set ∷ []) l vs next n) → actionOf (n .set) (f .set) (a .set) (d .set) ≡ C.actionOf (l, vs)
   first-one v₀ = first-two v₀ (set-first text h m b (T.set ∷ T.set ∷ []) (v₀ .before) (v₀ .field) (n .next) f ef (v₀ .rest))
 
 pub action-read : (text : List ℕ) (place : ℕ) (start : Cursor) (n f a d : SetRead) → start .at ≡ pastLetter text place → n ≡ setAgain text start
@@ -251,7 +251,7 @@ action-read text place start n f a d s en ef ea ed h m l vs next e =
 -- The set of the I line.
 pub initial-read : (text : List ℕ) (place : ℕ) (start : Cursor) (r : SetRead) → start .at ≡ pastLetter text place → r ≡ setAgain text start
     → InitialSet text place (r .set)
-unfolding setAt membersAt
+unfolding C.initialOf setAt membersAt
 initial-read text place start r s er h m l vs next e =
     let w = line-items text T.initial h m (T.set ∷ []) place initial-only e in
     let here = ap (λ (p : ℕ). readItems text h m (w .0) (T.set ∷ []) [] 2 p) s ∙ w .1 in

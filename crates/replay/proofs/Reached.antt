@@ -36,7 +36,7 @@ use Rattle.replay.proofs.Plan.{Cues, plan-cues}
 
 module _ (text directory : List ℕ) (h : Header) (initial plan : ℕ) (left : Left text directory h initial plan) where
   pub left-sound : Sound (caseOf text)
-  left-sound = sound text (caseOf text) (left .line) (left .place) (left .reads)
+  left-sound = sound text (caseOf text) (left .reads)
 
   pub plan-long : length (caseOf text .plan) ≡ h .cues
   plan-long = left-sound .plan-length ∙ ap (λ (x : Header). x .cues) (sym (left .head))
@@ -59,20 +59,20 @@ module _ (text directory : List ℕ) (h : Header) (initial plan : ℕ) (left : L
       omega arith
 
   -- The action line that the directory finds, read again.
-  found : (a place : ℕ) → a < h .actions → place ≡ getD directory a 0 → (r : Sets) → ActionSets text place r
+  again : (a place : ℕ) → a < h .actions → place ≡ getD directory a 0 → (r : Sets) → ActionSets text place r
       → actionOf (r .needed) (r .forbidden) (r .added) (r .deleted) ≡ actionAt (caseOf text .actions) a
-  found a place b e r sets =
+  again a place b e r sets =
       let f = left .finds in
       let known = action-known a b in
       let w = f .actionLine a known in
       let reads : readLine text T.action h 0 place ≡ line (w .letter) (w .values) (w .next) =
       (λ j. readLine text T.action (left .head j) 0 (e j)) ∙ w .reads in
-      sets h 0 (w .letter) (w .values) (w .next) reads ∙ f .actionSets a known
+      sets h 0 (w .letter) (w .values) (w .next) reads ∙ w .meant
 
   pub cue-steps : (a place : ℕ) → a < h .actions → place ≡ getD directory a 0 → (r : Sets) → ActionSets text place r
       → (s : List ℕ) (x : Stepped) → (x .ok, x .state .words) ≡ step s (actionOf (r .needed) (r .forbidden) (r .added) (r .deleted))
       → (x .ok, x .state .words) ≡ step s (actionAt (caseOf text .actions) a)
-  cue-steps a place b e r sets s x q = q ∙ ap (step s) (found a place b e r sets)
+  cue-steps a place b e r sets s x q = q ∙ ap (step s) (again a place b e r sets)
 
   -- The I line that was found, read again.
   pub initial-is : (s : State) → InitialSet text initial s → s .words ≡ caseOf text .initial
@@ -81,7 +81,7 @@ module _ (text directory : List ℕ) (h : Header) (initial plan : ℕ) (left : L
       let w = f .initialLine in
       let reads : readLine text T.initial h 0 initial ≡ line (w .letter) (w .values) (w .next) =
       ap (λ (x : Header). readLine text T.initial x 0 initial) (left .head) ∙ w .reads in
-      set h 0 (w .letter) (w .values) (w .next) reads ∙ f .initialSet
+      set h 0 (w .letter) (w .values) (w .next) reads ∙ w .meant
 
 -- ---- One step
 
@@ -143,7 +143,7 @@ reached-none text directory h initial plan left l c s e q =
     record {
       most = omega arith;
       size = refl;
-      cues = subst (λ (p : ℕ). Cues text (k .head .actions) (k .plan) p) (sym e) (plan-cues text k plan (f .planLine) (f .planCues));
+      cues = subst (λ (p : ℕ). Cues text (k .head .actions) (k .plan) p) (sym e) (plan-cues text k plan (f .planLine));
       stop = ap (λ (x : List ℕ). firstStop (k .actions) (k .plan) x 1) (sym q);
       later = ap (λ (x : List ℕ). states (k .actions) (k .plan) x) (sym q);
       rows = refl;

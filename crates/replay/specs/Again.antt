@@ -3,11 +3,10 @@ use mathlib.Core.Path.{_≡_}
 use mathlib.Core.List.{List}
 use Prim.Native.Nat.{ℕ, zero, suc}
 use Rattle.rules.specs.declared.Header.{Header}
-use Rattle.rules.specs.State.{empty, insert}
+use Rattle.rules.specs.State.{noPropositions, insert}
 use Rattle.rules.specs.Table as T
 use Rattle.rules.specs.Table.{Value, line, readLine}
 use Rattle.rules.specs.Case as C
-use Rattle.rules.specs.Case.{setAt}
 use Rattle.state.specs.declared.State.{State}
 use Rattle.state.specs.Action.{actionOf}
 use Rattle.text.specs.declared.Cursor.{Cursor}
@@ -26,16 +25,16 @@ membersAgain text (suc count) s c = membersAgain text count (insert s (numberHer
 
 -- "A list is its count followed by its members."
 unfoldable pub setAgain : List ℕ → Cursor → SetRead
-setAgain text c = membersAgain text (numberHere text c .value) empty (numberHere text c .next)
+setAgain text c = membersAgain text (numberHere text c .value) noPropositions (numberHere text c .next)
 
--- Whatever line of a role reads at a place has this property of its values.
-abbrev pub LineHas : List ℕ → T.Role → ℕ → (List Value → Type 0) → Type 0
-LineHas text due place P = (h : Header) (n l : ℕ) (vs : List Value) (next : ℕ) → readLine text due h n place ≡ line l vs next → P vs
+-- Whatever line of a role reads at a place has this property.
+abbrev pub LineHas : List ℕ → T.Role → ℕ → (C.Valued → Type 0) → Type 0
+LineHas text due place P = (h : Header) (n l : ℕ) (vs : List Value) (next : ℕ) → readLine text due h n place ≡ line l vs next → P (l, vs)
 
 -- The four sets of the A line at a place.
 abbrev pub ActionSets : List ℕ → ℕ → Sets → Type 0
-ActionSets text place r = LineHas text T.action place (λ vs. actionOf (r .needed) (r .forbidden) (r .added) (r .deleted) ≡ C.actionOf vs)
+ActionSets text place r = LineHas text T.action place (λ x. actionOf (r .needed) (r .forbidden) (r .added) (r .deleted) ≡ C.actionOf x)
 
 -- The set of the I line at a place.
 abbrev pub InitialSet : List ℕ → ℕ → State → Type 0
-InitialSet text place r = LineHas text T.initial place (λ vs. r .words ≡ setAt vs 0)
+InitialSet text place r = LineHas text T.initial place (λ x. r .words ≡ C.initialOf x)

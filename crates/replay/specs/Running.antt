@@ -6,8 +6,10 @@ use Prim.Native.Nat.{ℕ, _≤_}
 use lib.ListN.{length, take}
 use Rattle.rules.specs.declared.Header.{Header}
 use Rattle.rules.specs.State.{State, firstStop}
-use Rattle.rules.specs.Case.{Case, read, readCase}
-use Rattle.rules.specs.Verdict.{Found, right, statesOf, judgeRun, judgeText}
+use Rattle.rules.specs.Result.{found}
+use Rattle.rules.specs.Case.{Case, readCase}
+use Rattle.rules.specs.Verdict.{Found, statesOf}
+use Rattle.rules.proofs.Judgement.Rows.{fromRun, fromText}
 use Rattle.reading.specs.Directory.{Finds, directorySize}
 use Rattle.reading.specs.TheCase.{caseOf}
 use Rattle.rows.specs.Rows.{putRows}
@@ -16,10 +18,8 @@ use Rattle.replay.specs.declared.running.Ran.the-variants.{All, Stopped}
 
 -- What reading left: the text reads as its case, whose header is h, and the directory finds its lines.
 pub record Left (text directory : List ℕ) (h : Header) (initial plan : ℕ) : Type 0 where
-  pub line : ℕ
-  pub place : ℕ
   pub nodes : ℕ
-  pub reads : readCase text ≡ read (caseOf text) line place
+  pub reads : readCase text ≡ found (caseOf text)
   pub head : h ≡ caseOf text .head
   pub long : directorySize ≤ length directory
   pub finds : Finds text (caseOf text) directory initial plan nodes
@@ -45,7 +45,7 @@ pub record RanAs (k : Case) (r : Ran) (before after : List ℕ) : Type 0 where
 
 -- The checks of the replay call from row 5 on, and from row 2 on.
 unfoldable pub replayRun : Case → Found (Unit {0})
-replayRun k = judgeRun (λ c. right c tt) k
+replayRun k = fromRun (λ c. found (c, tt)) k
 
 unfoldable pub replayText : List ℕ → Found (Unit {0})
-replayText text = judgeText (λ c. right c tt) text
+replayText text = fromText (λ c. found (c, tt)) text

@@ -2,7 +2,8 @@
 ghost use mathlib.Core.Path.{_≡_};
 ghost use Prim.Native.Nat.{_≤_};
 ghost use lib.ListN.{length, replicate};
-ghost use Rattle.rules.specs.Verdict.{stateNeed, workNeed, textMost, replayLists, replay, answerOf, statesAfter, workAfter};
+ghost use Rattle.rules.specs.Verdict.{stateNeed, workNeed, textMost, replayLists, replay, answerOf, statesAfter, reported};
+ghost use Rattle.rules.specs.Demands.{ReplayDemand1};
 ghost use Rattle.reading.specs.TheCase.{caseOf};
 ghost use Rattle.replay.specs.Running.{Left, replayRun, replayText};
 use crate::again;
@@ -73,9 +74,7 @@ fn replay_lent(text: &[u8], states: &mut [u64], work: &mut [u32]) -> Answer
 // "The replay call borrows no node list and does only the checks down to number 5; it answers k and n and fills its state list likewise, and
 // number 1 has no item 2 there." Both lists are zero before anything is checked, and the work space is zero again after it.
 pub fn replay(text: &[u8], states: &mut [u64], work: &mut [u32]) -> Answer
-    ensures answer { λ r. ⌜ r ≡ answerOf (replay (replayLists (length (now (states .entry))) (length (now (work .entry)))) (now (text .entry))) ⌝ }
-    ensures filled { λ r. ⌜ now (states .exit) ≡ statesAfter (length (now (states .entry))) (replay (replayLists (length (now (states .entry))) (length (now (work .entry)))) (now (text .entry))) ⌝ }
-    ensures zero { λ r. ⌜ now (work .exit) ≡ workAfter (length (now (work .entry))) ⌝ }
+    ensures { λ r. ⌜ ReplayDemand1 (now (text .entry)) (now (states .entry)) (now (work .entry)) (reported r) (now (states .exit)) (now (work .exit)) ⌝ }
 {
     rows::clear(states);
     rows::clear_work(work);
@@ -95,7 +94,7 @@ pub fn replay(text: &[u8], states: &mut [u64], work: &mut [u32]) -> Answer
 
 // The replay call over lists of its own, as long as asked.
 pub fn replay_text(text: &[u8]) -> Answer
-    ensures { λ r. ⌜ r ≡ answerOf (replay (replayLists stateNeed workNeed) (now (text .entry))) ⌝ }
+    ensures { λ r. ⌜ reported r ≡ reported (answerOf (replay (replayLists stateNeed workNeed) (now (text .entry)))) ⌝ }
 {
     let mut states = [0u64; STATES * WORDS];
     let mut work = [0u32; WORK];

@@ -4,7 +4,8 @@ use mathlib.Core.Bool.{Bool, true, false}
 use mathlib.Core.List.{List, [], _∷_}
 use Prim.Native.Nat.{ℕ}
 use borrow.Author.Tests.{eq-eqb, ne-eqb}
-use Rattle.rules.specs.Verdict.{Report, decimal, fields, printedReport}
+use Rattle.rules.specs.Verdict.{Report}
+use Rattle.rules.specs.Line.{decimal, fields, printedReport}
 
 module _ (x : Report) where
   abbrev accepted : List ℕ

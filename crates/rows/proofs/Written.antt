@@ -11,6 +11,7 @@ use lib.ListN.{length, getD, take, drop, replicate, length-append, length-drop, 
 use lib.Seq.{take-at, drop-at, drop-drop, take-append-le, drop-append-le, drop-append-add, length-take-le, ext-getD}
 use Rattle.rules.specs.State.{State, wordCount}
 use Rattle.rules.specs.Verdict.{filled}
+use Rattle.rules.proofs.Worded.{Worded}
 use Rattle.rules.proofs.Judgement.Each.{Each, each-tail}
 use Rattle.rows.specs.Rows.{putRow, rowAt, putRows}
 
@@ -110,12 +111,8 @@ put-next (x ∷ ss) (suc i) s rest l j e =
     let more : j + suc i ≡ j + 1 + i = omega arith in
     ap (λ (n : ℕ). putRow (putRows (putRow l j x) (j + 1) (take i ss)) n s) more ∙ put-next ss i s rest (putRow l j x) (j + 1) e
 
--- Every one has the words of a state.
-abbrev pub Worded : List State → Type 0
-Worded ss = Each (λ s. length s ≡ wordCount) ss
-
 -- The states after the first rows p, and then what stood there.
-rows-after : (ss : List State) (p rest : List ℕ) (i : ℕ) → Worded ss → length p ≡ wordCount * i
+rows-after : (ss : List State) (p rest : List ℕ) (i : ℕ) → Each Worded ss → length p ≡ wordCount * i
     → putRows (p ++ rest) i ss ≡ p ++ (flatten ss ++ drop (wordCount * length ss) rest)
 unfolding flatten wordCount
 rows-after [] p rest i f e = refl
@@ -124,18 +121,18 @@ rows-after (s ∷ ss) p rest i f e =
     let long : length (p ++ s) ≡ wordCount * (i + 1) = omega (arith, length-append p s) in
     let n : wordCount + wordCount * length ss ≡ wordCount * suc (length ss) = omega arith in
     ap (λ (l : List ℕ). putRows l (i + 1) ss) (put-after p rest i s e)
-    ∙ rows-after ss (p ++ s) (drop wordCount rest) (i + 1) (each-tail (λ t. length t ≡ wordCount) s ss f) long
+    ∙ rows-after ss (p ++ s) (drop wordCount rest) (i + 1) (each-tail Worded s ss f) long
     ∙ append-assoc p s (flatten ss ++ drop (wordCount * length ss) (drop wordCount rest))
     ∙ ap (λ (x : List ℕ). p ++ x)
     (sym (append-assoc s (flatten ss) (drop (wordCount * length ss) (drop wordCount rest)))
     ∙ ap (λ (x : List ℕ). (s ++ flatten ss) ++ x) (drop-drop (wordCount * length ss) wordCount rest ∙ ap (λ (m : ℕ). drop m rest) n))
 
-flatten-length : (ss : List State) → Worded ss → length (flatten ss) ≡ wordCount * length ss
+flatten-length : (ss : List State) → Each Worded ss → length (flatten ss) ≡ wordCount * length ss
 unfolding flatten wordCount
 flatten-length [] f = refl
 flatten-length (s ∷ ss) f =
     let w : length s ≡ wordCount = f s (here refl) in
-    let e = flatten-length ss (each-tail (λ t. length t ≡ wordCount) s ss f) in
+    let e = flatten-length ss (each-tail Worded s ss f) in
     length-append s (flatten ss) ∙ omega arith
 
 pub drop-zeros : (n size : ℕ) → drop {A = ℕ} n (replicate size 0) ≡ replicate (size - n) 0
@@ -144,7 +141,7 @@ drop-zeros (suc n) zero = let none : 0 ≡ 0 - suc n = omega arith in ap (λ (m 
 drop-zeros (suc n) (suc size) = let less : size - n ≡ suc size - suc n = omega arith in drop-zeros n size ∙ ap (λ (m : ℕ). replicate m 0) less
 
 -- "the state list holds states 0 to k, each written to its own stretch of four numbers [..] the rest is zero"
-pub rows-fill : (size : ℕ) (ss : List State) → Worded ss → putRows (replicate size 0) 0 ss ≡ filled size 0 (flatten ss)
+pub rows-fill : (size : ℕ) (ss : List State) → Each Worded ss → putRows (replicate size 0) 0 ss ≡ filled size 0 (flatten ss)
 unfolding filled
 rows-fill size ss f =
     let none : 0 ≡ wordCount * 0 = omega arith in

@@ -4,7 +4,7 @@ ghost use mathlib.Core.Path.{_≡_};
 ghost use Prim.Native.Nat.{_+_, _*_, _≤_};
 ghost use lib.ListN.{length, replicate};
 ghost use Rattle.rules.specs.State.{wordCount, member};
-ghost use Rattle.index.specs.Spans.{numberOf};
+ghost use Rattle.index.specs.Spans.{stateOf};
 ghost use Rattle.rows.specs.Rows.{putRow, rowAt};
 use index::StateNumber;
 use state::State;
@@ -24,15 +24,15 @@ fn put_words(row: &mut [u64], s: State)
 
 // Where the row of state l starts: "each written to its own stretch of four numbers".
 fn row_start(l: StateNumber) -> usize
-    ensures { λ r. ⌜ r ≡ wordCount * numberOf l ⌝ }
+    ensures { λ r. ⌜ r ≡ wordCount * stateOf l ⌝ }
 {
     WORDS * l.number() as usize
 }
 
 // Writes s as state l: the row for state l is lent on as a middle part of the state list.
 pub fn put_row(states: &mut [u64], l: StateNumber, s: State)
-    requires { ⌜ wordCount * numberOf l + wordCount ≤ length (now states) ⌝ }
-    ensures { λ _. ⌜ now (states .exit) ≡ putRow (now (states .entry)) (numberOf l) (s .words) ⌝ }
+    requires { ⌜ wordCount * stateOf l + wordCount ≤ length (now states) ⌝ }
+    ensures { λ _. ⌜ now (states .exit) ≡ putRow (now (states .entry)) (stateOf l) (s .words) ⌝ }
 {
     let from = row_start(l);
     let to = from + WORDS;
@@ -41,8 +41,8 @@ pub fn put_row(states: &mut [u64], l: StateNumber, s: State)
 
 // Whether proposition p is in state l: the row for state l is lent on likewise.
 pub fn holds_at(states: &[u64], l: StateNumber, p: u32) -> bool
-    requires { ⌜ wordCount * numberOf l + wordCount ≤ length (now states) ⌝ }
-    ensures { λ r. ⌜ r ≡ member (rowAt (now (states .entry)) (numberOf l)) p ⌝ }
+    requires { ⌜ wordCount * stateOf l + wordCount ≤ length (now states) ⌝ }
+    ensures { λ r. ⌜ r ≡ member (rowAt (now (states .entry)) (stateOf l)) p ⌝ }
 {
     let from = row_start(l);
     let to = from + WORDS;

@@ -9,6 +9,6 @@ pub mod WalkFinds
 pub mod Claims
 pub mod Run
 pub mod Kept
-pub mod Statement
+pub mod Rows
 pub mod Refusals
 pub mod Theorem

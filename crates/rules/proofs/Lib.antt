@@ -3,6 +3,12 @@ pub mod Bits
 pub mod Tables
 pub mod Members
 pub mod Spans
+pub mod Worded
+pub mod Outcomes
+-- The statements of the rules beside the tests of the verdict.
+pub mod Statements
+pub mod Reports
+pub mod Faults
 -- Demand 2: the verdict against the declarative rules.
 pub mod Judgement
 -- Demand 3: the rules against the rewritings of the goal task.

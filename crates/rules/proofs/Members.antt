@@ -13,7 +13,7 @@ use lib.ListN.{length, getD, List·getD-eq-default, length-set}
 use lib.Seq.{getD-set-same, getD-set-other}
 use lib.Bits.{bitAnd, bitOr, xor-lt, and-le-l}
 use borrow.Author.Tests.{eq-eqb, ne-eqb, eqb-true}
-use Rattle.rules.specs.State.{wordCount, State, Action, word, bit, member, empty, insert, without, appliesWord, applies, nextWord, next}
+use Rattle.rules.specs.State.{wordCount, State, Action, word, bit, member, noPropositions, insert, without, appliesWord, applies, nextWord, next}
 use Rattle.rules.proofs.Bits.{bit-and, bit-or, bit-without, bit-zero, bit-pow, no-bits}
 use Rattle.rules.proofs.Tables.{length-tabulate, getD-tabulate-zero, and-left, and-right, and-both, every-at, every-of}
 
@@ -29,13 +29,13 @@ pub member-at : (s : State) (i j : ℕ) → j < 64 → member s (i * 64 + j) ≡
 unfolding member
 member-at s i j h = ap₂ (λ (x y : ℕ). bit (word s x) y) (digits-div i h) (digits-mod i h)
 
-pub member-empty : (p : ℕ) → member empty p ≡ false
-unfolding member empty
+pub member-empty : (p : ℕ) → member noPropositions p ≡ false
+unfolding member noPropositions
 member-empty p = go (decLt (p / 64) wordCount)
   where
-    go : Dec (p / 64 < wordCount) → member empty p ≡ false
+    go : Dec (p / 64 < wordCount) → member noPropositions p ≡ false
     go (yes h) = ap (λ (w : ℕ). bit w (p % 64)) (getD-tabulate-zero wordCount (λ i. 0) (p / 64) 0 h) ∙ bit-zero (p % 64)
-    go (no h) = member-past empty p (omega (arith, length-tabulate wordCount 0 (λ i. 0)))
+    go (no h) = member-past noPropositions p (omega (arith, length-tabulate wordCount 0 (λ i. 0)))
 
 -- ---- the next state
 

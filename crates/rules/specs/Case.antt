@@ -2,13 +2,14 @@
 use mathlib.Core.Bool.{true, false}
 use mathlib.Core.List.{List, [], _∷_, map}
 use Prim.Native.Nat.{ℕ, zero, suc, _+_}
+use Prim.Native.Char.{code}
 use lib.Dec.{eqb, ltb}
 use lib.ListN.{length, getD}
 use Rattle.rules.specs.declared.Header.{Header}
-use Rattle.rules.specs.declared.Answer.{Answer}
 use Rattle.rules.specs.declared.Answer.the-variants.{Unreadable, OutOfRange}
-use Rattle.rules.specs.State.{State, Action, empty, insertAll}
-use Rattle.rules.specs.Table.{Role, header, initial, action, method, constraint, plan, node, Value, scalar, members, numberOf, LineRead, line, readLine}
+use Rattle.rules.specs.State.{State, Action, noPropositions, insertAll}
+use Rattle.rules.specs.Table.{Role, header, initial, action, method, constraint, plan, node, Value, scalar, listed, numberOf, LineRead, line, readLine}
+use Rattle.rules.specs.Result.{Result, found, refused, _>>=_, _>>_}
 
 -- "O,i,j (i before j, i ≠ j, both subtask numbers); B,p,U (before); F,p,U (after); W,U,p,V (between)."
 pub data Constraint : Type 0 where
@@ -44,124 +45,131 @@ noMethod = record { task = 0; subtasks = []; constraints = [] }
 unfoldable pub methodAt : List Method → ℕ → Method
 methodAt methods m = getD methods m noMethod
 
--- ---- The values of a line as what they stand for
+-- ---- A line as what it stands for
+
+-- A line's letter and its values.
+abbrev pub Valued : Type 0
+Valued = ℕ × List Value
 
 unfoldable pub scalarAt : List Value → ℕ → ℕ
 scalarAt values i = numberOf (getD values i (scalar 0))
 
 abbrev pub listOf : Value → List ℕ
 listOf (scalar v) = []
-listOf (members vs) = vs
+listOf (listed vs) = vs
 
 unfoldable pub membersAt : List Value → ℕ → List ℕ
-membersAt values i = listOf (getD values i (members []))
+membersAt values i = listOf (getD values i (listed []))
 
 unfoldable pub setAt : List Value → ℕ → State
-setAt values i = insertAll empty (membersAt values i)
+setAt values i = insertAll noPropositions (membersAt values i)
 
-unfoldable pub headerOf : List Value → Header
-headerOf vs = record {
-  propositions = scalarAt vs 0;
-  actions = scalarAt vs 1;
-  compounds = scalarAt vs 2;
-  methods = scalarAt vs 3;
-  goal = scalarAt vs 4;
-  cues = scalarAt vs 5;
-  nodes = scalarAt vs 6;
+-- "N, propositions [..], actions [..], compound tasks [..], methods [..], goal, k [..], nodes"
+abbrev pub headerIn : List ℕ → Header
+headerIn ns = record {
+  propositions = getD ns 0 0;
+  actions = getD ns 1 0;
+  compounds = getD ns 2 0;
+  methods = getD ns 3 0;
+  goal = getD ns 4 0;
+  cues = getD ns 5 0;
+  nodes = getD ns 6 0;
 }
 
-unfoldable pub actionOf : List Value → Action
-actionOf vs = record { needed = setAt vs 0; forbidden = setAt vs 1; added = setAt vs 2; deleted = setAt vs 3 }
+unfoldable pub headerOf : Valued → Header
+headerOf x = headerIn (map numberOf (x .1))
 
--- A line's letter and its values.
-abbrev pub Valued : Type 0
-Valued = ℕ × List Value
+-- "I, initial set."
+unfoldable pub initialOf : Valued → State
+initialOf x = setAt (x .1) 0
 
-unfoldable pub constraintOf : Valued → Constraint
-constraintOf x =
-    elim (eqb (x .0) 79) [
-      | true ↦ O (scalarAt (x .1) 0) (scalarAt (x .1) 1)
+-- "One A line per action: needed, forbidden, added, deleted."
+unfoldable pub actionOf : Valued → Action
+actionOf x = record { needed = setAt (x .1) 0; forbidden = setAt (x .1) 1; added = setAt (x .1) 2; deleted = setAt (x .1) 3 }
+
+-- A constraint line, by its letter and its numbers.
+unfoldable pub constraintOf : ℕ → ℕ → ℕ → ℕ → Constraint
+constraintOf letter first second third =
+    elim (eqb letter (code "O")) [
+      | true ↦ O first second
       | false ↦
-          elim (eqb (x .0) 66) [
-            | true ↦ B (scalarAt (x .1) 0) (scalarAt (x .1) 1)
-            | false ↦
-                elim (eqb (x .0) 70) [
-                  | true ↦ F (scalarAt (x .1) 0) (scalarAt (x .1) 1)
-                  | false ↦ W (scalarAt (x .1) 0) (scalarAt (x .1) 1) (scalarAt (x .1) 2)
-                ]
+          elim (eqb letter (code "B")) [
+            | true ↦ B first second
+            | false ↦ elim (eqb letter (code "F")) [ true ↦ F first second | false ↦ W first second third ]
           ]
     ]
 
-unfoldable pub nodeOf : Valued → NodeLine
-nodeOf x =
-    elim (eqb (x .0) 68) [
-      | true ↦ D (scalarAt (x .1) 0)
-      | false ↦ elim (eqb (x .0) 69) [ true ↦ E (scalarAt (x .1) 0) (scalarAt (x .1) 1) | false ↦ L (scalarAt (x .1) 0) (scalarAt (x .1) 1) ]
-    ]
+unfoldable pub asConstraint : Valued → Constraint
+asConstraint x = constraintOf (x .0) (scalarAt (x .1) 0) (scalarAt (x .1) 1) (scalarAt (x .1) 2)
 
-unfoldable pub methodOf : List Value → List Valued → Method
-methodOf vs cs = record { task = scalarAt vs 0; subtasks = membersAt vs 1; constraints = map constraintOf cs }
+-- "P, then k actions"
+unfoldable pub planOf : Valued → List ℕ
+planOf x = membersAt (x .1) 0
+
+-- A node line, by its letter and its numbers.
+unfoldable pub nodeOf : ℕ → ℕ → ℕ → NodeLine
+nodeOf letter first second =
+    elim (eqb letter (code "D")) [ true ↦ D first | false ↦ elim (eqb letter (code "E")) [ true ↦ E first second | false ↦ L first second ] ]
+
+unfoldable pub asNode : Valued → NodeLine
+asNode x = nodeOf (x .0) (scalarAt (x .1) 0) (scalarAt (x .1) 1)
 
 -- ---- Line by line
 
--- What is read, with the number of the line after it and where that starts; or the answer that refuses the text.
-pub data Read (A : Type 0) : Type 0 where
-  read : A → (line place : ℕ) → Read A
-  refused : Answer → Read A
+-- What is read, with the number of the line after it and where that starts.
+abbrev pub Read : Type 0 → Type 0
+Read A = Result (A × ℕ × ℕ)
 
-abbrev pub follow : {A B : Type 0} → Read A → (A → ℕ → ℕ → Read B) → Read B
-follow (read a n place) rest = rest a n place
-follow (refused r) rest = refused r
+abbrev pub readAs : {A : Type 0} → (Valued → A) → ℕ → LineRead → Read A
+readAs means n (line l vs next) = found (means (l, vs), n + 1, next)
+readAs means n (LineRead.unreadable field) = refused (Unreadable n field)
+readAs means n (LineRead.outside field) = refused (OutOfRange n field)
 
-abbrev pub readOf : ℕ → LineRead → Read Valued
-readOf n (line l vs next) = read (l, vs) (n + 1) next
-readOf n (LineRead.unreadable field) = refused (Unreadable n field)
-readOf n (LineRead.outside field) = refused (OutOfRange n field)
-
--- Line n, of the role that is due; the constraints of a method with s subtasks.
-unfoldable pub oneLine : List ℕ → Header → Role → ℕ → ℕ → ℕ → Read Valued
-oneLine text h due s n place = readOf n (readLine text due h s place)
+-- Line n, of the role that is due, as what it means; the constraints of a method with s subtasks.
+unfoldable pub oneLine : {A : Type 0} → List ℕ → Header → Role → ℕ → (Valued → A) → ℕ → ℕ → Read A
+oneLine text h due s means n place = readAs means n (readLine text due h s place)
 
 -- So many in turn, each read where the one before it ended.
 abbrev pub many : {A : Type 0} → (ℕ → ℕ → Read A) → ℕ → ℕ → ℕ → Read (List A)
-many one zero n place = read [] n place
-many one (suc count) n place =
-    follow (one n place) (λ x n′ place′. follow (many one count n′ place′) (λ xs n″ place″. read (x ∷ xs) n″ place″))
+many one zero n place = found ([], n, place)
+many one (suc count) n place = do
+  (x, n′, place′) ← one n place
+  (xs, n″, place″) ← many one count n′ place′
+  found (x ∷ xs, n″, place″)
 
--- "One M line per method: [..] constraint count c (0 to 64); then c lines of its own"
+-- "One M line per method: compound task, list of subtasks [..], constraint count c (0 to 64); then c lines of its own"
 unfoldable pub oneMethod : List ℕ → Header → ℕ → ℕ → Read Method
-oneMethod text h n place =
-    follow (oneLine text h method 0 n place)
-    (λ x n′ place′. follow (many (oneLine text h constraint (scalarAt (x .1) 1)) (scalarAt (x .1) 2) n′ place′)
-    (λ cs n″ place″. read (methodOf (x .1) cs) n″ place″))
-
--- "surplus line (item 1, ended or not)": nothing stands after the last due line's line feed.
-unfoldable pub noSurplus : List ℕ → Case → ℕ → ℕ → Read Case
-noSurplus text k n place = elim (ltb place (length text)) [ true ↦ refused (Unreadable n 1) | false ↦ read k n place ]
+oneMethod text h n place = do
+  (vs, n′, place′) ← oneLine text h method 0 (λ x. x .1) n place
+  (cs, n″, place″) ← many (oneLine text h constraint (scalarAt vs 1) asConstraint) (scalarAt vs 2) n′ place′
+  found (record { task = scalarAt vs 0; subtasks = membersAt vs 1; constraints = cs }, n″, place″)
 
 -- The lines after the header, in their fixed order.
 unfoldable pub readBody : List ℕ → Header → ℕ → ℕ → Read Case
-readBody text h n place =
-    follow (oneLine text h initial 0 n place)
-    (λ i n₁ p₁. follow (many (oneLine text h action 0) (h .actions) n₁ p₁)
-    (λ acts n₂ p₂. follow (many (oneMethod text h) (h .methods) n₂ p₂)
-    (λ ms n₃ p₃. follow (oneLine text h plan 0 n₃ p₃)
-    (λ cs n₄ p₄. follow (many (oneLine text h node 0) (h .nodes) n₄ p₄)
-    (λ ns n₅ p₅. noSurplus text
-    (record {
-      head = h;
-      initial = setAt (i .1) 0;
-      actions = map (λ x. actionOf (x .1)) acts;
-      methods = ms;
-      plan = membersAt (cs .1) 0;
-      nodes = map nodeOf ns;
-      planLine = n₃;
-    })
-    n₅ p₅)))))
+readBody text h n place = do
+  (i, n₁, p₁) ← oneLine text h initial 0 initialOf n place
+  (acts, n₂, p₂) ← many (oneLine text h action 0 actionOf) (h .actions) n₁ p₁
+  (ms, n₃, p₃) ← many (oneMethod text h) (h .methods) n₂ p₂
+  (cs, n₄, p₄) ← oneLine text h plan 0 planOf n₃ p₃
+  (ns, n₅, p₅) ← many (oneLine text h node 0 asNode) (h .nodes) n₄ p₄
+  found (record { head = h; initial = i; actions = acts; methods = ms; plan = cs; nodes = ns; planLine = n₃ }, n₅, p₅)
 
 unfoldable pub noHeader : Header
 noHeader = record { propositions = 0; actions = 0; compounds = 0; methods = 0; goal = 0; cues = 0; nodes = 0 }
 
+-- A case, from line n on, which starts at a place.
+unfoldable pub readFrom : List ℕ → ℕ → ℕ → Read Case
+readFrom text n place = do
+  (h, n′, place′) ← oneLine text noHeader header 0 headerOf n place
+  readBody text h n′ place′
+
+-- "surplus line (item 1, ended or not)": nothing stands after the last due line's line feed.
+unfoldable pub noSurplus : List ℕ → ℕ → ℕ → Result (Unit {0})
+noSurplus text n place = elim (ltb place (length text)) [ true ↦ refused (Unreadable n 1) | false ↦ found tt ]
+
 -- The whole text, from line 1.
-unfoldable pub readCase : List ℕ → Read Case
-readCase text = follow (oneLine text noHeader header 0 1 0) (λ x n place. readBody text (headerOf (x .1)) n place)
+unfoldable pub readCase : List ℕ → Result Case
+readCase text = do
+  (k, n, place) ← readFrom text 1 0
+  noSurplus text n place
+  found k

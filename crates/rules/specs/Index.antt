@@ -35,16 +35,16 @@ hull l = record { start = least (map (λ s. s .start) l); end = greatest (map (�
 -- A part of a task: the whole of it, or some of its subtasks, by their numbers from 0.
 pub data Part : Type 0 where
   whole : Part
-  members : (ℕ → Bool) → Part
+  those : (ℕ → Bool) → Part
 
 -- "sets of subtasks as one number, bit j for subtask j, [..]; 0 is the whole task"
 unfoldable pub partOf : ℕ → Part
 partOf zero = whole
-partOf (suc u) = members (bit (suc u))
+partOf (suc u) = those (bit (suc u))
 
 -- Subtask i alone.
 unfoldable pub only : ℕ → Part
-only i = members (eqb i)
+only i = those (eqb i)
 
 -- Of the spans of the subtasks from j on, those of the members.
 unfoldable pub pick : (ℕ → Bool) → ℕ → List Span → List Span
@@ -54,7 +54,7 @@ pick in? j (s ∷ l) = cond (in? j) (s ∷ []) [] ++ pick in? (suc j) l
 -- "A set of subtasks does the same over its members." The span of a part, from the task's own and those of its subtasks.
 unfoldable pub spanOfPart : Span → List Span → Part → Span
 spanOfPart own subtasks whole = own
-spanOfPart own subtasks (members in?) = hull (pick in? 0 subtasks)
+spanOfPart own subtasks (those in?) = hull (pick in? 0 subtasks)
 
 -- "With c = start rounded up and f = end rounded down": the only ways from a doubled index to a state's number.
 unfoldable pub roundedUp : ℕ → ℕ

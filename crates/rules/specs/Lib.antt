@@ -1,13 +1,21 @@
--- Document 01 as definitions, a file for each section, in its order.
+-- Document 01 as definitions, in the order to read them in.
+-- What is computed: states, indexes, reading, the tree, the constraints, and the verdict over all of them.
 pub mod State
 pub mod Index
+pub mod Result
 pub mod Text
 pub mod Table
 pub mod Case
 pub mod Tree
 pub mod Constraint
 pub mod Verdict
+-- What it means: the rules as statements, each row of the table as a statement, and the rewritings of the goal task.
 pub mod Rules
+pub mod Faults
+pub mod Refusals
 pub mod Rewriting
+-- What the calls promise.
 pub mod Demands
+-- The program's line, and 01's ten panel cases.
+pub mod Line
 pub mod Panel

@@ -12,9 +12,12 @@ use Rattle.rules.specs.Case as Ca
 use Rattle.rules.specs.Tree as Tr
 use Rattle.rules.specs.Constraint as Co
 use Rattle.rules.specs.Verdict as Ve
+use Rattle.rules.specs.Line as Li
 use Rattle.rules.specs.Index.{Span}
 use Rattle.rules.specs.Tree.{Tree, preorder, span}
-use Rattle.rules.specs.Verdict.{Found, right, wrong, check, checkLists, answerOf, printed}
+use Rattle.rules.specs.Result.{found as seen, refused}
+use Rattle.rules.specs.Verdict.{Found, check, checkLists, answerOf}
+use Rattle.rules.specs.Line.{printed}
 
 -- The bytes of a text of characters below 128.
 abbrev bytes : String → List ℕ
@@ -23,7 +26,7 @@ bytes (String._∷_ ch s) = code ch ∷ bytes s
 
 abbrev textOf : List String → List ℕ
 textOf [] = []
-textOf (l ∷ ls) = bytes l ++ (10 ∷ textOf ls)
+textOf (l ∷ ls) = bytes l ++ (code "\n" ∷ textOf ls)
 
 -- "Propositions: 0 in km/h, 1 loaded, 2 on air. Actions: 0 convert, 1 load, 2 take. Task 3 panel, 4 in-km/h."
 abbrev model : List String
@@ -57,18 +60,18 @@ table =
     ∷ []
 
 -- With lists as long as 01 asks.
-abbrev found : Panel → Found Tree
-found p = check (checkLists 4004 3000 16384) (textOf (p .lines))
+abbrev checked : Panel → Found Tree
+checked p = check (checkLists 4004 3000 16384) (textOf (p .lines))
 
 abbrev spansOf : Found Tree → List Span
-spansOf (right k t) = map span (preorder t)
-spansOf (wrong r) = []
+spansOf (seen (k, t)) = map span (preorder t)
+spansOf (refused r) = []
 
 abbrev doubled : ℕ → ℕ → Span
 doubled s e = record { start = s; end = e }
 
 -- Each case is answered as 01 prints it; "a. [..] doubled spans 1-4, 1-1, 2-2, 4-4".
-pub answers : (map (λ p. printed (answerOf (found p))) table ≡ map (λ p. textOf (p .answer ∷ [])) table)
-    × (spansOf (found caseA) ≡ doubled 1 4 ∷ doubled 1 1 ∷ doubled 2 2 ∷ doubled 4 4 ∷ [])
-unfolding St.wordCount St.bit St.member St.empty St.insert St.without St.appliesWord St.applies St.nextWord St.next St.noAction St.actionAt St.states St.stateAt St.firstStop Ix.ofCue Ix.ofGap Ix.at Ix.least Ix.greatest Ix.hull Ix.partOf Ix.only Ix.pick Ix.spanOfPart Ix.roundedUp Ix.roundedDown Ix.c Ix.f Ix.isBefore Tx.isFeed Tx.isComma Tx.isDigit Tx.endsField Tx.isPlain Tx.numberAt Tx.letterAt Tx.endingAt Tx.feedFollows Tb.table Tb.rowOf Tb.roleNumber Tb.isCompound Tb.inRange Tb.readList Tb.readItem Tb.readLine Ca.noMethod Ca.methodAt Ca.scalarAt Ca.membersAt Ca.setAt Ca.headerOf Ca.actionOf Ca.constraintOf Ca.nodeOf Ca.methodOf Ca.oneLine Ca.oneMethod Ca.noSurplus Ca.readBody Ca.noHeader Ca.readCase Tr.preorder Tr.preorders Tr.rootLine Tr.span Tr.spans Tr.subtaskSpans Tr.noSubtasks Tr.isMethodOf Tr.fits Tr.isIn Tr.mayClaim Tr.walkNode Tr.levelCount Tr.walkTree Co.holdsIn Co.holdsFrom Co.keeps Co.constraintsOf Co.partsOf Co.brokenAt Co.firstBroken Ve.reported Ve.stateNeed Ve.nodeNeed Ve.workNeed Ve.checkLists Ve.statesOf Ve.judgeConstraints Ve.judgeTree Ve.judgeRun Ve.textMost Ve.judgeText Ve.check Ve.decimal Ve.printed
+pub answers : (map (λ p. printed (answerOf (checked p))) table ≡ map (λ p. textOf (p .answer ∷ [])) table)
+    × (spansOf (checked caseA) ≡ doubled 1 4 ∷ doubled 1 1 ∷ doubled 2 2 ∷ doubled 4 4 ∷ [])
+unfolding St.wordCount St.bit St.member St.noPropositions St.insert St.without St.appliesWord St.applies St.nextWord St.next St.noAction St.actionAt St.states St.stateAt St.firstStop Ix.ofCue Ix.ofGap Ix.at Ix.least Ix.greatest Ix.hull Ix.partOf Ix.only Ix.pick Ix.spanOfPart Ix.roundedUp Ix.roundedDown Ix.c Ix.f Ix.isBefore Tx.isFeed Tx.isComma Tx.isDigit Tx.endsField Tx.isPlain Tx.numberAt Tx.letterAt Tx.endingAt Tx.feedFollows Tb.table Tb.rowOf Tb.roleNumber Tb.isCompound Tb.inRange Tb.readList Tb.readItem Tb.readLine Ca.noMethod Ca.methodAt Ca.scalarAt Ca.membersAt Ca.setAt Ca.headerOf Ca.initialOf Ca.actionOf Ca.constraintOf Ca.asConstraint Ca.planOf Ca.nodeOf Ca.asNode Ca.oneLine Ca.oneMethod Ca.noSurplus Ca.readBody Ca.noHeader Ca.readFrom Ca.readCase Tr.preorder Tr.preorders Tr.rootLine Tr.span Tr.spans Tr.subtaskSpans Tr.noSubtasks Tr.isMethodOf Tr.fits Tr.isIn Tr.mayClaim Tr.walkNode Tr.levelCount Tr.walkTree Co.holdsIn Co.holdsFrom Co.keeps Co.constraintsOf Co.partsOf Co.brokenAt Co.firstBroken Ve.reported Ve.stateNeed Ve.nodeNeed Ve.workNeed Ve.checkLists Ve.statesOf Ve.planRuns Ve.allClaimed Ve.noneBroken Ve.textMost Ve.check Li.decimal Li.printed
 answers = (refl, refl)

@@ -35,8 +35,8 @@ abbrev pub every : ℕ → ℕ → (ℕ → Bool) → Bool
 every zero i f = true
 every (suc n) i f = f i && every n (suc i) f
 
-unfoldable pub empty : State
-empty = tabulate wordCount 0 (λ i. 0)
+unfoldable pub noPropositions : State
+noPropositions = tabulate wordCount 0 (λ i. 0)
 
 -- The set s and proposition p.
 unfoldable pub insert : State → ℕ → State
@@ -77,7 +77,7 @@ unfoldable pub step : State → Action → Bool × State
 step s a = elim (applies s a) [ true ↦ (true, next s a) | false ↦ (false, s) ]
 
 unfoldable pub noAction : Action
-noAction = record { needed = empty; forbidden = empty; added = empty; deleted = empty }
+noAction = record { needed = noPropositions; forbidden = noPropositions; added = noPropositions; deleted = noPropositions }
 
 unfoldable pub actionAt : List Action → ℕ → Action
 actionAt actions a = getD actions a noAction
@@ -88,7 +88,7 @@ states actions [] s = s ∷ []
 states actions (a ∷ plan) s = s ∷ states actions plan (next s (actionAt actions a))
 
 unfoldable pub stateAt : List State → ℕ → State
-stateAt ss i = getD ss i empty
+stateAt ss i = getD ss i noPropositions
 
 -- "The plan runs from the initial state if each cue i applies in state i - 1." The first cue from cue i on that doesn't.
 unfoldable pub firstStop : List Action → List ℕ → State → ℕ → Option ℕ

@@ -4,6 +4,7 @@ use mathlib.Core.Bool.{Bool, true, false, _&&_, not}
 use mathlib.Core.List.{List, [], _∷_, _++_}
 use mathlib.Core.Option.{Option, none, some}
 use Prim.Native.Nat.{ℕ, zero, suc, _+_, _^_}
+use Prim.Native.Char.{Char, code}
 use lib.Dec.{eqb, leb, ltb}
 use lib.ListN.{length, getD}
 use Rattle.rules.specs.declared.Header.{Header}
@@ -31,24 +32,24 @@ pub record Row : Type 0 where
   pub role : Role
   pub items : List Item
 
-abbrev pub row : ℕ → Role → List Item → Row
-row l r is = record { letter = l; role = r; items = is }
+abbrev pub row : Char → Role → List Item → Row
+row l r is = record { letter = code l; role = r; items = is }
 
 unfoldable pub table : List Row
 table =
-    row 78 header
-    (one (upTo 256) ∷ one (upTo 1024) ∷ one (upTo 1024) ∷ one (upTo 2048) ∷ one goal ∷ one (upTo 1000) ∷ one (oneUpTo 3000) ∷ [])  -- N
-    ∷ row 73 initial (set ∷ [])  -- I
-    ∷ row 65 action (set ∷ set ∷ set ∷ set ∷ [])  -- A
-    ∷ row 77 method (one compound ∷ subtaskList ∷ one (upTo 64) ∷ [])  -- M
-    ∷ row 79 constraint (one subtask ∷ one otherSubtask ∷ [])  -- O
-    ∷ row 66 constraint (one proposition ∷ one subtaskSet ∷ [])  -- B
-    ∷ row 70 constraint (one proposition ∷ one subtaskSet ∷ [])  -- F
-    ∷ row 87 constraint (one subtaskSet ∷ one proposition ∷ one subtaskSet ∷ [])  -- W
-    ∷ row 80 plan (cues ∷ [])  -- P
-    ∷ row 68 node (one aMethod ∷ [])  -- D
-    ∷ row 69 node (one aMethod ∷ one gap ∷ [])  -- E
-    ∷ row 76 node (one anAction ∷ one position ∷ [])  -- L
+    row "N" header
+    (one (upTo 256) ∷ one (upTo 1024) ∷ one (upTo 1024) ∷ one (upTo 2048) ∷ one goal ∷ one (upTo 1000) ∷ one (oneUpTo 3000) ∷ [])
+    ∷ row "I" initial (set ∷ [])
+    ∷ row "A" action (set ∷ set ∷ set ∷ set ∷ [])
+    ∷ row "M" method (one compound ∷ subtaskList ∷ one (upTo 64) ∷ [])
+    ∷ row "O" constraint (one subtask ∷ one otherSubtask ∷ [])
+    ∷ row "B" constraint (one proposition ∷ one subtaskSet ∷ [])
+    ∷ row "F" constraint (one proposition ∷ one subtaskSet ∷ [])
+    ∷ row "W" constraint (one subtaskSet ∷ one proposition ∷ one subtaskSet ∷ [])
+    ∷ row "P" plan (cues ∷ [])
+    ∷ row "D" node (one aMethod ∷ [])
+    ∷ row "E" node (one aMethod ∷ one gap ∷ [])
+    ∷ row "L" node (one anAction ∷ one position ∷ [])
     ∷ []
 
 abbrev pub rowIn : ℕ → List Row → Option Row
@@ -97,20 +98,20 @@ pub data Taken : Type 0 where
   bad : Taken
   out : Taken
 
-abbrev pub take : (ℕ → Bool) → Number → Taken
-take ok (number v next) = elim (ok v) [ true ↦ taken v next | false ↦ out ]
-take ok notPlain = bad
-take ok missing = bad
+abbrev pub within : (ℕ → Bool) → Number → Taken
+within ok (number v next) = elim (ok v) [ true ↦ taken v next | false ↦ out ]
+within ok notPlain = bad
+within ok missing = bad
 
 -- What an item of a line holds: a number, or the members of a list.
 pub data Value : Type 0 where
   scalar : ℕ → Value
-  members : List ℕ → Value
+  listed : List ℕ → Value
 
 -- The number itself, or how many members there are.
 abbrev pub numberOf : Value → ℕ
 numberOf (scalar v) = v
-numberOf (members vs) = length vs
+numberOf (listed vs) = length vs
 
 -- An item that is read, with the number and the place of the field after it; or the field that is refused, as 3 or as 4.
 pub data ItemRead : Type 0 where
@@ -125,7 +126,7 @@ followTaken out field rest = outside field
 
 abbrev pub withMember : ℕ → ItemRead → ItemRead
 withMember v (item (scalar w) field next) = item (scalar w) field next
-withMember v (item (members vs) field next) = item (members (v ∷ vs)) field next
+withMember v (item (listed vs) field next) = item (listed (v ∷ vs)) field next
 withMember v (unreadable field) = unreadable field
 withMember v (outside field) = outside field
 
@@ -136,19 +137,19 @@ leastAfter false v = 0
 
 -- So many members, the first of them at least `low`.
 abbrev pub readMembers : List ℕ → (ℕ → Bool) → Bool → ℕ → ℕ → ℕ → ℕ → ItemRead
-readMembers text ok ascending zero low field place = item (members []) field place
+readMembers text ok ascending zero low field place = item (listed []) field place
 readMembers text ok ascending (suc count) low field place =
-    followTaken (take (λ v. leb low v && ok v) (numberAt text place)) field
+    followTaken (within (λ v. leb low v && ok v) (numberAt text place)) field
     (λ v next. withMember v (readMembers text ok ascending count (leastAfter ascending v) (field + 1) next))
 
 -- "A list is its count followed by its members."
 unfoldable pub readList : List ℕ → (ℕ → Bool) → (ℕ → Bool) → Bool → ℕ → ℕ → ItemRead
 readList text count? ok ascending field place =
-    followTaken (take count? (numberAt text place)) field (λ count next. readMembers text ok ascending count 0 (field + 1) next)
+    followTaken (within count? (numberAt text place)) field (λ count next. readMembers text ok ascending count 0 (field + 1) next)
 
 unfoldable pub readItem : List ℕ → Header → ℕ → List ℕ → Item → ℕ → ℕ → ItemRead
 readItem text h n before (one kind) field place =
-    followTaken (take (inRange h n before kind) (numberAt text place)) field (λ v next. item (scalar v) (field + 1) next)
+    followTaken (within (inRange h n before kind) (numberAt text place)) field (λ v next. item (scalar v) (field + 1) next)
 readItem text h n before set field place =
     readList text (inRange h n before memberCount) (inRange h n before proposition) true field place
 readItem text h n before subtaskList field place =

@@ -3,17 +3,18 @@
 use mathlib.Core.Bool.{Bool, true, false, _&&_, _||_, not}
 use mathlib.Core.List.{List, [], _∷_}
 use Prim.Native.Nat.{ℕ, _+_, _-_, _*_}
+use Prim.Native.Char.{code}
 use lib.Dec.{eqb, leb}
 use lib.ListN.{length, drop}
 
 unfoldable pub isFeed : ℕ → Bool
-isFeed b = eqb b 10
+isFeed b = eqb b (code "\n")
 
 unfoldable pub isComma : ℕ → Bool
-isComma b = eqb b 44
+isComma b = eqb b (code ",")
 
 unfoldable pub isDigit : ℕ → Bool
-isDigit b = leb 48 b && leb b 57
+isDigit b = leb (code "0") b && leb b (code "9")
 
 -- "Lines end in a line feed; fields are in fixed order, parted by commas, no quoting."
 unfoldable pub endsField : ℕ → Bool
@@ -32,12 +33,12 @@ allDigits (b ∷ bs) = isDigit b && allDigits bs
 abbrev pub digitsOnly : List ℕ → Bool
 digitsOnly [] = false
 digitsOnly (b ∷ []) = isDigit b
-digitsOnly (b ∷ c ∷ bs) = isDigit b && (not (eqb b 48) && allDigits (c ∷ bs))
+digitsOnly (b ∷ c ∷ bs) = isDigit b && (not (eqb b (code "0")) && allDigits (c ∷ bs))
 
 -- The number that digits stand for in base ten, after v.
 abbrev pub valueOf : ℕ → List ℕ → ℕ
 valueOf v [] = v
-valueOf v (b ∷ bs) = valueOf (v * 10 + (b - 48)) bs
+valueOf v (b ∷ bs) = valueOf (v * 10 + (b - code "0")) bs
 
 unfoldable pub isPlain : List ℕ → Bool
 isPlain field = digitsOnly field && leb (valueOf 0 field) 4294967295
@@ -48,13 +49,13 @@ pub data Number : Type 0 where
   notPlain : Number
   missing : Number
 
-abbrev pub numberOf : ℕ → List ℕ → Number
-numberOf from field = elim (isPlain field) [ true ↦ number (valueOf 0 field) (from + length field) | false ↦ notPlain ]
+abbrev pub numberIn : ℕ → List ℕ → Number
+numberIn from field = elim (isPlain field) [ true ↦ number (valueOf 0 field) (from + length field) | false ↦ notPlain ]
 
 -- A further field follows a comma.
 abbrev pub numberAfter : ℕ → List ℕ → Number
 numberAfter place [] = missing
-numberAfter place (b ∷ bs) = elim (isComma b) [ true ↦ numberOf (place + 1) (fieldOf bs) | false ↦ missing ]
+numberAfter place (b ∷ bs) = elim (isComma b) [ true ↦ numberIn (place + 1) (fieldOf bs) | false ↦ missing ]
 
 unfoldable pub numberAt : List ℕ → ℕ → Number
 numberAt text place = numberAfter place (drop place text)

@@ -5,9 +5,9 @@ use mathlib.Core.Option.{Option, none, some}
 use Prim.Native.Nat.{ℕ, zero, suc, _+_, _-_}
 use lib.Dec.{eqb, leb, ltb}
 use lib.ListN.{length, getD}
-use Rattle.rules.specs.declared.Answer.{Answer}
 use Rattle.rules.specs.declared.Answer.the-variants.{WrongNode, TooDeep, WrongClaim}
 use Rattle.rules.specs.Index.{Span, at, ofCue, ofGap, hull}
+use Rattle.rules.specs.Result.{Result, found, refused, _>>=_, _>>_}
 use Rattle.rules.specs.Case.{Method, methodAt, NodeLine, D, E, L, Case}
 
 mutual
@@ -70,36 +70,21 @@ fits k (D m) t = isMethodOf k m t && not (noSubtasks (methodAt (k .methods) m))
 fits k (E m g) t = isMethodOf k m t && noSubtasks (methodAt (k .methods) m)
 fits k (L a i) t = ltb t (k .head .actions) && eqb a t
 
--- What a walk finds: the tree, the line and the nodes after it, and the positions claimed so far; or the answer that refuses the tree.
-pub data Walk : Type 0 where
-  walked : Tree → (line : ℕ) → List NodeLine → (claimed : List ℕ) → Walk
-  refused : Answer → Walk
-
-pub data Walks : Type 0 where
-  walked : Trees → (line : ℕ) → List NodeLine → (claimed : List ℕ) → Walks
-  refused : Answer → Walks
+-- What a walk finds, with the line and the nodes after it and the positions claimed so far.
+abbrev pub Walk : Type 0 → Type 0
+Walk A = Result (A × ℕ × List NodeLine × List ℕ)
 
 -- A walk of one task: the task expected, the line, the nodes from there on, the positions claimed.
 abbrev pub Walker : Type 0
-Walker = ℕ → ℕ → List NodeLine → List ℕ → Walk
-
-abbrev pub asTask : ℕ → Walks → Walk
-asTask m (Walks.walked ts line left claimed) = Walk.walked (task m ts) line left claimed
-asTask m (Walks.refused r) = Walk.refused r
-
-abbrev pub withTree : Tree → Walks → Walks
-withTree t (Walks.walked ts line left claimed) = Walks.walked (more t ts) line left claimed
-withTree t (Walks.refused r) = Walks.refused r
-
-abbrev pub followTree : Walk → (ℕ → List NodeLine → List ℕ → Walks) → Walks
-followTree (Walk.walked t line left claimed) rest = withTree t (rest line left claimed)
-followTree (Walk.refused r) rest = Walks.refused r
+Walker = ℕ → ℕ → List NodeLine → List ℕ → Walk Tree
 
 -- "the subtasks by walking each node among them in turn"
-abbrev pub walkSubtasks : Walker → List ℕ → ℕ → List NodeLine → List ℕ → Walks
-walkSubtasks walk [] line left claimed = Walks.walked noTree line left claimed
-walkSubtasks walk (t ∷ ts) line left claimed =
-    followTree (walk t line left claimed) (λ line′ left′ claimed′. walkSubtasks walk ts line′ left′ claimed′)
+abbrev pub walkSubtasks : Walker → List ℕ → ℕ → List NodeLine → List ℕ → Walk Trees
+walkSubtasks walk [] line nodes claimed = found (noTree, line, nodes, claimed)
+walkSubtasks walk (t ∷ ts) line nodes claimed = do
+  (x, line′, nodes′, claimed′) ← walk t line nodes claimed
+  (xs, line″, nodes″, claimed″) ← walkSubtasks walk ts line′ nodes′ claimed′
+  found (more x xs, line″, nodes″, claimed″)
 
 unfoldable pub isIn : ℕ → List ℕ → Bool
 isIn i [] = false
@@ -114,36 +99,40 @@ unfoldable pub mayClaim : List ℕ → ClaimTest
 mayClaim plan a i claimed = eqb (getD plan (i - 1) 0) a && not (isIn i claimed)
 
 -- A node that fits, above level 65: "A node is walked by walking its subtasks".
-abbrev pub walkFitting : Case → ClaimTest → Walker → NodeLine → ℕ → List NodeLine → List ℕ → Walk
-walkFitting k ok walk (D m) line left claimed =
-    asTask m (walkSubtasks walk (methodAt (k .methods) m .subtasks) (line + 1) left claimed)
-walkFitting k ok walk (E m g) line left claimed = Walk.walked (empty m g) (line + 1) left claimed
-walkFitting k ok walk (L a i) line left claimed =
-    elim (ok a i claimed) [ true ↦ Walk.walked (leaf a i) (line + 1) left (i ∷ claimed) | false ↦ Walk.refused (WrongClaim line i) ]
+abbrev pub walkFitting : Case → ClaimTest → Walker → NodeLine → ℕ → List NodeLine → List ℕ → Walk Tree
+walkFitting k ok walk (D m) line nodes claimed = do
+  (ts, line′, nodes′, claimed′) ← walkSubtasks walk (methodAt (k .methods) m .subtasks) (line + 1) nodes claimed
+  found (task m ts, line′, nodes′, claimed′)
+walkFitting k ok walk (E m g) line nodes claimed = found (empty m g, line + 1, nodes, claimed)
+walkFitting k ok walk (L a i) line nodes claimed =
+    elim (ok a i claimed) [ true ↦ found (leaf a i, line + 1, nodes, i ∷ claimed) | false ↦ refused (WrongClaim line i) ]
 
 -- A node where so many levels are left: 6 if none is there or it doesn't fit, then 7 if no level is left, then 8.
 unfoldable pub walkNode : ℕ → Case → ClaimTest → Walker
-walkNode zero k ok t line [] claimed = Walk.refused (WrongNode line)
-walkNode zero k ok t line (x ∷ left) claimed = elim (fits k x t) [ true ↦ Walk.refused (TooDeep line) | false ↦ Walk.refused (WrongNode line) ]
-walkNode (suc levels) k ok t line [] claimed = Walk.refused (WrongNode line)
-walkNode (suc levels) k ok t line (x ∷ left) claimed =
+walkNode zero k ok t line [] claimed = refused (WrongNode line)
+walkNode zero k ok t line (x ∷ nodes) claimed = elim (fits k x t) [ true ↦ refused (TooDeep line) | false ↦ refused (WrongNode line) ]
+walkNode (suc levels) k ok t line [] claimed = refused (WrongNode line)
+walkNode (suc levels) k ok t line (x ∷ nodes) claimed =
     elim (fits k x t) [
-      | true ↦ walkFitting k ok (λ t′ line′ left′ claimed′. walkNode levels k ok t′ line′ left′ claimed′) x line left claimed
-      | false ↦ Walk.refused (WrongNode line)
+      | true ↦ walkFitting k ok (λ t′ line′ nodes′ claimed′. walkNode levels k ok t′ line′ nodes′ claimed′) x line nodes claimed
+      | false ↦ refused (WrongNode line)
     ]
 
--- No node is over after the root's tree.
-abbrev pub noneOver : Walk → Walk
-noneOver (Walk.walked t line [] claimed) = Walk.walked t line [] claimed
-noneOver (Walk.walked t line (x ∷ left) claimed) = Walk.refused (WrongNode line)
-noneOver (Walk.refused r) = Walk.refused r
+-- "surplus node"
+abbrev pub noneOver : ℕ → List NodeLine → Result (Unit {0})
+noneOver line [] = found tt
+noneOver line (x ∷ nodes) = refused (WrongNode line)
 
 -- "The root is level 1, its subtasks level 2, and so on to 64."
 unfoldable pub levelCount : ℕ
 levelCount = 64
 
-unfoldable pub walkTree : Case → ClaimTest → Walk
-walkTree k ok = noneOver (walkNode levelCount k ok (k .head .goal) (k .planLine + 1) (k .nodes) [])
+-- The whole tree, and the positions that its leaves claim.
+unfoldable pub walkTree : Case → ClaimTest → Result (Tree × List ℕ)
+walkTree k ok = do
+  (t, line, nodes, claimed) ← walkNode levelCount k ok (k .head .goal) (k .planLine + 1) (k .nodes) []
+  noneOver line nodes
+  found (t, claimed)
 
 -- "after the walk: least position unclaimed", of the n positions from i on.
 abbrev pub leastUnclaimed : List ℕ → ℕ → ℕ → Option ℕ

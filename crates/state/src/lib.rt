@@ -1,8 +1,8 @@
-// States and the step of an action (01, "States and cues"): "A state is the set of those that are true, held as four 64-bit words;
+// States and the step of an action (01, "States and cues"): "A state is the set of those that are true, held as four 64-bit words:
 // proposition p is bit (p mod 64) of word (p div 64)".
 ghost use mathlib.Core.Path.{_≡_};
 ghost use Prim.Native.Nat.{_<_};
-ghost use Rattle.rules.specs.State.{wordCount, empty, member, insert, word, without, appliesWord, nextWord, every, tabulate, step};
+ghost use Rattle.rules.specs.State.{wordCount, noPropositions, member, insert, word, without, appliesWord, nextWord, every, tabulate, step};
 ghost use Rattle.state.specs.Action.{actionOf};
 
 // How many words a state has: the definitions' wordCount.
@@ -22,7 +22,7 @@ pub struct Stepped {
 impl State {
     // The empty set.
     pub fn new() -> State
-        ensures { λ r. ⌜ r .words ≡ empty ⌝ }
+        ensures { λ r. ⌜ r .words ≡ noPropositions ⌝ }
     {
         State {
             words: [0u64; WORDS],

@@ -11,7 +11,7 @@ use lib.Dec.{leb}
 use lib.ListN.{length, getD, drop, length-drop}
 use lib.Seq.{getD-drop}
 use borrow.Author.Tests.{leb-true}
-use Rattle.rules.specs.Text.{isFeed, isComma, endsField, fieldOf, digitsOnly, valueOf, isPlain, Number, number, notPlain, missing, numberOf, numberAfter, numberAt, Letter as FirstField, letter, noLetter, letterOf, letterAt, Ending as LineEnding, ended, surplus, endingOf, endingAt}
+use Rattle.rules.specs.Text.{isFeed, isComma, endsField, fieldOf, digitsOnly, valueOf, isPlain, Number, number, notPlain, missing, numberIn, numberAfter, numberAt, Letter as FirstField, letter, noLetter, letterOf, letterAt, Ending as LineEnding, ended, surplus, endingOf, endingAt}
 use Rattle.text.specs.declared.Field.{Field}
 use Rattle.text.specs.declared.Field.the-variants.{Number as FieldNumber, NotPlain, Missing}
 use Rattle.text.specs.declared.Letter.{Letter}
@@ -71,7 +71,7 @@ module _ (t : List ℕ) (p : ℕ) where
       plain true h q r = (h, q, cc, cc)
       plain false h q r = apart (cc)
 
-      comma : (x : Bool) → p < length t → _≡_ {A = Number} (elim x [ true ↦ numberOf (p + 1) source | false ↦ missing ]) (number v n) → Read v n
+      comma : (x : Bool) → p < length t → _≡_ {A = Number} (elim x [ true ↦ numberIn (p + 1) source | false ↦ missing ]) (number v n) → Read v n
       comma true h r = plain (isPlain source) h refl (sym (number-accepted (p + 1) source) ∙ r)
       comma false h r = apart (cc)
 

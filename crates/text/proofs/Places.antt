@@ -8,7 +8,7 @@ use native.Mathlib.Numerals.{add-one}
 use lib.ListN.{length, getD, drop, drop-of-length-le}
 use lib.Seq.{drop-cons}
 use borrow.Author.Tests.{eq-eqb, ne-eqb}
-use Rattle.rules.specs.Text.{isFeed, isComma, isDigit, endsField, fieldOf, notPlain, missing, numberOf, numberAfter, numberAt, letter, noLetter, letterOf, letterAt, ended, surplus, endingOf, endingAt}
+use Rattle.rules.specs.Text.{isFeed, isComma, isDigit, endsField, fieldOf, notPlain, missing, numberIn, numberAfter, numberAt, letter, noLetter, letterOf, letterAt, ended, surplus, endingOf, endingAt}
 use Rattle.text.specs.Scan.{isOver, closed, continued}
 use Rattle.text.proofs.Scan.{field-over, field-on, over-here, letter-alone, letter-crowded, continued-over, step-digit, step-other, first-none, begin-zero, begin-digit, begin-other}
 
@@ -29,8 +29,8 @@ module _ (t : List ℕ) (i : ℕ) where
     pub digits-out : (v : ℕ) → v ≤ 4294967295 → continued v i (fieldOf (drop i t)) ≡ closed v i (fieldOf (drop i t))
     digits-out v small = rw (drop-out t i h) (continued-over v i small)
 
-    pub plain-out : numberOf i (fieldOf (drop i t)) ≡ notPlain
-    plain-out = ap (λ (l : List ℕ). numberOf i (fieldOf l)) (drop-out t i h) ∙ first-none i
+    pub plain-out : numberIn i (fieldOf (drop i t)) ≡ notPlain
+    plain-out = ap (λ (l : List ℕ). numberIn i (fieldOf l)) (drop-out t i h) ∙ first-none i
 
     pub number-out : numberAt t i ≡ missing
     unfolding numberAt
@@ -60,27 +60,27 @@ module _ (t : List ℕ) (i : ℕ) where
         ap (λ (l : List ℕ). continued v i (fieldOf l)) (drop-in t i h)
         ∙ (step-other v i (getD t i 0) (drop (i + 1) t) d small ∙ ap (λ (l : List ℕ). closed v i (fieldOf l)) (sym (drop-in t i h)))
 
-    plain-from : numberOf i (fieldOf (drop i t)) ≡ numberOf i (fieldOf (getD t i 0 ∷ drop (i + 1) t))
-    plain-from = ap (λ (l : List ℕ). numberOf i (fieldOf l)) (drop-in t i h)
+    plain-from : numberIn i (fieldOf (drop i t)) ≡ numberIn i (fieldOf (getD t i 0 ∷ drop (i + 1) t))
+    plain-from = ap (λ (l : List ℕ). numberIn i (fieldOf l)) (drop-in t i h)
 
-    pub plain-zero : isDigit (getD t i 0) ≡ true → getD t i 0 ≡ 48 → numberOf i (fieldOf (drop i t)) ≡ closed 0 (i + 1) (fieldOf (drop (i + 1) t))
+    pub plain-zero : isDigit (getD t i 0) ≡ true → getD t i 0 ≡ 48 → numberIn i (fieldOf (drop i t)) ≡ closed 0 (i + 1) (fieldOf (drop (i + 1) t))
     plain-zero d e = plain-from ∙ begin-zero i (getD t i 0) (drop (i + 1) t) d e
 
     pub plain-digit : isDigit (getD t i 0) ≡ true → (getD t i 0 ≡ 48 → ⊥)
-        → numberOf i (fieldOf (drop i t)) ≡ continued (getD t i 0 - 48) (i + 1) (fieldOf (drop (i + 1) t))
+        → numberIn i (fieldOf (drop i t)) ≡ continued (getD t i 0 - 48) (i + 1) (fieldOf (drop (i + 1) t))
     plain-digit d n = plain-from ∙ begin-digit i (getD t i 0) (drop (i + 1) t) d n
 
-    pub plain-other : isDigit (getD t i 0) ≡ false → numberOf i (fieldOf (drop i t)) ≡ notPlain
+    pub plain-other : isDigit (getD t i 0) ≡ false → numberIn i (fieldOf (drop i t)) ≡ notPlain
     plain-other d = plain-from ∙ begin-other i (getD t i 0) (drop (i + 1) t) d
 
     number-by : (x : Bool) → isComma (getD t i 0) ≡ x
-        → numberAt t i ≡ elim x [ true ↦ numberOf (i + 1) (fieldOf (drop (i + 1) t)) | false ↦ missing ]
+        → numberAt t i ≡ elim x [ true ↦ numberIn (i + 1) (fieldOf (drop (i + 1) t)) | false ↦ missing ]
     unfolding numberAt
     number-by x e =
         ap (numberAfter i) (drop-in t i h)
-        ∙ ap (λ (y : Bool). elim y [ true ↦ numberOf (i + 1) (fieldOf (drop (i + 1) t)) | false ↦ missing ]) e
+        ∙ ap (λ (y : Bool). elim y [ true ↦ numberIn (i + 1) (fieldOf (drop (i + 1) t)) | false ↦ missing ]) e
 
-    pub number-in : getD t i 0 ≡ 44 → numberAt t i ≡ numberOf (i + 1) (fieldOf (drop (i + 1) t))
+    pub number-in : getD t i 0 ≡ 44 → numberAt t i ≡ numberIn (i + 1) (fieldOf (drop (i + 1) t))
     unfolding isComma
     number-in e = number-by true (eq-eqb (getD t i 0) 44 e)
 

@@ -9,7 +9,7 @@ use native.Mathlib.Omega.{arith}
 use lib.Dec.{leb}
 use lib.ListN.{length}
 use borrow.Author.Tests.{eq-eqb, ne-eqb, le-leb, lt-leb, leb-true}
-use Rattle.rules.specs.Text.{isFeed, isComma, isDigit, endsField, fieldOf, valueOf, isPlain, Number, number, notPlain, numberOf, letter, noLetter, letterOf}
+use Rattle.rules.specs.Text.{isFeed, isComma, isDigit, endsField, fieldOf, valueOf, isPlain, Number, number, notPlain, numberIn, letter, noLetter, letterOf}
 use Rattle.text.specs.Scan.{isOver, closed, accepted, continued}
 
 pub and-left : (a b : Bool) → (a && b) ≡ true → a ≡ true
@@ -99,29 +99,29 @@ module _ (v here b : ℕ) (bs : List ℕ) where
 
 -- ---- the first byte of a number
 
-pub number-accepted : (from : ℕ) (f : List ℕ) → numberOf from f ≡ accepted (isPlain f) (valueOf 0 f) (from + length f)
+pub number-accepted : (from : ℕ) (f : List ℕ) → numberIn from f ≡ accepted (isPlain f) (valueOf 0 f) (from + length f)
 number-accepted from f = go (isPlain f)
   where
     go : (x : Bool) → _≡_ {A = Number} (elim x [ true ↦ number (valueOf 0 f) (from + length f) | false ↦ notPlain ]) (accepted x (valueOf 0 f) (from + length f))
     go true = refl
     go false = refl
 
-pub first-none : (from : ℕ) → numberOf from [] ≡ notPlain
+pub first-none : (from : ℕ) → numberIn from [] ≡ notPlain
 unfolding isPlain
 first-none from = refl
 
 module _ (from b : ℕ) where
-  first-wrong : (f : List ℕ) → isDigit b ≡ false → numberOf from (b ∷ f) ≡ notPlain
+  first-wrong : (f : List ℕ) → isDigit b ≡ false → numberIn from (b ∷ f) ≡ notPlain
   unfolding isPlain
   first-wrong [] d = number-accepted from (b ∷ []) ∙ rw d
   first-wrong (c ∷ f) d = number-accepted from (b ∷ c ∷ f) ∙ rw d
 
-  first-zero : (f : List ℕ) → isDigit b ≡ true → b ≡ 48 → numberOf from (b ∷ f) ≡ closed 0 (from + 1) f
+  first-zero : (f : List ℕ) → isDigit b ≡ true → b ≡ 48 → numberIn from (b ∷ f) ≡ closed 0 (from + 1) f
   unfolding isPlain
   first-zero [] d e = number-accepted from (b ∷ []) ∙ rw (d, e)
   first-zero (c ∷ f) d e = number-accepted from (b ∷ c ∷ f) ∙ rw (d, eq-eqb b 48 e)
 
-  first-digit : (f : List ℕ) → isDigit b ≡ true → (b ≡ 48 → ⊥) → numberOf from (b ∷ f) ≡ continued (0 * 10 + (b - 48)) (from + 1) f
+  first-digit : (f : List ℕ) → isDigit b ≡ true → (b ≡ 48 → ⊥) → numberIn from (b ∷ f) ≡ continued (0 * 10 + (b - 48)) (from + 1) f
   unfolding isPlain
   first-digit [] d n =
       number-accepted from (b ∷ [])
@@ -131,18 +131,18 @@ module _ (from b : ℕ) where
       number-accepted from (b ∷ c ∷ f) ∙ rw (d, ne-eqb b 48 n, same)
 
   module _ (bs : List ℕ) where
-    pub begin-zero : isDigit b ≡ true → b ≡ 48 → numberOf from (fieldOf (b ∷ bs)) ≡ closed 0 (from + 1) (fieldOf bs)
-    begin-zero d e = ap (numberOf from) (field-on b bs (digit-inside b d)) ∙ first-zero (fieldOf bs) d e
+    pub begin-zero : isDigit b ≡ true → b ≡ 48 → numberIn from (fieldOf (b ∷ bs)) ≡ closed 0 (from + 1) (fieldOf bs)
+    begin-zero d e = ap (numberIn from) (field-on b bs (digit-inside b d)) ∙ first-zero (fieldOf bs) d e
 
-    pub begin-digit : isDigit b ≡ true → (b ≡ 48 → ⊥) → numberOf from (fieldOf (b ∷ bs)) ≡ continued (b - 48) (from + 1) (fieldOf bs)
+    pub begin-digit : isDigit b ≡ true → (b ≡ 48 → ⊥) → numberIn from (fieldOf (b ∷ bs)) ≡ continued (b - 48) (from + 1) (fieldOf bs)
     begin-digit d n =
         let value : 0 * 10 + (b - 48) ≡ b - 48 = omega arith in
-        ap (numberOf from) (field-on b bs (digit-inside b d))
+        ap (numberIn from) (field-on b bs (digit-inside b d))
         ∙ (first-digit (fieldOf bs) d n ∙ ap (λ (v : ℕ). continued v (from + 1) (fieldOf bs)) value)
 
-    pub begin-other : isDigit b ≡ false → numberOf from (fieldOf (b ∷ bs)) ≡ notPlain
+    pub begin-other : isDigit b ≡ false → numberIn from (fieldOf (b ∷ bs)) ≡ notPlain
     begin-other d = go (endsField b) refl
       where
-        go : (x : Bool) → endsField b ≡ x → numberOf from (fieldOf (b ∷ bs)) ≡ notPlain
-        go true e = ap (numberOf from) (field-over b bs e) ∙ first-none from
-        go false e = ap (numberOf from) (field-on b bs e) ∙ first-wrong (fieldOf bs) d
+        go : (x : Bool) → endsField b ≡ x → numberIn from (fieldOf (b ∷ bs)) ≡ notPlain
+        go true e = ap (numberIn from) (field-over b bs e) ∙ first-none from
+        go false e = ap (numberIn from) (field-on b bs e) ∙ first-wrong (fieldOf bs) d

@@ -5,7 +5,7 @@ ghost use mathlib.Core.Bool.{true};
 ghost use Prim.Native.Nat.{ℕ, _-_, _≤_};
 ghost use lib.Dec.{ltb};
 ghost use lib.ListN.{length, drop};
-ghost use Rattle.rules.specs.Text.{isDigit, endsField, fieldOf, numberOf, numberAt, letterAt, endingAt, feedFollows};
+ghost use Rattle.rules.specs.Text.{isDigit, endsField, fieldOf, numberIn, numberAt, letterAt, endingAt, feedFollows};
 ghost use Rattle.text.specs.Cursor.{cursor, asField, asLetter, asEnding};
 ghost use Rattle.text.specs.Scan.{isOver, closed, continued};
 
@@ -106,7 +106,7 @@ fn digits(text: &[u8], from: usize, first: u64) -> Field
 
 // The number that the field from here is. A leading zero is told from the first byte, so that the loop need not ask for it.
 fn plain(text: &[u8], from: usize) -> Field
-    ensures { λ r. ⌜ r ≡ asField (numberOf from (fieldOf (drop from (now (text .entry))))) ⌝ }
+    ensures { λ r. ⌜ r ≡ asField (numberIn from (fieldOf (drop from (now (text .entry))))) ⌝ }
 {
     if text.len() <= from {
         return Field::NotPlain;

@@ -2,7 +2,7 @@
 -- Assumes nothing.
 use mathlib.Core.Path.{_≡_, refl, sym, ap, ap₂, subst, _∙_}
 use mathlib.Core.Bool.{Bool, true, false, _&&_, not, and-false}
-use mathlib.Core.List.{List, [], _∷_, map}
+use mathlib.Core.List.{List, [], _∷_}
 use Prim.Native.Nat.{ℕ, zero, suc, _+_, _-_, _≤_, _<_}
 use native.Mathlib.Omega.{arith}
 use borrow.Author.Tests.{lt-ltb, le-leb, ltb-true, ltb-false, eqb-true, eqb-false, not-true}
@@ -13,8 +13,9 @@ use Rattle.rules.specs.declared.Answer.{Answer}
 use Rattle.rules.specs.declared.Answer.the-variants.{WrongNode, TooDeep}
 use Rattle.rules.specs.Table as T
 use Rattle.rules.specs.Table.{Value, line}
-use Rattle.rules.specs.Case.{NodeLine, D, E, L, Case, methodAt, noMethod, scalarAt, nodeOf, oneLine, many}
-use Rattle.rules.specs.Tree.{Tree, empty, Walk, asTask, walkSubtasks, noSubtasks, isMethodOf, fits, ClaimTest, mayClaim, walkFitting, walkNode}
+use Rattle.rules.specs.Result.{found, refused}
+use Rattle.rules.specs.Case.{NodeLine, D, E, L, Case, methodAt, noMethod, scalarAt, nodeOf, asNode, oneLine, many}
+use Rattle.rules.specs.Tree.{Tree, empty, Walk, walkSubtasks, noSubtasks, isMethodOf, fits, ClaimTest, mayClaim, walkFitting, walkNode}
 use Rattle.rules.proofs.Judgement.Each.{each-at, both-true}
 use Rattle.rules.proofs.Judgement.Sound.{Sound, GoodMethod, GoodNode}
 use Rattle.reading.specs.declared.again.Again.{Again}
@@ -26,32 +27,27 @@ use Rattle.tree.specs.declared.fit.Entry.the-variants.{Task, Empty, Leaf
 use Rattle.tree.specs.declared.fit.Fit.{Fit}
 use Rattle.tree.specs.declared.fit.Fit.the-variants.{Refused, Open, Empty as EmptyFit, Leaf as LeafFit}
 use Rattle.tree.specs.Layout.{marksFrom, directoryOf, NodesFrom}
-use Rattle.tree.specs.Fits.{lineAt, pickEntry, entryOf, entryLine, headIn, pickFit, fitOf, deepFit, atLevel}
-use Rattle.tree.specs.Standing.{MethodsAt, nodeFrom, Beyond, Judged}
+use Rattle.tree.specs.Fits.{lineAt, asEntry, nodeEntry, entryLine, headIn, pickFit, fitOf, deepFit, atLevel}
+use Rattle.tree.specs.Standing.{MethodsAt, nodeFrom, asTask, Beyond, Judged}
 use Rattle.tree.proofs.Numbers.{length-numbers, line-read, many-first, HeadIs, method-head}
 
 -- ---- The node's line
 
-entry-line : (l : ℕ) (vs : List Value) (next : ℕ) → entryLine (entryOf (asAgain l vs next)) ≡ nodeOf (l, vs)
-unfolding entryOf nodeOf
-entry-line l vs next = go (eqb l 68) (eqb l 69)
-  where
-    go : (d e : Bool)
-        → entryLine (pickEntry d (Task (scalarAt vs 0)) (pickEntry e (Empty (scalarAt vs 0) (scalarAt vs 1)) (Leaf (scalarAt vs 0) (scalarAt vs 1))))
-        ≡ elim d as (λ x. NodeLine) [
-          | true ↦ D (scalarAt vs 0)
-          | false ↦ elim e as (λ x. NodeLine) [ true ↦ E (scalarAt vs 0) (scalarAt vs 1) | false ↦ L (scalarAt vs 0) (scalarAt vs 1) ]
-        ]
-    go true e = refl
-    go false true = refl
-    go false false = refl
+line-entry : (x : NodeLine) → entryLine (asEntry x) ≡ x
+line-entry (D m) = refl
+line-entry (E m g) = refl
+line-entry (L a i) = refl
+
+entry-line : (l : ℕ) (vs : List Value) (next : ℕ) → entryLine (nodeEntry (asAgain l vs next)) ≡ asNode (l, vs)
+unfolding nodeEntry asNode
+entry-line l vs next = line-entry (asNode (l, vs))
 
 drop-tail : {A : Type 0} (n : ℕ) (l : List A) (x : A) (xs : List A) → drop n l ≡ x ∷ xs → drop (n + 1) l ≡ xs
 drop-tail n l x xs e = sym (drop-drop 1 n l) ∙ ap (drop 1) e
 
 -- The node lines from node n on: its own, read again, and those after it.
 pub record EntryHere (text : List ℕ) (k : Case) (n : ℕ) (a : Again) : Type 0 where
-  pub here : drop n (k .nodes) ≡ entryLine (entryOf a) ∷ drop (n + 1) (k .nodes)
+  pub here : drop n (k .nodes) ≡ entryLine (nodeEntry a) ∷ drop (n + 1) (k .nodes)
   pub rest : NodesFrom text k (n + 1) (a .next .at)
 
 pub entry-here : (text : List ℕ) (k : Case) (n place : ℕ) → NodesFrom text k n place → n < k .head .nodes → (a : Again) → AgainAt text place a
@@ -59,17 +55,20 @@ pub entry-here : (text : List ℕ) (k : Case) (n place : ℕ) → NodesFrom text
 unfolding AgainAt
 entry-here text k n place f h a again =
     let left : k .head .nodes - n ≡ suc (k .head .nodes - (n + 1)) = omega arith in
-    let each = oneLine text (k .head) T.node 0 in
-    let m = many-first each (k .head .nodes - (n + 1)) (f .number) place (f .lines) (f .past) (f .next)
+    let each = oneLine text (k .head) T.node 0 asNode in
+    let m = many-first each (k .head .nodes - (n + 1)) (f .number) place (drop n (k .nodes)) (f .past) (f .next)
     (sym (ap (λ (c : ℕ). many each c (f .number) place) left) ∙ f .reads) in
-    let x = m .0 in
-    let e = line-read text (k .head) T.node (f .number) place x (m .1) (m .2) (m .4) in
-    let all : nodeOf x ∷ map nodeOf (m .3) ≡ drop n (k .nodes) = sym (ap (map nodeOf) (m .6)) ∙ f .are in
-    let tail : drop (n + 1) (k .nodes) ≡ map nodeOf (m .3) = drop-tail n (k .nodes) (nodeOf x) (map nodeOf (m .3)) (sym all) in
-    subst (EntryHere text k n) (sym (again T.node refl (k .head) 0 (x .0) (x .1) (m .2) e))
+    let (l, vs, reads, same) = line-read text (k .head) T.node asNode (f .number) place (m .0) (m .1) (m .2) (m .4) in
+    let tail : drop (n + 1) (k .nodes) ≡ m .3 = drop-tail n (k .nodes) (m .0) (m .3) (m .6) in
+    subst (EntryHere text k n) (sym (again T.node refl (k .head) 0 l vs (m .2) reads))
     (record {
-      here = sym all ∙ ap₂ _∷_ (sym (entry-line (x .0) (x .1) (m .2))) (sym tail);
-      rest = record { lines = m .3; number = m .1; past = f .past; next = f .next; reads = m .5; are = sym tail };
+      here = m .6 ∙ ap₂ _∷_ (sym (entry-line l vs (m .2) ∙ same)) (sym tail);
+      rest = record {
+        number = m .1;
+        past = f .past;
+        next = f .next;
+        reads = m .5 ∙ ap (λ (xs : List NodeLine). found (xs, f .past, f .next)) (sym tail);
+      };
     })
 
 -- Each node's numbers are in their ranges.
@@ -88,12 +87,12 @@ and-implied : (a b : Bool) → (b ≡ true → a ≡ true) → (a && b) ≡ b
 and-implied a true f = ap (λ (x : Bool). x && true) (f refl)
 and-implied a false f = and-false a
 
-module _ (text : List ℕ) (k : Case) (w : List ℕ) (s : Sound k) (found : MethodsAt text k (directoryOf w)) (m : ℕ) (h : m < k .head .methods) where
+module _ (text : List ℕ) (k : Case) (w : List ℕ) (s : Sound k) (there-are : MethodsAt text k (directoryOf w)) (m : ℕ) (h : m < k .head .methods) where
   head-here : HeadIs text (getD w (methodsFrom + m) 0) (methodAt (k .methods) m)
   unfolding methodsFrom marksFrom
   head-here =
       let few = s .head-good .few-methods in
-      let q = found m h in
+      let q = there-are m h in
       subst (λ (p : ℕ). HeadIs text p (methodAt (k .methods) m)) (getD-take marksFrom w (methodsFrom + m) 0 (omega arith))
       (method-head text (k .head) (q .0) (getD (directoryOf w) (methodsFrom + m) 0) (methodAt (k .methods) m) (q .1) (q .2) (q .3))
 
@@ -129,23 +128,23 @@ fits-leaf k a i t h =
 -- ---- The first step of the node's walk
 
 module _ (k : Case) (ok : ClaimTest) (t line : ℕ) (claimed : List ℕ) where
-  pub walk-lacking : (levels : ℕ) → walkNode levels k ok t line [] claimed ≡ Walk.refused (WrongNode line)
+  pub walk-lacking : (levels : ℕ) → walkNode levels k ok t line [] claimed ≡ refused (WrongNode line)
   unfolding walkNode
   walk-lacking zero = refl
   walk-lacking (suc levels) = refl
 
   module _ (x : NodeLine) (left : List NodeLine) where
-    abbrev byFit : Walk → Bool → Walk
-    byFit w b = elim b [ true ↦ w | false ↦ Walk.refused (WrongNode line) ]
+    abbrev byFit : Walk Tree → Bool → Walk Tree
+    byFit w b = elim b [ true ↦ w | false ↦ refused (WrongNode line) ]
 
-    walk-misfit : (levels : ℕ) → fits k x t ≡ false → walkNode levels k ok t line (x ∷ left) claimed ≡ Walk.refused (WrongNode line)
+    walk-misfit : (levels : ℕ) → fits k x t ≡ false → walkNode levels k ok t line (x ∷ left) claimed ≡ refused (WrongNode line)
     unfolding walkNode
-    walk-misfit zero e = ap (byFit (Walk.refused (TooDeep line))) e
+    walk-misfit zero e = ap (byFit (refused (TooDeep line))) e
     walk-misfit (suc levels) e = ap (byFit (walkFitting k ok (walkNode levels k ok) x line left claimed)) e
 
-    walk-deep : fits k x t ≡ true → walkNode zero k ok t line (x ∷ left) claimed ≡ Walk.refused (TooDeep line)
+    walk-deep : fits k x t ≡ true → walkNode zero k ok t line (x ∷ left) claimed ≡ refused (TooDeep line)
     unfolding walkNode
-    walk-deep e = ap (byFit (Walk.refused (TooDeep line))) e
+    walk-deep e = ap (byFit (refused (TooDeep line))) e
 
     walk-fits : (levels : ℕ) → fits k x t ≡ true
         → walkNode (suc levels) k ok t line (x ∷ left) claimed ≡ walkFitting k ok (walkNode levels k ok) x line left claimed
@@ -209,16 +208,16 @@ module _ (text : List ℕ) (k : Case) (p : Place) (t level : ℕ) where
   unfolding lineAt
   next-line = omega arith
 
-  module _ (w : List ℕ) (s : Sound k) (found : MethodsAt text k (directoryOf w)) where
+  module _ (w : List ℕ) (s : Sound k) (there-are : MethodsAt text k (directoryOf w)) where
     open-judged : (m : ℕ) (next : Place) → drop n (k .nodes) ≡ D m ∷ drop (n + 1) (k .nodes) → m < k .head .methods → Beyond text k p next
         → fits k (D m) t ≡ true → ltb level 65 ≡ true → Judged text k p t level (Open (headIn text w m .subtasks) next)
     open-judged m next there h b e v =
         let c = headIn text w m .subtasks in
-        let test = sym (fits-task text k w s found m h t) ∙ e in
+        let test = sym (fits-task text k w s there-are m h t) ∙ e in
         let some = eqb-false (c .count) 0 (not-true (eqb (c .count) 0) (both-true (eqb (headIn text w m .task) t) (not (eqb (c .count) 0)) test .1)) in (
           m,
           (λ claimed. goes (D m) there e v claimed
-              ∙ λ j. asTask m (walkSubtasks (walkNode (64 - level) k ok) (head-here text k w s found m h .subtasks j) (next-line j) (drop (n + 1) (k .nodes)) claimed)),
+              ∙ λ j. asTask m (walkSubtasks (walkNode (64 - level) k ok) (head-here text k w s there-are m h .subtasks j) (next-line j) (drop (n + 1) (k .nodes)) claimed)),
           ltb-true level 65 v,
           omega arith,
           b,
@@ -228,7 +227,7 @@ module _ (text : List ℕ) (k : Case) (p : Place) (t level : ℕ) where
         → fits k (E m g) t ≡ true → ltb level 65 ≡ true → Judged text k p t level (EmptyFit g next)
     empty-judged m g next there h b e v = (
       m,
-      (λ claimed. goes (E m g) there e v claimed ∙ ap (λ (l : ℕ). Walk.walked (empty m g) l (drop (n + 1) (k .nodes)) claimed) next-line),
+      (λ claimed. goes (E m g) there e v claimed ∙ ap (λ (l : ℕ). found (empty m g, l, drop (n + 1) (k .nodes), claimed)) next-line),
       (let few = s .head-good .few-cues in omega arith),
       b,
     )
@@ -237,9 +236,9 @@ module _ (text : List ℕ) (k : Case) (p : Place) (t level : ℕ) where
         → fits k (L a i) t ≡ true → ltb level 65 ≡ true → Judged text k p t level (LeafFit a i next)
     leaf-judged a i next there h h′ b e v = (
       (λ claimed. goes (L a i) there e v claimed
-          ∙ ap (λ (l : ℕ). elim (ok a i claimed) as (λ z. Walk) [
-            | true ↦ Walk.walked (Rattle.rules.specs.Tree.leaf a i) l (drop (n + 1) (k .nodes)) (i ∷ claimed)
-            | false ↦ Walk.refused (Rattle.rules.specs.declared.Answer.the-variants.WrongClaim here i)
+          ∙ ap (λ (l : ℕ). elim (ok a i claimed) as (λ z. Walk Tree) [
+            | true ↦ found (Rattle.rules.specs.Tree.leaf a i, l, drop (n + 1) (k .nodes), i ∷ claimed)
+            | false ↦ refused (Rattle.rules.specs.declared.Answer.the-variants.WrongClaim here i)
           ]) next-line),
       h,
       h′,
@@ -252,11 +251,11 @@ module _ (text : List ℕ) (k : Case) (p : Place) (t level : ℕ) where
     judged (Task m) next there good b =
         judged-by (D m) there (Open (headIn text w m .subtasks) next)
         (eqb (headIn text w m .task) t && not (eqb (headIn text w m .subtasks .count) 0)) (ltb level 65)
-        (fits-task text k w s found m good t) refl refl (open-judged m next there good b)
+        (fits-task text k w s there-are m good t) refl refl (open-judged m next there good b)
     judged (Empty m g) next there good b =
         judged-by (E m g) there (EmptyFit g next)
         (eqb (headIn text w m .task) t && eqb (headIn text w m .subtasks .count) 0) (ltb level 65)
-        (fits-empty text k w s found m (good .0) t g) refl refl (empty-judged m g next there (good .1) b)
+        (fits-empty text k w s there-are m (good .0) t g) refl refl (empty-judged m g next there (good .1) b)
     judged (Leaf a i) next there good b =
         judged-by (L a i) there (LeafFit a i next) (eqb a t) (ltb level 65) (fits-leaf k a i t (good .0)) refl refl
         (leaf-judged a i next there (good .1) (good .2) b)

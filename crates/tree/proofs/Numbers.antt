@@ -9,8 +9,10 @@ use lib.ListN.{length}
 use Rattle.rules.specs.declared.Header.{Header}
 use Rattle.rules.specs.Text.{Number, number, notPlain, missing, numberAt, Letter, letter, noLetter, letterAt, feedFollows}
 use Rattle.rules.specs.Table as T
-use Rattle.rules.specs.Table.{Role, Item, one, Row, table, rowIn, rowOf, roleNumber, inRange, taken, out, take, Value, scalar, members, numberOf, ItemRead, item, followTaken, withMember, leastAfter, readMembers, readList, readItem, LineRead, line, followItem, withValue, readItems, readRow, readLetter, readLine}
-use Rattle.rules.specs.Case.{Method, Case, Valued, Read, read, refused, follow, readOf, oneLine, many, oneMethod, methodOf, scalarAt, membersAt}
+use Rattle.rules.specs.Table.{Role, Item, one, Row, table, rowIn, rowOf, roleNumber, inRange, taken, out, within, Value, scalar, listed, numberOf, ItemRead, item, followTaken, withMember, leastAfter, readMembers, readList, readItem, LineRead, line, followItem, withValue, readItems, readRow, readLetter, readLine}
+use Rattle.rules.specs.Result.{found, refused, _>>=_}
+use Rattle.rules.specs.Case.{Case, Constraint, Method, Valued, scalarAt, membersAt, planOf, asConstraint, Read, readAs, oneLine, many, oneMethod}
+use Rattle.reading.proofs.Turns.{apart, same-parts}
 use Rattle.text.specs.declared.Cursor.{Cursor}
 use Rattle.text.specs.Cursor.{cursor}
 use Rattle.reading.specs.Again.{afterLetter, pastLetter, numberOr, numberHere}
@@ -29,7 +31,7 @@ ItemTells P (ItemRead.unreadable field) = Unit {0}
 ItemTells P (ItemRead.outside field) = Unit {0}
 
 taken-tells : (P : Value → ℕ → Type 0) (ok : ℕ → Bool) (c : Cursor) (x : Number) (field : ℕ) (rest : ℕ → ℕ → ItemRead)
-    → ItemTells P (rest (numberOr c x .value) (numberOr c x .next .at)) → ItemTells P (followTaken (take ok x) field rest)
+    → ItemTells P (rest (numberOr c x .value) (numberOr c x .next .at)) → ItemTells P (followTaken (within ok x) field rest)
 taken-tells P ok c (number v next) field rest f = go (ok v)
   where
     go : (b : Bool) → ItemTells P (followTaken (elim b [ true ↦ taken v next | false ↦ out ]) field rest)
@@ -38,20 +40,20 @@ taken-tells P ok c (number v next) field rest f = go (ok v)
 taken-tells P ok c notPlain field rest f = tt
 taken-tells P ok c missing field rest f = tt
 
-member-tells : (v : ℕ) (vs : List ℕ) (r : ItemRead) → ItemTells (λ x next. x ≡ members vs) r → ItemTells (λ x next. x ≡ members (v ∷ vs)) (withMember v r)
+member-tells : (v : ℕ) (vs : List ℕ) (r : ItemRead) → ItemTells (λ x next. x ≡ listed vs) r → ItemTells (λ x next. x ≡ listed (v ∷ vs)) (withMember v r)
 member-tells v vs (item (scalar w) field next) h = absurd (let z : _≡_ {A = ℕ} 0 1 = cc in native.Mathlib.Nat.not-suc-le-zero (native.Mathlib.Nat.le-of-eq (sym z)))
-member-tells v vs (item (members ws) field next) h = let e : ws ≡ vs = cc in ap (λ (l : List ℕ). members (v ∷ l)) e
+member-tells v vs (item (listed ws) field next) h = let e : ws ≡ vs = cc in ap (λ (l : List ℕ). listed (v ∷ l)) e
 member-tells v vs (ItemRead.unreadable field) h = tt
 member-tells v vs (ItemRead.outside field) h = tt
 
 module _ (text : List ℕ) (ok : ℕ → Bool) (ascending : Bool) where
   members-tell : (count low field : ℕ) (c : Cursor)
-      → ItemTells (λ x next. x ≡ members (numbersAt text count c)) (readMembers text ok ascending count low field (c .at))
+      → ItemTells (λ x next. x ≡ listed (numbersAt text count c)) (readMembers text ok ascending count low field (c .at))
   members-tell zero low field c = refl
   members-tell (suc count) low field c =
       let v = numberHere text c .value in
       let d = numberHere text c .next in
-      taken-tells (λ x next. x ≡ members (numbersAt text (suc count) c)) (λ w. leb low w && ok w) c (numberAt text (c .at)) field
+      taken-tells (λ x next. x ≡ listed (numbersAt text (suc count) c)) (λ w. leb low w && ok w) c (numberAt text (c .at)) field
       (λ w next. withMember w (readMembers text ok ascending count (leastAfter ascending w) (field + 1) next))
       (member-tells v (numbersAt text count d) (readMembers text ok ascending count (leastAfter ascending v) (field + 1) (d .at))
       (members-tell count (leastAfter ascending v) (field + 1) d))
@@ -135,7 +137,7 @@ plan-tells text h place =
     let start = cursor (pastLetter text place) in
     let P : List Value → Type 0 = λ vs. membersAt vs 0 ≡ numbersAt text (h .cues) start in
     line-tells text T.plan h 0 P place (λ l. (
-      item-then P (λ x next. x ≡ members (numbersAt text (h .cues) start)) (readMembers text (inRange h 0 [] T.anAction) false (h .cues) 0 2 (start .at))
+      item-then P (λ x next. x ≡ listed (numbersAt text (h .cues) start)) (readMembers text (inRange h 0 [] T.anAction) false (h .cues) 0 2 (start .at))
           (λ v after next. withValue v (readItems text h 0 l [] ([] ++ (numberOf v ∷ [])) after next))
           (members-tell text (inRange h 0 [] T.anAction) false (h .cues) 0 2 start)
           (λ v after next e. value-tells P v (readItems text h 0 l [] ([] ++ (numberOf v ∷ [])) after next)
@@ -146,11 +148,12 @@ plan-tells text h place =
 -- The plan's actions are the numbers of its line.
 pub plan-numbers : (text : List ℕ) (k : Case) (cues place : ℕ) (w : List ℕ) → PlanAt text k cues place w
     → numbersAt text cues (cursor (pastLetter text place)) ≡ k .plan
+unfolding planOf
 plan-numbers text k cues place w p =
     ap (λ (c : ℕ). numbersAt text c (cursor (pastLetter text place))) (p .count)
     ∙ sym (subst (LineTells (λ vs. membersAt vs 0 ≡ numbersAt text (k .head .cues) (cursor (pastLetter text place)))) (p .planLine .reads)
     (plan-tells text (k .head) place))
-    ∙ p .planCues
+    ∙ p .planLine .meant
 
 -- What the numbers of a method's line are.
 abbrev HeadTold : List ℕ → ℕ → List Value → Type 0
@@ -171,10 +174,10 @@ method-tells text h place =
           (λ v after next e.
           let is : List Item = T.subtaskList ∷ one (T.upTo 64) ∷ [] in
           value-tells P v (readItems text h 0 l is ([] ++ (numberOf v ∷ [])) after next)
-          (item-then (λ vs. P (v ∷ vs)) (λ x next. x ≡ members (numbersAt text (c .value) (c .next)))
+          (item-then (λ vs. P (v ∷ vs)) (λ x next. x ≡ listed (numbersAt text (c .value) (c .next)))
           (readItem text h 0 ([] ++ (numberOf v ∷ [])) T.subtaskList after next) _
           (rw (e .1)
-          (taken-tells (λ x next. x ≡ members (numbersAt text (c .value) (c .next))) (inRange h 0 ([] ++ (numberOf v ∷ [])) (T.upTo 32))
+          (taken-tells (λ x next. x ≡ listed (numbersAt text (c .value) (c .next))) (inRange h 0 ([] ++ (numberOf v ∷ [])) (T.upTo 32))
           (countPlace text place) (numberAt text (countPlace text place .at)) after
           (λ count start. readMembers text (inRange h 0 ([] ++ (numberOf v ∷ [])) T.task) false count 0 (after + 1) start)
           (members-tell text (inRange h 0 ([] ++ (numberOf v ∷ [])) T.task) false (c .value) 0 (after + 1) (c .next))))
@@ -186,76 +189,51 @@ method-tells text h place =
     ))
 
 -- A reading that goes on was one that read.
-follow-read : {A B : Type 0} (r : Read A) (rest : A → ℕ → ℕ → Read B) (b : B) (n p : ℕ) → follow r rest ≡ read b n p
-    → (a : A) × (n′ p′ : ℕ) × (r ≡ read a n′ p′) × (rest a n′ p′ ≡ read b n p)
-follow-read (read a n′ p′) rest b n p e = (a, n′, p′, refl, e)
-follow-read (refused x) rest b n p e = let z : _≡_ {A = ℕ} 0 1 = cc in absurd (zero-one z)
-  where
-    zero-one : _≡_ {A = ℕ} 0 1 → ⊥
-    zero-one z = omega native.Mathlib.Omega.arith
-
-read-line : (n : ℕ) (r : LineRead) (x : Valued) (n′ p′ : ℕ) → readOf n r ≡ read x n′ p′ → r ≡ line (x .0) (x .1) p′
-read-line n (line l vs next) x n′ p′ e =
-    let a : l ≡ x .0 = ap (λ (r : Read Valued). fst r) e in
-    let b : vs ≡ x .1 = ap (λ (r : Read Valued). snd r) e in
-    let c : next ≡ p′ = cc in
-    λ j. line (a j) (b j) (c j)
-  where
-    fst : Read Valued → ℕ
-    fst (read y m q) = y .0
-    fst (refused z) = 0
-
-    snd : Read Valued → List Value
-    snd (read y m q) = y .1
-    snd (refused z) = []
-read-line n (LineRead.unreadable f) x n′ p′ e = let z : _≡_ {A = ℕ} 0 1 = cc in absurd (omega native.Mathlib.Omega.arith)
-read-line n (LineRead.outside f) x n′ p′ e = let z : _≡_ {A = ℕ} 0 1 = cc in absurd (omega native.Mathlib.Omega.arith)
+follow-read : {A B : Type 0} (r : Read A) (rest : A × ℕ × ℕ → Read B) (x : B × ℕ × ℕ) → (r >>= rest) ≡ found x → (a : A × ℕ × ℕ) × (r ≡ found a) × (rest a ≡ found x)
+follow-read (found a) rest x e = (a, refl, e)
+follow-read (refused r) rest x e = apart (cc)
 
 -- A line that is read, as the line reader has it.
-pub line-read : (text : List ℕ) (h : Header) (due : Role) (n place : ℕ) (x : Valued) (n′ p′ : ℕ) → oneLine text h due 0 n place ≡ read x n′ p′
-    → readLine text due h 0 place ≡ line (x .0) (x .1) p′
+pub line-read : {A : Type 0} (text : List ℕ) (h : Header) (due : Role) (means : Valued → A) (n place : ℕ) (x : A) (n′ p′ : ℕ)
+    → oneLine text h due 0 means n place ≡ found (x, n′, p′)
+    → (l : ℕ) × (vs : List Value) × (readLine text due h 0 place ≡ line l vs p′) × (means (l, vs) ≡ x)
 unfolding oneLine
-line-read text h due n place x n′ p′ e = read-line n (readLine text due h 0 place) x n′ p′ e
+line-read text h due means n place x n′ p′ e = go (readLine text due h 0 place) refl e
+  where
+    go : (r : LineRead) → readLine text due h 0 place ≡ r → readAs means n r ≡ found (x, n′, p′)
+        → (l : ℕ) × (vs : List Value) × (readLine text due h 0 place ≡ line l vs p′) × (means (l, vs) ≡ x)
+    go (line l vs next) q e = let w = same-parts e in (l, vs, q ∙ ap (λ (p : ℕ). line l vs p) (w .2), w .0)
+    go (LineRead.unreadable f) q e = apart (cc)
+    go (LineRead.outside f) q e = apart (cc)
 
 -- The first of several, and the others.
-pub many-first : {A : Type 0} (each : ℕ → ℕ → Read A) (count n place : ℕ) (xs : List A) (n″ p″ : ℕ) → many each (suc count) n place ≡ read xs n″ p″
-    → (x : A) × (n′ p′ : ℕ) × (ys : List A) × (each n place ≡ read x n′ p′) × (many each count n′ p′ ≡ read ys n″ p″) × (xs ≡ x ∷ ys)
+pub many-first : {A : Type 0} (each : ℕ → ℕ → Read A) (count n place : ℕ) (xs : List A) (n″ p″ : ℕ) → many each (suc count) n place ≡ found (xs, n″, p″)
+    → (x : A) × (n′ p′ : ℕ) × (ys : List A) × (each n place ≡ found (x, n′, p′)) × (many each count n′ p′ ≡ found (ys, n″, p″)) × (xs ≡ x ∷ ys)
 many-first each count n place xs n″ p″ e =
-    let a = follow-read (each n place) _ xs n″ p″ e in
-    let b = follow-read (many each count (a .1) (a .2)) _ xs n″ p″ (a .4) in
-    let q = b .4 in
-    (a .0, a .1, a .2, b .0, a .3, b .3 ∙ λ j. read (b .0) (number-same q j) (place-same q j), sym (list-same q))
-  where
-    list-same : {A : Type 0} {xs ys : List A} {n p n′ p′ : ℕ} → read xs n p ≡ read ys n′ p′ → xs ≡ ys
-    list-same e = cc
-
-    number-same : {A : Type 0} {xs ys : List A} {n p n′ p′ : ℕ} → read xs n p ≡ read ys n′ p′ → n ≡ n′
-    number-same e = cc
-
-    place-same : {A : Type 0} {xs ys : List A} {n p n′ p′ : ℕ} → read xs n p ≡ read ys n′ p′ → p ≡ p′
-    place-same e = cc
+    let a = follow-read (each n place) _ (xs, n″, p″) e in
+    let b = follow-read (many each count (a .0 .1) (a .0 .2)) _ (xs, n″, p″) (a .2) in
+    let w = same-parts (b .2) in
+    (a .0 .0, a .0 .1, a .0 .2, b .0 .0, a .1, b .1 ∙ (λ j. found (b .0 .0, w .1 j, w .2 j)), sym (w .0))
 
 -- A method's line holds its task, its subtask count and its subtasks.
 pub record HeadIs (text : List ℕ) (place : ℕ) (m : Method) : Type 0 where
   pub task : m .task ≡ methodHead text place .task
   pub subtasks : m .subtasks ≡ numbersAt text (methodHead text place .subtasks .count) (methodHead text place .subtasks .at)
 
-head-is : (text : List ℕ) (place : ℕ) (vs : List Value) (cs : List Valued) (m : Method) → HeadTold text place vs → methodOf vs cs ≡ m → HeadIs text place m
-unfolding methodOf methodHead
+head-is : (text : List ℕ) (place : ℕ) (vs : List Value) (cs : List Constraint) (m : Method) → HeadTold text place vs
+    → record { task = scalarAt vs 0; subtasks = membersAt vs 1; constraints = cs } ≡ m → HeadIs text place m
+unfolding methodHead
 head-is text place vs cs m h e = record {
   task = sym (ap (λ (x : Method). x .task) e) ∙ h .0;
   subtasks = sym (ap (λ (x : Method). x .subtasks) e) ∙ h .1;
 }
 
-pub method-head : (text : List ℕ) (h : Header) (n place : ℕ) (m : Method) (n″ p″ : ℕ) → oneMethod text h n place ≡ read m n″ p″ → HeadIs text place m
+pub method-head : (text : List ℕ) (h : Header) (n place : ℕ) (m : Method) (n″ p″ : ℕ) → oneMethod text h n place ≡ found (m, n″, p″) → HeadIs text place m
 unfolding oneMethod
 method-head text h n place m n″ p″ e =
-    let a = follow-read (oneLine text h T.method 0 n place) _ m n″ p″ e in
-    let x = a .0 in
-    let b = follow-read (many (oneLine text h T.constraint (scalarAt (x .1) 1)) (scalarAt (x .1) 2) (a .1) (a .2)) _ m n″ p″ (a .4) in
-    let q : methodOf (x .1) (b .0) ≡ m = read-same (b .4) in
-    head-is text place (x .1) (b .0) m
-    (subst (LineTells (HeadTold text place)) (line-read text h T.method n place x (a .1) (a .2) (a .3)) (method-tells text h place)) q
-  where
-    read-same : {A : Type 0} {x y : A} {n p n′ p′ : ℕ} → read x n p ≡ read y n′ p′ → x ≡ y
-    read-same e = cc
+    let a = follow-read (oneLine text h T.method 0 (λ x. x .1) n place) _ (m, n″, p″) e in
+    let vs = a .0 .0 in
+    let b = follow-read (many (oneLine text h T.constraint (scalarAt vs 1) asConstraint) (scalarAt vs 2) (a .0 .1) (a .0 .2)) _ (m, n″, p″) (a .2) in
+    let (l, ws, reads, same) = line-read text h T.method (λ x. x .1) n place vs (a .0 .1) (a .0 .2) (a .1) in
+    head-is text place vs (b .0 .0) m
+    (subst (HeadTold text place) same (subst (LineTells (HeadTold text place)) reads (method-tells text h place))) (same-parts (b .2) .0)

@@ -12,8 +12,9 @@ use lib.Seq.{sets}
 use Rattle.rules.specs.declared.Answer.{Answer}
 use Rattle.rules.specs.declared.Answer.the-variants.{WrongClaim}
 use Rattle.rules.specs.Index.{at, ofCue, ofGap, hull}
+use Rattle.rules.specs.Result.{found, refused}
 use Rattle.rules.specs.Case.{Case}
-use Rattle.rules.specs.Tree.{leaf, span, spans, Walk, Walks, asTask, mayClaim, isIn}
+use Rattle.rules.specs.Tree.{Tree, Trees, leaf, span, spans, Walk, mayClaim, isIn}
 use Rattle.tree.specs.declared.fit.Given.{Given}
 use Rattle.tree.specs.declared.fit.Place.{Place}
 use Rattle.tree.specs.declared.fit.Subtasks.{Subtasks}
@@ -23,7 +24,7 @@ use Rattle.tree.specs.declared.rows.Walked.the-variants.{Refused}
 use Rattle.tree.specs.Layout.{rowsFrom, marksFrom, planFrom, size, sizes, row, rows, rowsAll, marksOf, directoryOf, marksIn, planIn}
 use Rattle.tree.specs.Numbers.{numbersAt}
 use Rattle.tree.specs.Fits.{lineAt}
-use Rattle.tree.specs.Standing.{Steady, listFrom, claimFrom, Beyond, Judged, putRow, settled, noted, Told, ToldAll, ClaimTold, Claims, WalksNode, WalksList}
+use Rattle.tree.specs.Standing.{asTask, Steady, listFrom, claimFrom, Beyond, Judged, putRow, settled, noted, Told, ToldAll, ClaimTold, Claims, WalksNode, WalksList}
 use Rattle.tree.proofs.Stores.{in-front, row-rows, row-directory, row-marks, row-plan, mark-rows, mark-directory, mark-plan, mark-marks}
 use Rattle.tree.proofs.Claimed.{marks-claim, mark-clear, mark-set, plan-at}
 
@@ -37,11 +38,11 @@ module _ (k : Case) (n a i : ℕ) (next : Place) (w : List ℕ) (low : 1 ≤ i) 
   same-place : 1 + (i - 1) ≡ i
   same-place = omega arith
 
-  abbrev byTest : List ℕ → Bool → Walk
+  abbrev byTest : List ℕ → Bool → Walk Tree
   byTest claimed b =
       elim b [
-        | true ↦ Walk.walked (leaf a i) (lineAt (k .planLine) (n + 1)) (drop (n + 1) (k .nodes)) (i ∷ claimed)
-        | false ↦ Walk.refused (WrongClaim (lineAt (k .planLine) n) i)
+        | true ↦ found (leaf a i, lineAt (k .planLine) (n + 1), drop (n + 1) (k .nodes), i ∷ claimed)
+        | false ↦ refused (WrongClaim (lineAt (k .planLine) n) i)
       ]
 
   pub claim-right : (r : Walked) (v : List ℕ) → getD w (planFrom + (i - 1)) 0 ≡ a → getD w (marksFrom + (i - 1)) 0 ≡ 0
@@ -90,7 +91,7 @@ module _ (text : List ℕ) (k : Case) (t level : ℕ) (p : Place) (w : List ℕ)
   Here r v = WalksNode text k (65 - level) t n w r v
 
   pub refuses : (a : Answer) (v : List ℕ) → Judged text k p t level (Rattle.tree.specs.declared.fit.Fit.the-variants.Refused a) → Here (Refused a) v
-  refuses a v j claimed m = subst (λ (x : Walk). Told text k n w x (Refused a) v) (sym (j claimed)) refl
+  refuses a v j claimed m = subst (λ (x : Walk Tree). Told text k n w x (Refused a) v) (sym (j claimed)) refl
 
   module _ (next : Place) (b : Beyond text k p next) where
     pub inside : (g : Given) → Steady text k g w → n < g .header .nodes
@@ -107,7 +108,7 @@ module _ (text : List ℕ) (k : Case) (t level : ℕ) (p : Place) (w : List ℕ)
     unfolding span size rows
     rests g r v j few er ev claimed m =
         let s = at (ofGap g) in
-        subst (λ (x : Walk). Told text k n w x r v) (sym (j .1 claimed))
+        subst (λ (x : Walk Tree). Told text k n w x r v) (sym (j .1 claimed))
         (record {
           next = next;
           answer = er;
@@ -123,12 +124,12 @@ module _ (text : List ℕ) (k : Case) (t level : ℕ) (p : Place) (w : List ℕ)
 
     leaf-told : (a i : ℕ) (claimed : List ℕ) (c : Bool) (r : Walked) (v : List ℕ)
         → ClaimTold k n a i next w (elim c [
-          | true ↦ Walk.walked (leaf a i) (lineAt (k .planLine) (n + 1)) (drop (n + 1) (k .nodes)) (i ∷ claimed)
-          | false ↦ Walk.refused (WrongClaim (lineAt (k .planLine) n) i)
+          | true ↦ found (leaf a i, lineAt (k .planLine) (n + 1), drop (n + 1) (k .nodes), i ∷ claimed)
+          | false ↦ refused (WrongClaim (lineAt (k .planLine) n) i)
         ]) r v
         → Told text k n w (elim c [
-          | true ↦ Walk.walked (leaf a i) (lineAt (k .planLine) (n + 1)) (drop (n + 1) (k .nodes)) (i ∷ claimed)
-          | false ↦ Walk.refused (WrongClaim (lineAt (k .planLine) n) i)
+          | true ↦ found (leaf a i, lineAt (k .planLine) (n + 1), drop (n + 1) (k .nodes), i ∷ claimed)
+          | false ↦ refused (WrongClaim (lineAt (k .planLine) n) i)
         ]) r v
     unfolding span size rows
     leaf-told a i claimed true r v h =
@@ -149,13 +150,13 @@ module _ (text : List ℕ) (k : Case) (t level : ℕ) (p : Place) (w : List ℕ)
     pub claims : (a i : ℕ) (r : Walked) (v : List ℕ) → Judged text k p t level (Rattle.tree.specs.declared.fit.Fit.the-variants.Leaf a i next)
         → Claims k n a i next w r v → Here r v
     claims a i r v j h claimed m =
-        subst (λ (x : Walk). Told text k n w x r v) (sym (j .0 claimed)) (leaf-told a i claimed (mayClaim (k .plan) a i claimed) r v (h claimed m))
+        subst (λ (x : Walk Tree). Told text k n w x r v) (sym (j .0 claimed)) (leaf-told a i claimed (mayClaim (k .plan) a i claimed) r v (h claimed m))
 
     -- The task whose subtasks are walked, from the node after its own.
-    task-told : (m : ℕ) (ws : Walks) (r : Walked) (u v : List ℕ) → k .head .cues ≤ 1000 → ToldAll text k (next .node) w ws r u → v ≡ noted n r u
+    task-told : (m : ℕ) (ws : Walk Trees) (r : Walked) (u v : List ℕ) → k .head .cues ≤ 1000 → ToldAll text k (next .node) w ws r u → v ≡ noted n r u
         → Told text k n w (asTask m ws) r v
     unfolding span size rows
-    task-told m (Walks.walked ts line left claimed) r u v few h ev =
+    task-told m (found (ts, line, left, claimed)) r u v few h ev =
         let f = h .1 in
         let s = hull (spans ts) in
         let count : f .next .node ≡ n + (1 + sizes ts) = let a = f .after in let o = b .one in omega arith in
@@ -177,11 +178,11 @@ module _ (text : List ℕ) (k : Case) (t level : ℕ) (p : Place) (w : List ℕ)
           directory = ap directoryOf e ∙ row-directory n s (f .next .node) u ∙ f .directory;
           plan = ap (planIn (k .head .cues)) e ∙ row-plan n s (f .next .node) u (k .head .cues) few ∙ f .plan;
         }
-    task-told m (Walks.refused a) r u v few h ev = h
+    task-told m (refused a) r u v few h ev = h
 
     pub opens : (s : Subtasks) (r : Walked) (u v : List ℕ) → Judged text k p t level (Rattle.tree.specs.declared.fit.Fit.the-variants.Open s next)
         → k .head .cues ≤ 1000 → WalksList text k (64 - level) (numbersAt text (s .count) (s .at)) (next .node) w r u → v ≡ noted n r u → Here r v
     opens s r u v j few h ev claimed m =
-        subst (λ (x : Walk). Told text k n w x r v) (sym (j .1 claimed))
+        subst (λ (x : Walk Tree). Told text k n w x r v) (sym (j .1 claimed))
         (task-told (j .0) (listFrom k (64 - level) (numbersAt text (s .count) (s .at)) (n + 1) claimed) r u v few
         (subst (λ (x : ℕ). ToldAll text k (next .node) w (listFrom k (64 - level) (numbersAt text (s .count) (s .at)) x claimed) r u) (b .one) (h claimed m)) ev)

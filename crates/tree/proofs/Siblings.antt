@@ -9,8 +9,9 @@ use lib.Seq.{sets}
 use Rattle.rules.specs.declared.Answer.{Answer}
 use Rattle.rules.specs.Index as Ix
 use Rattle.rules.specs.Index.{hull}
+use Rattle.rules.specs.Result.{found, refused, _>>=_}
 use Rattle.rules.specs.Case.{NodeLine, Case}
-use Rattle.rules.specs.Tree.{Tree, Trees, noTree, more, span, spans, Walk, Walks, Walker, withTree, followTree, walkSubtasks, mayClaim, walkNode}
+use Rattle.rules.specs.Tree.{Tree, Trees, noTree, more, span, spans, Walk, Walker, walkSubtasks, mayClaim, walkNode}
 use Rattle.rules.proofs.Spans.{spanFrom, hull-one, hull-two, hull-cons-start, hull-cons-end, hull-join}
 use Rattle.index.specs.declared.Span.{Span}
 use Rattle.index.specs.Spans.{spanOf, asSpan}
@@ -78,32 +79,39 @@ hull-append (more t ts) us h g =
 
 -- ---- The definition's walk of a list of tasks, and of tasks after them
 
-abbrev withTrees : Trees → Walks → Walks
-withTrees ts (Walks.walked us line left claimed) = Walks.walked (appendTrees ts us) line left claimed
-withTrees ts (Walks.refused a) = Walks.refused a
+-- Trees after a first one.
+abbrev withTree : Tree → Walk Trees → Walk Trees
+withTree t ws = ws >>= λ (ts, line, nodes, claimed). found (more t ts, line, nodes, claimed)
 
-abbrev followTrees : Walks → (ℕ → List NodeLine → List ℕ → Walks) → Walks
-followTrees (Walks.walked ts line left claimed) rest = withTrees ts (rest line left claimed)
-followTrees (Walks.refused a) rest = Walks.refused a
+abbrev followTree : Walk Tree → (ℕ → List NodeLine → List ℕ → Walk Trees) → Walk Trees
+followTree x rest = x >>= λ (t, line, nodes, claimed). withTree t (rest line nodes claimed)
 
-with-none : (ws : Walks) → ws ≡ withTrees noTree ws
-with-none (Walks.walked us line left claimed) = refl
-with-none (Walks.refused a) = refl
+abbrev withTrees : Trees → Walk Trees → Walk Trees
+withTrees ts (found (us, line, left, claimed)) = found (appendTrees ts us, line, left, claimed)
+withTrees ts (refused a) = refused a
 
-with-more : (t : Tree) (ts : Trees) (ws : Walks) → withTree t (withTrees ts ws) ≡ withTrees (more t ts) ws
-with-more t ts (Walks.walked us line left claimed) = refl
-with-more t ts (Walks.refused a) = refl
+abbrev followTrees : Walk Trees → (ℕ → List NodeLine → List ℕ → Walk Trees) → Walk Trees
+followTrees (found (ts, line, left, claimed)) rest = withTrees ts (rest line left claimed)
+followTrees (refused a) rest = refused a
 
-module _ (rest : ℕ → List NodeLine → List ℕ → Walks) where
-  with-follow : (t : Tree) (ws : Walks) → withTree t (followTrees ws rest) ≡ followTrees (withTree t ws) rest
-  with-follow t (Walks.walked ts line left claimed) = with-more t ts (rest line left claimed)
-  with-follow t (Walks.refused a) = refl
+with-none : (ws : Walk Trees) → ws ≡ withTrees noTree ws
+with-none (found (us, line, left, claimed)) = refl
+with-none (refused a) = refl
 
-  follow-first : (x : Walk) (all first : ℕ → List NodeLine → List ℕ → Walks)
+with-more : (t : Tree) (ts : Trees) (ws : Walk Trees) → withTree t (withTrees ts ws) ≡ withTrees (more t ts) ws
+with-more t ts (found (us, line, left, claimed)) = refl
+with-more t ts (refused a) = refl
+
+module _ (rest : ℕ → List NodeLine → List ℕ → Walk Trees) where
+  with-follow : (t : Tree) (ws : Walk Trees) → withTree t (followTrees ws rest) ≡ followTrees (withTree t ws) rest
+  with-follow t (found (ts, line, left, claimed)) = with-more t ts (rest line left claimed)
+  with-follow t (refused a) = refl
+
+  follow-first : (x : Walk Tree) (all first : ℕ → List NodeLine → List ℕ → Walk Trees)
       → ((line : ℕ) (left : List NodeLine) (claimed : List ℕ) → all line left claimed ≡ followTrees (first line left claimed) rest)
       → followTree x all ≡ followTrees (followTree x first) rest
-  follow-first (Walk.walked t line left claimed) all first h = ap (withTree t) (h line left claimed) ∙ with-follow t (first line left claimed)
-  follow-first (Walk.refused a) all first h = refl
+  follow-first (found (t, line, left, claimed)) all first h = ap (withTree t) (h line left claimed) ∙ with-follow t (first line left claimed)
+  follow-first (refused a) all first h = refl
 
 walk-append : (walk : Walker) (ts us : List ℕ) (line : ℕ) (left : List NodeLine) (claimed : List ℕ)
     → walkSubtasks walk (ts ++ us) line left claimed
@@ -120,10 +128,10 @@ pub refused-next : {a : Answer} {next : Place} {s : Span} → Next next s ≡ Re
 refused-next e = let z : _≡_ {A = ℕ} 0 1 = cc in omega arith
 
 -- One task alone.
-one-told : (text : List ℕ) (k : Case) (n : ℕ) (w : List ℕ) (r : Walked) (v : List ℕ) (x : Walk) → Told text k n w x r v
-    → ToldAll text k n w (followTree x (λ line left claimed. Walks.walked noTree line left claimed)) r v
+one-told : (text : List ℕ) (k : Case) (n : ℕ) (w : List ℕ) (r : Walked) (v : List ℕ) (x : Walk Tree) → Told text k n w x r v
+    → ToldAll text k n w (followTree x (λ line left claimed. found (noTree, line, left, claimed))) r v
 unfolding sizes spans rowsAll
-one-told text k n w r v (Walk.walked t line left claimed) f = (
+one-told text k n w r v (found (t, line, left, claimed)) f = (
   tt,
   record {
     next = f .next;
@@ -138,7 +146,7 @@ one-told text k n w r v (Walk.walked t line left claimed) f = (
     plan = f .plan;
   },
 )
-one-told text k n w r v (Walk.refused a) f = f
+one-told text k n w r v (refused a) f = f
 
 module _ (text : List ℕ) (k : Case) (n : ℕ) (w : List ℕ) (next : Place) (s : Span) (v₁ : List ℕ) where
   -- A walk that ended at `next` found trees.
@@ -147,10 +155,10 @@ module _ (text : List ℕ) (k : Case) (n : ℕ) (w : List ℕ) (next : Place) (s
   same-next ts f = (cc (f .answer), cc (f .answer))
 
   module _ (r r₂ : Walked) (v : List ℕ) (e : r ≡ joined (spanOf s) r₂) where
-    both-told : (ts : Trees) (line : ℕ) (left : List NodeLine) (claimed : List ℕ) (ws : Walks) → Some ts
+    both-told : (ts : Trees) (line : ℕ) (left : List NodeLine) (claimed : List ℕ) (ws : Walk Trees) → Some ts
         → Passed text k n (sizes ts) (hull (spans ts)) (rowsAll ts n) line left claimed w (Next next s) v₁ → ToldAll text k (next .node) v₁ ws r₂ v
         → ToldAll text k n w (withTrees ts ws) r v
-    both-told ts line left claimed (Walks.walked us line₂ left₂ claimed₂) some f h =
+    both-told ts line left claimed (found (us, line₂, left₂, claimed₂)) some f h =
         let g = h .1 in
         let sn = same-next ts f in
         let here : next .node ≡ n + sizes ts = ap (λ (p : Place). p .node) (sn .0) ∙ f .after in
@@ -175,28 +183,26 @@ module _ (text : List ℕ) (k : Case) (n : ℕ) (w : List ℕ) (next : Place) (s
             plan = g .plan ∙ f .plan;
           },
         )
-    both-told ts line left claimed (Walks.refused a) some f h = e ∙ ap (joined (spanOf s)) h
+    both-told ts line left claimed (refused a) some f h = e ∙ ap (joined (spanOf s)) h
 
-    then-told : (x : Walks) (rest : ℕ → List NodeLine → List ℕ → Walks) → ToldAll text k n w x (Next next s) v₁
+    then-told : (x : Walk Trees) (rest : ℕ → List NodeLine → List ℕ → Walk Trees) → ToldAll text k n w x (Next next s) v₁
         → ((claimed : List ℕ) → marksIn (k .head .cues) v₁ ≡ marksOf (k .head .cues) claimed
         → ToldAll text k (next .node) v₁ (rest (lineAt (k .planLine) (next .node)) (drop (next .node) (k .nodes)) claimed) r₂ v)
         → ToldAll text k n w (followTrees x rest) r v
-    then-told (Walks.walked ts line left claimed) rest f h =
+    then-told (found (ts, line, left, claimed)) rest f h =
         let there : f .1 .next .node ≡ next .node = ap (λ (p : Place). p .node) (sym (same-next ts (f .1) .0)) in
         let on : line ≡ lineAt (k .planLine) (next .node) = f .1 .lines ∙ ap (lineAt (k .planLine)) there in
         let over : left ≡ drop (next .node) (k .nodes) = f .1 .lefts ∙ ap (λ (m : ℕ). drop m (k .nodes)) there in
         both-told ts line left claimed (rest line left claimed) (f .0) (f .1)
-        (subst (λ (ws : Walks). ToldAll text k (next .node) v₁ ws r₂ v) (λ j. rest (sym on j) (sym over j) claimed) (h claimed (f .1 .marked)))
-    then-told (Walks.refused a) rest f h = absurd (refused-next f)
+        (subst (λ (ws : Walk Trees). ToldAll text k (next .node) v₁ ws r₂ v) (λ j. rest (sym on j) (sym over j) claimed) (h claimed (f .1 .marked)))
+    then-told (refused a) rest f h = absurd (refused-next f)
 
-  moves-on : (g : Given) (x : Walks) → Steady text k g w → length v₁ ≡ length w → ToldAll text k n w x (Next next s) v₁
+  moves-on : (g : Given) (x : Walk Trees) → Steady text k g w → length v₁ ≡ length w → ToldAll text k n w x (Next next s) v₁
       → Steady text k g v₁ × Follows text k next × (n ≤ next .node)
-  moves-on g (Walks.walked ts line left claimed) st l h =
+  moves-on g (found (ts, line, left, claimed)) st l h =
       let f = h .1 in
       let there = same-next ts f .0 in (
         record {
-          line = st .line;
-          place = st .place;
           reads = st .reads;
           head = st .head;
           planned = st .planned;
@@ -210,12 +216,12 @@ module _ (text : List ℕ) (k : Case) (n : ℕ) (w : List ℕ) (next : Place) (s
         subst (Follows text k) (sym there) (f .follows),
         (let e = ap (λ (p : Place). p .node) there in let a = f .after in omega arith),
       )
-  moves-on g (Walks.refused a) st l f = absurd (refused-next f)
+  moves-on g (refused a) st l f = absurd (refused-next f)
 
-stop-told : (text : List ℕ) (k : Case) (n : ℕ) (w : List ℕ) (a : Answer) (v : List ℕ) (x : Walks) (rest : ℕ → List NodeLine → List ℕ → Walks)
+stop-told : (text : List ℕ) (k : Case) (n : ℕ) (w : List ℕ) (a : Answer) (v : List ℕ) (x : Walk Trees) (rest : ℕ → List NodeLine → List ℕ → Walk Trees)
     → ToldAll text k n w x (Refused a) v → ToldAll text k n w (followTrees x rest) (Refused a) v
-stop-told text k n w a v (Walks.walked ts line left claimed) rest f = absurd (refused-next (sym (f .1 .answer)))
-stop-told text k n w a v (Walks.refused b) rest f = f
+stop-told text k n w a v (found (ts, line, left, claimed)) rest f = absurd (refused-next (sym (f .1 .answer)))
+stop-told text k n w a v (refused b) rest f = f
 
 -- ---- The loop
 
@@ -245,14 +251,14 @@ module _ (text : List ℕ) (k : Case) (level : ℕ) where
       one-told text k n w r v (nodeFrom k (64 - level) t n claimed) (subst (λ (l : ℕ). Told text k n w (nodeFrom k l t n claimed) r v) d (f claimed m))
 
   module _ (ts us : List ℕ) (n : ℕ) (w : List ℕ) where
-    abbrev rest : ℕ → List NodeLine → List ℕ → Walks
+    abbrev rest : ℕ → List NodeLine → List ℕ → Walk Trees
     rest line left claimed = walkSubtasks (walkNode (64 - level) k (mayClaim (k .plan))) us line left claimed
 
     -- The walk of all the tasks, from the walk of the first ones.
     append-told : (r : Walked) (v claimed : List ℕ) → ToldAll text k n w (followTrees (listFrom k (64 - level) ts n claimed) rest) r v
         → ToldAll text k n w (listFrom k (64 - level) (ts ++ us) n claimed) r v
     append-told r v claimed h =
-        subst (λ (x : Walks). ToldAll text k n w x r v)
+        subst (λ (x : Walk Trees). ToldAll text k n w x r v)
         (sym (walk-append (walkNode (64 - level) k (mayClaim (k .plan))) ts us (lineAt (k .planLine) n) (drop n (k .nodes)) claimed)) h
 
     append-done : (next : Place) (s : Span) (v₁ : List ℕ) (r₂ r : Walked) (v : List ℕ) → Done ts n w (Next next s) v₁ → Done us (next .node) v₁ r₂ v

@@ -28,7 +28,7 @@ use Rattle.tree.specs.declared.fit.Fit.{Fit}
 use Rattle.tree.specs.declared.fit.Fit.the-variants.{Refused, Open, Empty as EmptyFit, Leaf as LeafFit}
 use Rattle.tree.specs.declared.rows.Walked.{Walked}
 use Rattle.tree.specs.Numbers.{numbersAt}
-use Rattle.tree.specs.Fits.{lineAt, Follows, entryOf, entryLine, WithMethod, methodHead, headIn, pickFit, fitOf, deepFit, atLevel, firstOf}
+use Rattle.tree.specs.Fits.{lineAt, Follows, nodeEntry, entryLine, WithMethod, methodHead, headIn, pickFit, fitOf, deepFit, atLevel, firstOf}
 use Rattle.tree.specs.Standing.{Steady, Beyond, Judged}
 use Rattle.tree.proofs.Judging.{EntryHere, entry-here, good-node, judged-lacking, judged}
 
@@ -87,7 +87,7 @@ level-none level fit f deep h e =
 
 module _ (text : List ℕ) (k : Case) (g : Given) (w : List ℕ) (st : Steady text k g w) where
   pub case-sound : Sound k
-  case-sound = sound text k (st .line) (st .place) (st .reads)
+  case-sound = sound text k (st .reads)
 
   pub nodes-few : g .header .nodes ≤ 3000
   nodes-few = let e = ap (λ (h : Header). h .nodes) (st .head) in let f = case-sound .head-good .few-nodes in omega arith
@@ -129,18 +129,18 @@ module _ (text : List ℕ) (k : Case) (g : Given) (w : List ℕ) (st : Steady te
       read-here : EntryHere text k (p .node) a
       read-here = entry-here text k (p .node) (p .at .at) (f .nodes) below a again
 
-      entry-good : GoodNode (k .head) (entryLine (entryOf a))
-      entry-good = good-node k case-sound (p .node) (entryLine (entryOf a)) (drop (p .node + 1) (k .nodes)) below (read-here .here)
+      entry-good : GoodNode (k .head) (entryLine (nodeEntry a))
+      entry-good = good-node k case-sound (p .node) (entryLine (nodeEntry a)) (drop (p .node + 1) (k .nodes)) below (read-here .here)
 
       method-below : (x : Entry) → GoodNode (k .head) (entryLine x) → WithMethod 2048 x
       method-below (Task m) h = let q = case-sound .head-good .few-methods in omega arith
       method-below (Empty m y) h = let q = case-sound .head-good .few-methods in omega arith
       method-below (Leaf b i) h = tt
 
-      pub entry-method : (entry : Entry) → entry ≡ entryOf a → WithMethod 2048 entry
-      entry-method entry ee = subst (WithMethod 2048) (sym ee) (method-below (entryOf a) entry-good)
+      pub entry-method : (entry : Entry) → entry ≡ nodeEntry a → WithMethod 2048 entry
+      entry-method entry ee = subst (WithMethod 2048) (sym ee) (method-below (nodeEntry a) entry-good)
 
-      pub judge-fit : (entry : Entry) (next : Place) (fit res : Fit) → entry ≡ entryOf a → next ≡ record { node = p .node + 1; at = a .next }
+      pub judge-fit : (entry : Entry) (next : Place) (fit res : Fit) → entry ≡ nodeEntry a → next ≡ record { node = p .node + 1; at = a .next }
           → fit ≡ fitOf text w entry next t (WrongNode l) → res ≡ atLevel level fit (TooDeep l) → Judged text k p t level res
       judge-fit entry next fit res ee en ef er =
           let li = line-is (p .node) l e in
@@ -148,7 +148,7 @@ module _ (text : List ℕ) (k : Case) (g : Given) (w : List ℕ) (st : Steady te
           record { one = refl; there = below; follows = record { nodes = read-here .rest; within = let h = below in omega arith } } in
           subst (Judged text k p t level)
           (sym (er ∙ ap (λ (x : Fit). atLevel level x (TooDeep l)) ef ∙ λ j. atLevel level (fitOf text w (ee j) (en j) t (WrongNode (li j))) (TooDeep (li j))))
-          (judged text k p t level w case-sound (st .methods) (entryOf a) (record { node = p .node + 1; at = a .next }) (read-here .here) entry-good b)
+          (judged text k p t level w case-sound (st .methods) (nodeEntry a) (record { node = p .node + 1; at = a .next }) (read-here .here) entry-good b)
 
 -- ---- Storing the plan
 

@@ -9,7 +9,8 @@ use Rattle.rules.specs.declared.Answer.{Answer}
 use Rattle.rules.specs.declared.Answer.the-variants.{WrongNode}
 use Rattle.rules.specs.declared.Header.{Header}
 use Rattle.rules.specs.Table as T
-use Rattle.rules.specs.Case.{NodeLine, D, Case, oneLine, many, oneMethod}
+use Rattle.rules.specs.Result.{Result, found, refused, _>>=_, _>>_}
+use Rattle.rules.specs.Case.{NodeLine, D, Case, asNode, oneLine, many, oneMethod}
 use Rattle.rules.specs.Tree.{Tree, Walk, mayClaim, walkNode, noneOver, levelCount, walkTree}
 use Rattle.rules.proofs.Judgement.Sound.{Sound, sound}
 use Rattle.index.specs.declared.Span.{Span}
@@ -24,23 +25,23 @@ use Rattle.text.specs.declared.Cursor.{Cursor}
 use Rattle.tree.specs.Layout.{marksFrom, rowsFrom, rowsPast, size, rows, directoryOf, rowsIn}
 use Rattle.tree.specs.Fits.{lineAt, Follows}
 use Rattle.tree.specs.Standing.{MethodsAt, Steady, nodeFrom, Told, WalksNode}
-use Rattle.tree.specs.Whole.{Ready, TreeTold}
+use Rattle.tree.specs.Whole.{WalkReady, TreeTold}
 use Rattle.tree.proofs.Siblings.{refused-next}
 use Rattle.tree.proofs.Stores.{drop-take, take-sets-all, length-rows}
 use Rattle.tree.proofs.Within.{plan-line-low}
 
 -- ---- What the root's walk stands on
 
-module _ (text : List ℕ) (k : Case) (header : Header) (planLine : ℕ) (nodes : Cursor) (w : List ℕ) (rd : Ready text k header planLine (nodes .at) w) where
+module _ (text : List ℕ) (k : Case) (header : Header) (planLine : ℕ) (nodes : Cursor) (w : List ℕ) (rd : WalkReady text k header planLine (nodes .at) w) where
   abbrev given : Given
   given = record { header = header; line = planLine }
 
   root-sound : Sound k
-  root-sound = sound text k (rd .line) (rd .place) (rd .reads)
+  root-sound = sound text k (rd .reads)
 
-  found : MethodsAt text k (directoryOf w)
+  methods-at : MethodsAt text k (directoryOf w)
   unfolding methodsFrom marksFrom
-  found m h =
+  methods-at m h =
       let few = root-sound .head-good .few-methods in
       let q = rd .finds .methodLine m h in
       let e = getD-take marksFrom w (methodsFrom + m) 0 (omega arith) in
@@ -48,14 +49,12 @@ module _ (text : List ℕ) (k : Case) (header : Header) (planLine : ℕ) (nodes 
 
   pub root-steady : Steady text k given w
   root-steady = record {
-    line = rd .line;
-    place = rd .place;
     reads = rd .reads;
     head = rd .head;
     planned = rd .planned;
-    low = let a = plan-line-low text k (rd .line) (rd .place) (rd .reads) in let b = rd .short in omega arith;
+    low = let a = plan-line-low text k (rd .reads) in let b = rd .short in omega arith;
     room = rd .room;
-    methods = found;
+    methods = methods-at;
     plan = rd .cues;
     claimed = [];
     marks = rd .unmarked;
@@ -64,15 +63,13 @@ module _ (text : List ℕ) (k : Case) (header : Header) (planLine : ℕ) (nodes 
   pub root-follows : Follows text k (record { node = 0; at = nodes })
   root-follows = record {
     nodes =
-        let q = rd .finds .nodesRead in
+        let q = rd .finds .nodeLines in
         let z : k .head .nodes - 0 ≡ k .head .nodes = omega arith in
         record {
-          lines = rd .finds .nodeLines;
           number = k .planLine + 1;
           past = q .0;
           next = q .1;
-          reads = ap (λ (c : ℕ). many (oneLine text (k .head) T.node 0) c (k .planLine + 1) (nodes .at)) z ∙ q .2;
-          are = rd .finds .nodesAre;
+          reads = ap (λ (c : ℕ). many (oneLine text (k .head) T.node 0 asNode) c (k .planLine + 1) (nodes .at)) z ∙ q .2;
         };
     within = omega arith;
   }
@@ -81,7 +78,7 @@ module _ (text : List ℕ) (k : Case) (header : Header) (planLine : ℕ) (nodes 
   root-line n h =
       let e = ap (λ (y : Header). y .nodes) (rd .head) in
       let f = root-sound .head-good .few-nodes in
-      let a = plan-line-low text k (rd .line) (rd .place) (rd .reads) in
+      let a = plan-line-low text k (rd .reads) in
       let b = rd .short in
       let c = rd .planned in
       omega arith
@@ -101,25 +98,29 @@ module _ (text : List ℕ) (k : Case) (header : Header) (planLine : ℕ) (nodes 
 
   -- ---- Each way out
 
-  abbrev root : Walk
+  -- No node is over.
+  abbrev noneLeft : Walk Tree → Result (Tree × List ℕ)
+  noneLeft x = x >>= λ (t, line, nodes, claimed). noneOver line nodes >> found (t, claimed)
+
+  abbrev root : Walk Tree
   root = nodeFrom k 64 (k .head .goal) 0 []
 
-  whole-is : walkTree k (mayClaim (k .plan)) ≡ noneOver root
+  whole-is : walkTree k (mayClaim (k .plan)) ≡ noneLeft root
   unfolding walkTree levelCount lineAt
   whole-is =
       let e : k .planLine + 1 ≡ k .planLine + 1 + 0 = omega arith in
-      ap (λ (l : ℕ). noneOver (walkNode 64 k (mayClaim (k .plan)) (k .head .goal) l (k .nodes) [])) e
+      ap (λ (l : ℕ). noneLeft (walkNode 64 k (mayClaim (k .plan)) (k .head .goal) l (k .nodes) [])) e
 
-  takes-all : (x : Walk) (next : Place) (s : Span) (v : List ℕ) → Told text k 0 w x (Next next s) v → k .head .nodes ≤ next .node
-      → TreeTold k w (noneOver x) Right v
-  takes-all (Walk.walked t line left claimed) next s v f h =
+  takes-all : (x : Walk Tree) (next : Place) (s : Span) (v : List ℕ) → Told text k 0 w x (Next next s) v → k .head .nodes ≤ next .node
+      → TreeTold k w (noneLeft x) Right v
+  takes-all (found (t, line, left, claimed)) next s v f h =
       let same : next ≡ f .next = cc (f .answer) in
       let there : next .node ≡ f .next .node = ap (λ (p : Place). p .node) same in
       let few = root-sound .head-good .few-nodes in
       let all = root-sound .nodes-length in
       let in? = f .follows .within in
       let none : left ≡ [] = f .lefts ∙ drop-of-length-le (k .nodes) {i = f .next .node} (omega arith) in
-      subst (λ (l : List NodeLine). TreeTold k w (noneOver (Walk.walked t line l claimed)) Right v) (sym none)
+      subst (λ (l : List NodeLine). TreeTold k w (noneLeft (found (t, line, l, claimed))) Right v) (sym none)
       (record {
         right = refl;
         rowed = rows-kept t v (let a = f .after in omega arith) (f .rowed);
@@ -127,22 +128,22 @@ module _ (text : List ℕ) (k : Case) (header : Header) (planLine : ℕ) (nodes 
         directory = f .directory;
         plan = f .plan;
       })
-  takes-all (Walk.refused a) next s v f h = absurd (refused-next f)
+  takes-all (refused a) next s v f h = absurd (refused-next f)
 
-  leaves-some : (x : Walk) (next : Place) (s : Span) (v : List ℕ) (l : ℕ) → Told text k 0 w x (Next next s) v → next .node < k .head .nodes
-      → l ≡ lineAt (k .planLine) (next .node) → TreeTold k w (noneOver x) (TreeRefused (WrongNode l)) v
-  leaves-some (Walk.walked t line left claimed) next s v l f h e =
+  leaves-some : (x : Walk Tree) (next : Place) (s : Span) (v : List ℕ) (l : ℕ) → Told text k 0 w x (Next next s) v → next .node < k .head .nodes
+      → l ≡ lineAt (k .planLine) (next .node) → TreeTold k w (noneLeft x) (TreeRefused (WrongNode l)) v
+  leaves-some (found (t, line, left, claimed)) next s v l f h e =
       let same : next ≡ f .next = cc (f .answer) in
       let there : next .node ≡ f .next .node = ap (λ (p : Place). p .node) same in
       let all = root-sound .nodes-length in
       let some = f .lefts ∙ drop-cons (k .nodes) (f .next .node) (D 0) (omega arith) in
-      subst (λ (y : List NodeLine). TreeTold k w (noneOver (Walk.walked t line y claimed)) (TreeRefused (WrongNode l)) v) (sym some)
+      subst (λ (y : List NodeLine). TreeTold k w (noneLeft (found (t, line, y, claimed))) (TreeRefused (WrongNode l)) v) (sym some)
       (ap (λ (y : ℕ). TreeRefused (WrongNode y)) (e ∙ ap (lineAt (k .planLine)) there ∙ sym (f .lines)))
-  leaves-some (Walk.refused a) next s v l f h e = absurd (refused-next f)
+  leaves-some (refused a) next s v l f h e = absurd (refused-next f)
 
-  is-refused : (x : Walk) (a : Answer) (v : List ℕ) → Told text k 0 w x (Refused a) v → TreeTold k w (noneOver x) (TreeRefused a) v
-  is-refused (Walk.walked t line left claimed) a v f = absurd (refused-next (sym (f .answer)))
-  is-refused (Walk.refused b) a v f = ap TreeRefused (let q : a ≡ b = cc f in q)
+  is-refused : (x : Walk Tree) (a : Answer) (v : List ℕ) → Told text k 0 w x (Refused a) v → TreeTold k w (noneLeft x) (TreeRefused a) v
+  is-refused (found (t, line, left, claimed)) a v f = absurd (refused-next (sym (f .answer)))
+  is-refused (refused b) a v f = ap TreeRefused (let q : a ≡ b = cc f in q)
 
   module _ (r : Walked) (v : List ℕ) (told : WalksNode text k 64 (header .goal) 0 w r v) where
     root-told : (r′ : Walked) → r ≡ r′ → Told text k 0 w root r′ v
@@ -155,16 +156,16 @@ module _ (text : List ℕ) (k : Case) (header : Header) (planLine : ℕ) (nodes 
 
     pub right : (next : Place) (s : Span) → r ≡ Next next s → header .nodes ≤ next .node → Whole Right
     right next s e h =
-        subst (λ (x : Walk). TreeTold k w x Right v) (sym whole-is)
+        subst (λ (x : Result (Tree × List ℕ)). TreeTold k w x Right v) (sym whole-is)
         (takes-all root next s v (root-told (Next next s) e) (let q = ap (λ (y : Header). y .nodes) (rd .head) in omega arith))
 
     pub over : (next : Place) (s : Span) (l : ℕ) → r ≡ Next next s → next .node < header .nodes → l ≡ lineAt planLine (next .node)
         → Whole (TreeRefused (WrongNode l))
     over next s l e h z =
-        subst (λ (x : Walk). TreeTold k w x (TreeRefused (WrongNode l)) v) (sym whole-is)
+        subst (λ (x : Result (Tree × List ℕ)). TreeTold k w x (TreeRefused (WrongNode l)) v) (sym whole-is)
         (leaves-some root next s v l (root-told (Next next s) e) (let q = ap (λ (y : Header). y .nodes) (rd .head) in omega arith)
         (z ∙ ap (λ (y : ℕ). lineAt y (next .node)) (rd .planned)))
 
     pub refuses : (a : Answer) → r ≡ Refused a → Whole (TreeRefused a)
     refuses a e =
-        subst (λ (x : Walk). TreeTold k w x (TreeRefused a) v) (sym whole-is) (is-refused root a v (root-told (Refused a) e))
+        subst (λ (x : Result (Tree × List ℕ)). TreeTold k w x (TreeRefused a) v) (sym whole-is) (is-refused root a v (root-told (Refused a) e))

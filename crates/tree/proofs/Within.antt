@@ -2,18 +2,21 @@
 -- text's length. Assumes nothing.
 use mathlib.Core.Path.{_≡_, refl, sym, ap, subst, _∙_}
 use mathlib.Core.Bool.{Bool, true, false, _&&_, false≢true}
-use mathlib.Core.List.{List, [], _∷_, _++_, map}
+use mathlib.Core.List.{List, [], _∷_, _++_}
 use mathlib.Core.Option.{Option, none, some}
 use Prim.Native.Nat.{ℕ, zero, suc, _+_, _≤_, _<_}
 use native.Mathlib.Decide.{decLt}
 use native.Mathlib.Omega.{arith}
-use lib.Dec.{eqb, leb, ltb}
+use lib.Dec.{eqb, leb}
 use lib.ListN.{length, drop, drop-of-length-le}
 use Rattle.rules.specs.declared.Header.{Header}
-use Rattle.rules.specs.Text.{isComma, isFeed, fieldOf, isPlain, valueOf, Number, number, notPlain, missing, numberOf, numberAfter, numberAt, letterOf, letterAt, ended, surplus, endingOf, endingAt, hasFeed, feedFollows}
+use Rattle.rules.specs.Text.{isComma, isFeed, fieldOf, isPlain, valueOf, Number, number, notPlain, missing, numberIn, numberAfter, numberAt, letterOf, letterAt, ended, surplus, endingOf, endingAt, hasFeed, feedFollows}
 use Rattle.rules.specs.Table as T
-use Rattle.rules.specs.Table.{Role, Item, one, Row, rowOf, roleNumber, inRange, taken, out, take, Value, scalar, members, ItemRead, item, followTaken, withMember, leastAfter, readMembers, readList, readItem, LineRead, line, followItem, withValue, finishLine, readItems, readRow, readLetter, readLine}
-use Rattle.rules.specs.Case.{Case, Valued, Read, read, refused, follow, readOf, oneLine, many, oneMethod, scalarAt, membersAt, setAt, actionOf, nodeOf, headerOf, noHeader, noSurplus, readBody, readCase}
+use Rattle.rules.specs.Table.{Role, Item, one, Row, rowOf, roleNumber, inRange, taken, out, within, Value, scalar, listed, ItemRead, item, followTaken, withMember, leastAfter, readMembers, readList, readItem, LineRead, line, followItem, withValue, finishLine, readItems, readRow, readLetter, readLine}
+use Rattle.rules.specs.Result.{Result, found, refused, _>>=_, _>>_}
+use Rattle.rules.specs.Case.{Case, Constraint, Method, NodeLine, Valued, scalarAt, headerOf, initialOf, actionOf, asConstraint, planOf, asNode, Read, readAs, oneLine, many, oneMethod, noSurplus, readBody, noHeader, readFrom, readCase}
+use Rattle.rules.specs.State.{Action}
+use Rattle.reading.proofs.Turns.{apart}
 
 -- ---- A field and an item move on
 
@@ -22,7 +25,7 @@ NumberAhead place (number v next) = place ≤ next
 NumberAhead place notPlain = Unit {0}
 NumberAhead place missing = Unit {0}
 
-number-of-ahead : (place : ℕ) (field : List ℕ) → NumberAhead place (numberOf (place + 1) field)
+number-of-ahead : (place : ℕ) (field : List ℕ) → NumberAhead place (numberIn (place + 1) field)
 number-of-ahead place field = go (isPlain field)
   where
     go : (b : Bool) → NumberAhead place (elim b [ true ↦ number (valueOf 0 field) (place + 1 + length field) | false ↦ notPlain ])
@@ -37,7 +40,7 @@ number-ahead text place = after (drop place text)
     after [] = tt
     after (b ∷ bs) = go (isComma b)
       where
-        go : (c : Bool) → NumberAhead place (elim c [ true ↦ numberOf (place + 1) (fieldOf bs) | false ↦ missing ])
+        go : (c : Bool) → NumberAhead place (elim c [ true ↦ numberIn (place + 1) (fieldOf bs) | false ↦ missing ])
         go true = number-of-ahead place (fieldOf bs)
         go false = tt
 
@@ -52,7 +55,7 @@ item-from p q (ItemRead.unreadable field) h a = tt
 item-from p q (ItemRead.outside field) h a = tt
 
 taken-ahead : (ok : ℕ → Bool) (place : ℕ) (x : Number) (field : ℕ) (rest : ℕ → ℕ → ItemRead) → NumberAhead place x
-    → ((v next : ℕ) → ItemAhead next (rest v next)) → ItemAhead place (followTaken (take ok x) field rest)
+    → ((v next : ℕ) → ItemAhead next (rest v next)) → ItemAhead place (followTaken (within ok x) field rest)
 taken-ahead ok place (number v next) field rest a f = go (ok v)
   where
     go : (b : Bool) → ItemAhead place (followTaken (elim b [ true ↦ taken v next | false ↦ out ]) field rest)
@@ -63,7 +66,7 @@ taken-ahead ok place missing field rest a f = tt
 
 member-ahead : (place v : ℕ) (r : ItemRead) → ItemAhead place r → ItemAhead place (withMember v r)
 member-ahead place v (item (scalar w) field next) a = a
-member-ahead place v (item (members vs) field next) a = a
+member-ahead place v (item (listed vs) field next) a = a
 member-ahead place v (ItemRead.unreadable field) a = tt
 member-ahead place v (ItemRead.outside field) a = tt
 
@@ -173,24 +176,28 @@ line-within text due h n place = go (feedFollows text place) refl
 
 -- What a reading tells, if it reads.
 abbrev Tells : {A : Type 0} → (A → ℕ → ℕ → Type 0) → Read A → Type 0
-Tells P (read a n p) = P a n p
+Tells P (found (a, n, p)) = P a n p
 Tells P (refused r) = Unit {0}
 
-then-tells : {A B : Type 0} (P : A → ℕ → ℕ → Type 0) (Q : B → ℕ → ℕ → Type 0) (r : Read A) (rest : A → ℕ → ℕ → Read B) → Tells P r
-    → ((a : A) (n p : ℕ) → P a n p → Tells Q (rest a n p)) → Tells Q (follow r rest)
-then-tells P Q (read a n p) rest t f = f a n p t
+then-tells : {A B : Type 0} (P : A → ℕ → ℕ → Type 0) (Q : B → ℕ → ℕ → Type 0) (r : Read A) (rest : A × ℕ × ℕ → Read B) → Tells P r
+    → ((a : A) (n p : ℕ) → P a n p → Tells Q (rest (a, n, p))) → Tells Q (r >>= rest)
+then-tells P Q (found (a, n, p)) rest t f = f a n p t
 then-tells P Q (refused r) rest t f = tt
 
 -- The lines passed are at most the bytes passed.
 abbrev Ahead : {A : Type 0} → ℕ → ℕ → A → ℕ → ℕ → Type 0
 Ahead n place a n′ place′ = n′ + place ≤ n + place′
 
-one-tells : (text : List ℕ) (h : Header) (due : Role) (s n place : ℕ)
-    → Tells {A = Valued} (λ x n′ p′. (n′ + place ≤ n + p′) × (place < length text)) (oneLine text h due s n place)
+-- And the line starts inside the text.
+abbrev AheadInside : {A : Type 0} → List ℕ → ℕ → ℕ → A → ℕ → ℕ → Type 0
+AheadInside text n place a n′ place′ = (n′ + place ≤ n + place′) × (place < length text)
+
+one-tells : {A : Type 0} (text : List ℕ) (h : Header) (due : Role) (s : ℕ) (means : Valued → A) (n place : ℕ)
+    → Tells (AheadInside text n place) (oneLine text h due s means n place)
 unfolding oneLine
-one-tells text h due s n place = go (readLine text due h s place) (line-within text due h s place)
+one-tells text h due s means n place = go (readLine text due h s place) (line-within text due h s place)
   where
-    go : (r : LineRead) → LineWithin text place r → Tells {A = Valued} (λ x n′ p′. (n′ + place ≤ n + p′) × (place < length text)) (readOf n r)
+    go : (r : LineRead) → LineWithin text place r → Tells (AheadInside text n place) (readAs means n r)
     go (line l vs next) w = (omega arith, w .1)
     go (LineRead.unreadable field) w = tt
     go (LineRead.outside field) w = tt
@@ -199,66 +206,57 @@ many-tells : {A : Type 0} (each : ℕ → ℕ → Read A) → ((n place : ℕ) �
     → Tells (Ahead n place) (many each count n place)
 many-tells each f zero n place = omega arith
 many-tells {A} each f (suc count) n place =
-    then-tells (Ahead n place) (Ahead n place) (each n place) (λ x n′ p′. follow (many each count n′ p′) (λ xs n″ p″. read (x ∷ xs) n″ p″)) (f n place)
-    (λ x n′ p′ a. then-tells (Ahead {A = List A} n′ p′) (Ahead n place) (many each count n′ p′) (λ xs n″ p″. read (x ∷ xs) n″ p″) (many-tells each f count n′ p′)
+    then-tells (Ahead n place) (Ahead n place) (each n place) _ (f n place)
+    (λ x n′ p′ a. then-tells (Ahead {A = List A} n′ p′) (Ahead n place) (many each count n′ p′) _ (many-tells each f count n′ p′)
     (λ xs n″ p″ b. omega arith))
 
-line-tells : (text : List ℕ) (h : Header) (due : Role) (s n place : ℕ) → Tells {A = Valued} (Ahead n place) (oneLine text h due s n place)
-line-tells text h due s n place = go (oneLine text h due s n place) (one-tells text h due s n place)
+line-tells : {A : Type 0} (text : List ℕ) (h : Header) (due : Role) (s : ℕ) (means : Valued → A) (n place : ℕ)
+    → Tells (Ahead n place) (oneLine text h due s means n place)
+line-tells {A} text h due s means n place = go (oneLine text h due s means n place) (one-tells text h due s means n place)
   where
-    go : (r : Read Valued) → Tells {A = Valued} (λ x n′ p′. (n′ + place ≤ n + p′) × (place < length text)) r → Tells {A = Valued} (Ahead n place) r
-    go (read x n′ p′) w = w .0
+    go : (r : Read A) → Tells (AheadInside text n place) r → Tells (Ahead n place) r
+    go (found (x, n′, p′)) w = w .0
     go (refused a) w = tt
 
 method-tells : (text : List ℕ) (h : Header) (n place : ℕ) → Tells (Ahead n place) (oneMethod text h n place)
 unfolding oneMethod
 method-tells text h n place =
-    then-tells (Ahead n place) (Ahead n place) (oneLine text h T.method 0 n place) _ (line-tells text h T.method 0 n place)
-    (λ x n′ p′ a. then-tells (Ahead {A = List Valued} n′ p′) (Ahead n place)
-    (many (oneLine text h T.constraint (scalarAt (x .1) 1)) (scalarAt (x .1) 2) n′ p′) _
-    (many-tells (oneLine text h T.constraint (scalarAt (x .1) 1)) (line-tells text h T.constraint (scalarAt (x .1) 1)) (scalarAt (x .1) 2) n′ p′)
+    then-tells (Ahead n place) (Ahead n place) (oneLine text h T.method 0 (λ x. x .1) n place) _ (line-tells text h T.method 0 (λ x. x .1) n place)
+    (λ vs n′ p′ a. then-tells (Ahead {A = List Constraint} n′ p′) (Ahead n place)
+    (many (oneLine text h T.constraint (scalarAt vs 1) asConstraint) (scalarAt vs 2) n′ p′) _
+    (many-tells (oneLine text h T.constraint (scalarAt vs 1) asConstraint) (line-tells text h T.constraint (scalarAt vs 1) asConstraint) (scalarAt vs 2) n′ p′)
     (λ cs n″ p″ b. omega arith))
 
 abbrev PlanLow : List ℕ → Case → ℕ → ℕ → Type 0
 PlanLow text k n p = k .planLine ≤ length text
 
-surplus-low : (text : List ℕ) (k : Case) (n place : ℕ) → k .planLine ≤ length text → Tells (PlanLow text) (noSurplus text k n place)
-unfolding noSurplus
-surplus-low text k n place h = go (ltb place (length text))
-  where
-    go : (b : Bool) → Tells (PlanLow text) (elim b [ true ↦ refused (Rattle.rules.specs.declared.Answer.the-variants.Unreadable n 1) | false ↦ read k n place ])
-    go true = tt
-    go false = h
-
 body-low : (text : List ℕ) (h : Header) (n place : ℕ) → n ≤ 1 + place → Tells (PlanLow text) (readBody text h n place)
 unfolding readBody
 body-low text h n place low =
-    then-tells (Ahead n place) (PlanLow text) (oneLine text h T.initial 0 n place) _ (line-tells text h T.initial 0 n place)
-    (λ i n₁ p₁ a. then-tells (Ahead {A = List Valued} n₁ p₁) (PlanLow text) (many (oneLine text h T.action 0) (h .actions) n₁ p₁) _
-    (many-tells (oneLine text h T.action 0) (line-tells text h T.action 0) (h .actions) n₁ p₁)
-    (λ acts n₂ p₂ b. then-tells (Ahead {A = List Rattle.rules.specs.Case.Method} n₂ p₂) (PlanLow text) (many (oneMethod text h) (h .methods) n₂ p₂) _
+    then-tells (Ahead n place) (PlanLow text) (oneLine text h T.initial 0 initialOf n place) _ (line-tells text h T.initial 0 initialOf n place)
+    (λ i n₁ p₁ a. then-tells (Ahead {A = List Action} n₁ p₁) (PlanLow text) (many (oneLine text h T.action 0 actionOf) (h .actions) n₁ p₁) _
+    (many-tells (oneLine text h T.action 0 actionOf) (line-tells text h T.action 0 actionOf) (h .actions) n₁ p₁)
+    (λ acts n₂ p₂ b. then-tells (Ahead {A = List Method} n₂ p₂) (PlanLow text) (many (oneMethod text h) (h .methods) n₂ p₂) _
     (many-tells (oneMethod text h) (method-tells text h) (h .methods) n₂ p₂)
-    (λ ms n₃ p₃ c. then-tells (λ x n′ p′. (n′ + p₃ ≤ n₃ + p′) × (p₃ < length text)) (PlanLow text) (oneLine text h T.plan 0 n₃ p₃) _
-    (one-tells text h T.plan 0 n₃ p₃)
-    (λ cs n₄ p₄ d. then-tells (Ahead {A = List Valued} n₄ p₄) (PlanLow text) (many (oneLine text h T.node 0) (h .nodes) n₄ p₄) _
-    (many-tells (oneLine text h T.node 0) (line-tells text h T.node 0) (h .nodes) n₄ p₄)
-    (λ ns n₅ p₅ e. surplus-low text
-    (record {
-      head = h;
-      initial = setAt (i .1) 0;
-      actions = map (λ x. actionOf (x .1)) acts;
-      methods = ms;
-      plan = membersAt (cs .1) 0;
-      nodes = map nodeOf ns;
-      planLine = n₃;
-    })
-    n₅ p₅ (let q = d .1 in omega arith))))))
+    (λ ms n₃ p₃ c. then-tells (AheadInside text n₃ p₃) (PlanLow text) (oneLine text h T.plan 0 planOf n₃ p₃) _ (one-tells text h T.plan 0 planOf n₃ p₃)
+    (λ cs n₄ p₄ d. then-tells (Ahead {A = List NodeLine} n₄ p₄) (PlanLow text) (many (oneLine text h T.node 0 asNode) (h .nodes) n₄ p₄) _
+    (many-tells (oneLine text h T.node 0 asNode) (line-tells text h T.node 0 asNode) (h .nodes) n₄ p₄)
+    (λ ns n₅ p₅ e. let q = d .1 in omega arith)))))
 
-case-low : (text : List ℕ) → Tells (PlanLow text) (readCase text)
+from-low : (text : List ℕ) → Tells (PlanLow text) (readFrom text 1 0)
+unfolding readFrom
+from-low text =
+    then-tells (Ahead 1 0) (PlanLow text) (oneLine text noHeader T.header 0 headerOf 1 0) _ (line-tells text noHeader T.header 0 headerOf 1 0)
+    (λ h n place a. body-low text h n place (omega arith))
+
+pub plan-line-low : (text : List ℕ) (k : Case) → readCase text ≡ found k → k .planLine ≤ length text
 unfolding readCase
-case-low text =
-    then-tells (Ahead 1 0) (PlanLow text) (oneLine text noHeader T.header 0 1 0) (λ x n place. readBody text (headerOf (x .1)) n place)
-    (line-tells text noHeader T.header 0 1 0) (λ x n place a. body-low text (headerOf (x .1)) n place (omega arith))
+plan-line-low text k e = go (readFrom text 1 0) (from-low text) e
+  where
+    over : (c : Case) (r : Result (Unit {0})) → (r >> found c) ≡ found k → c ≡ k
+    over c (found u) e = cc
+    over c (refused a) e = apart (cc)
 
-pub plan-line-low : (text : List ℕ) (k : Case) (n place : ℕ) → readCase text ≡ read k n place → k .planLine ≤ length text
-plan-line-low text k n place e = subst (λ (r : Read Case). Tells (PlanLow text) r) e (case-low text)
+    go : (r : Read Case) → Tells (PlanLow text) r → (r >>= λ (c, n, place). noSurplus text n place >> found c) ≡ found k → k .planLine ≤ length text
+    go (found (c, n, place)) t e = subst (λ (x : Case). x .planLine ≤ length text) (over c (noSurplus text n place) e) t
+    go (refused a) t e = apart (cc)

@@ -5,7 +5,7 @@ use Prim.Native.Nat.{ℕ, _+_, _-_, _≤_, _<_}
 use lib.Dec.{eqb, ltb}
 use lib.ListN.{getD}
 use Rattle.rules.specs.declared.Answer.{Answer}
-use Rattle.rules.specs.Case.{NodeLine, D, E, L, Case}
+use Rattle.rules.specs.Case.{NodeLine, D, E, L, nodeOf, Case}
 use Rattle.text.specs.declared.Cursor.{Cursor}
 use Rattle.text.specs.Cursor.{cursor}
 use Rattle.reading.specs.declared.again.Again.{Again}
@@ -30,13 +30,14 @@ pub record Follows (text : List ℕ) (k : Case) (p : Place) : Type 0 where
   pub nodes : NodesFrom text k (p .node) (p .at .at)
   pub within : p .node ≤ k .head .nodes
 
-abbrev pub pickEntry : Bool → Entry → Entry → Entry
-pickEntry true a b = a
-pickEntry false a b = b
+-- A node line as an entry, and one read again.
+abbrev pub asEntry : NodeLine → Entry
+asEntry (D m) = Task m
+asEntry (E m g) = Empty m g
+asEntry (L a i) = Leaf a i
 
--- A node line read again, by its letter.
-unfoldable pub entryOf : Again → Entry
-entryOf a = pickEntry (eqb (a .letter) 68) (Task (a .first)) (pickEntry (eqb (a .letter) 69) (Empty (a .first) (a .second)) (Leaf (a .first) (a .second)))
+unfoldable pub nodeEntry : Again → Entry
+nodeEntry a = asEntry (nodeOf (a .letter) (a .first) (a .second))
 
 -- The line that an entry is.
 abbrev pub entryLine : Entry → NodeLine

@@ -1,15 +1,16 @@
 -- How the walk keeps the claimed tree in the lent work space: a mark for each position, and a row for each node. Assumes nothing.
 use mathlib.Core.Path.{_≡_}
 use mathlib.Core.Bool.{cond}
-use mathlib.Core.List.{List, [], _∷_, _++_, map}
+use mathlib.Core.List.{List, [], _∷_, _++_}
 use Prim.Native.Nat.{ℕ, _+_, _-_}
 use lib.ListN.{drop}
 use lib.Seq.{slice}
 use Rattle.rules.specs.State.{tabulate}
 use Rattle.rules.specs.Index.{Span}
 use Rattle.rules.specs.Table as T
-use Rattle.rules.specs.Case.{Case, Valued, read, nodeOf, oneLine, many}
-use Rattle.rules.specs.Tree.{Tree, leaf, empty, task, Trees, noTree, more, span, Walk, isIn}
+use Rattle.rules.specs.Result.{Result, found, refused}
+use Rattle.rules.specs.Case.{Case, asNode, oneLine, many}
+use Rattle.rules.specs.Tree.{Tree, leaf, empty, task, Trees, noTree, more, span, isIn}
 
 -- The areas of the work space, after the directory of lines (0 to 3,072): marks of the positions (1,000), the subtasks' nodes of the
 -- node under test (32), the plan's actions (1,000), the constraints of the loaded method (256), rows of three numbers for up to 3,000 nodes.
@@ -72,14 +73,12 @@ rowsIn work = slice rowsFrom rowsPast work
 
 -- The node lines from node n on are read from a place on.
 pub record NodesFrom (text : List ℕ) (k : Case) (n place : ℕ) : Type 0 where
-  pub lines : List Valued
   pub number : ℕ
   pub past : ℕ
   pub next : ℕ
-  pub reads : many (oneLine text (k .head) T.node 0) (k .head .nodes - n) number place ≡ read lines past next
-  pub are : map nodeOf lines ≡ drop n (k .nodes)
+  pub reads : many (oneLine text (k .head) T.node 0 asNode) (k .head .nodes - n) number place ≡ found (drop n (k .nodes), past, next)
 
 -- The tree that node lines claim, asked of trees that are walked.
-unfoldable pub treeOf : Walk → Tree
-treeOf (Walk.walked t n left claimed) = t
-treeOf (Walk.refused r) = leaf 0 0
+unfoldable pub treeOf : Result (Tree × List ℕ) → Tree
+treeOf (found (t, claimed)) = t
+treeOf (refused r) = leaf 0 0

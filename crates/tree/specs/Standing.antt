@@ -9,8 +9,9 @@ use lib.Seq.{sets}
 use Rattle.rules.specs.declared.Answer.the-variants.{WrongClaim}
 use Rattle.rules.specs.Index as Ix
 use Rattle.rules.specs.Index.{at, hull}
-use Rattle.rules.specs.Case.{NodeLine, Case, read, methodAt, oneMethod, readCase}
-use Rattle.rules.specs.Tree.{leaf, empty, Trees, noTree, more, span, spans, Walk, Walks, asTask, walkSubtasks, mayClaim, walkNode}
+use Rattle.rules.specs.Result.{found, refused, _>>=_}
+use Rattle.rules.specs.Case.{NodeLine, Case, methodAt, oneMethod, readCase}
+use Rattle.rules.specs.Tree.{Tree, leaf, empty, task, Trees, noTree, more, span, spans, Walk, walkSubtasks, mayClaim, walkNode}
 use Rattle.index.specs.declared.Span.{Span}
 use Rattle.index.specs.Spans.{spanOf, asSpan}
 use Rattle.reading.specs.Directory.{methodsFrom}
@@ -30,13 +31,11 @@ use Rattle.tree.specs.Fits.{lineAt, Follows}
 abbrev pub MethodsAt : List ℕ → Case → List ℕ → Type 0
 MethodsAt text k directory =
     (m : ℕ) → m < k .head .methods
-    → (n n′ next : ℕ) × (oneMethod text (k .head) n (getD directory (methodsFrom + m) 0) ≡ read (methodAt (k .methods) m) n′ next)
+    → (n n′ next : ℕ) × (oneMethod text (k .head) n (getD directory (methodsFrom + m) 0) ≡ found (methodAt (k .methods) m, n′, next))
 
 -- The text reads as the case; what is given is the case's; and the work space holds the directory, the plan, and the marks of some claims.
 pub record Steady (text : List ℕ) (k : Case) (g : Given) (w : List ℕ) : Type 0 where
-  pub line : ℕ
-  pub place : ℕ
-  pub reads : readCase text ≡ read k line place
+  pub reads : readCase text ≡ found k
   pub head : g .header ≡ k .head
   pub planned : g .line ≡ k .planLine
   pub low : k .planLine ≤ 65535
@@ -48,19 +47,23 @@ pub record Steady (text : List ℕ) (k : Case) (g : Given) (w : List ℕ) : Type
 
 -- ---- The walks of the definitions, from node n on
 
-abbrev pub nodeFrom : Case → ℕ → ℕ → ℕ → List ℕ → Walk
+abbrev pub nodeFrom : Case → ℕ → ℕ → ℕ → List ℕ → Walk Tree
 nodeFrom k levels t n claimed = walkNode levels k (mayClaim (k .plan)) t (lineAt (k .planLine) n) (drop n (k .nodes)) claimed
 
-abbrev pub listFrom : Case → ℕ → List ℕ → ℕ → List ℕ → Walks
+abbrev pub listFrom : Case → ℕ → List ℕ → ℕ → List ℕ → Walk Trees
 listFrom k levels ts n claimed =
     walkSubtasks (walkNode levels k (mayClaim (k .plan))) ts (lineAt (k .planLine) n) (drop n (k .nodes)) claimed
 
+-- The task of method m, once its subtasks are walked.
+abbrev pub asTask : ℕ → Walk Trees → Walk Tree
+asTask m ws = ws >>= λ (ts, line, nodes, claimed). found (task m ts, line, nodes, claimed)
+
 -- What a claim of position i at node n comes to.
-abbrev pub claimFrom : Case → ℕ → ℕ → ℕ → List ℕ → Walk
+abbrev pub claimFrom : Case → ℕ → ℕ → ℕ → List ℕ → Walk Tree
 claimFrom k n a i claimed =
     elim (mayClaim (k .plan) a i claimed) [
-      | true ↦ Walk.walked (leaf a i) (lineAt (k .planLine) (n + 1)) (drop (n + 1) (k .nodes)) (i ∷ claimed)
-      | false ↦ Walk.refused (WrongClaim (lineAt (k .planLine) n) i)
+      | true ↦ found (leaf a i, lineAt (k .planLine) (n + 1), drop (n + 1) (k .nodes), i ∷ claimed)
+      | false ↦ refused (WrongClaim (lineAt (k .planLine) n) i)
     ]
 
 -- ---- How a node fits
@@ -73,14 +76,14 @@ pub record Beyond (text : List ℕ) (k : Case) (p next : Place) : Type 0 where
 
 -- What the fit of the node at p, where task t is expected at a level, makes of its walk.
 abbrev pub Judged : List ℕ → Case → Place → ℕ → ℕ → Fit → Type 0
-Judged text k p t level (RefusedFit a) = (claimed : List ℕ) → nodeFrom k (65 - level) t (p .node) claimed ≡ Walk.refused a
+Judged text k p t level (RefusedFit a) = (claimed : List ℕ) → nodeFrom k (65 - level) t (p .node) claimed ≡ refused a
 Judged text k p t level (Open s next) =
     (m : ℕ) × ((claimed : List ℕ) → nodeFrom k (65 - level) t (p .node) claimed
     ≡ asTask m (listFrom k (64 - level) (numbersAt text (s .count) (s .at)) (p .node + 1) claimed))
     × (level < 65) × (0 < s .count) × Beyond text k p next
 Judged text k p t level (EmptyFit g next) =
     (m : ℕ) × ((claimed : List ℕ) → nodeFrom k (65 - level) t (p .node) claimed
-    ≡ Walk.walked (empty m g) (lineAt (k .planLine) (p .node + 1)) (drop (p .node + 1) (k .nodes)) claimed)
+    ≡ found (empty m g, lineAt (k .planLine) (p .node + 1), drop (p .node + 1) (k .nodes), claimed))
     × (g ≤ 1000) × Beyond text k p next
 Judged text k p t level (LeafFit a i next) =
     ((claimed : List ℕ) → nodeFrom k (65 - level) t (p .node) claimed ≡ claimFrom k (p .node) a i claimed)
@@ -117,27 +120,27 @@ pub record Passed (text : List ℕ) (k : Case) (n count : ℕ) (whole : Ix.Span)
   pub directory : directoryOf v ≡ directoryOf w
   pub plan : planIn (k .head .cues) v ≡ planIn (k .head .cues) w
 
-abbrev pub Told : List ℕ → Case → ℕ → List ℕ → Walk → Walked → List ℕ → Type 0
-Told text k n w (Walk.walked t line left claimed) r v = Passed text k n (size t) (span t) (rows t n) line left claimed w r v
-Told text k n w (Walk.refused a) r v = r ≡ Refused a
+abbrev pub Told : List ℕ → Case → ℕ → List ℕ → Walk Tree → Walked → List ℕ → Type 0
+Told text k n w (found (t, line, left, claimed)) r v = Passed text k n (size t) (span t) (rows t n) line left claimed w r v
+Told text k n w (refused a) r v = r ≡ Refused a
 
 -- One tree at least.
 abbrev pub Some : Trees → Type 0
 Some noTree = ⊥
 Some (more t ts) = Unit {0}
 
-abbrev pub ToldAll : List ℕ → Case → ℕ → List ℕ → Walks → Walked → List ℕ → Type 0
-ToldAll text k n w (Walks.walked ts line left claimed) r v =
+abbrev pub ToldAll : List ℕ → Case → ℕ → List ℕ → Walk Trees → Walked → List ℕ → Type 0
+ToldAll text k n w (found (ts, line, left, claimed)) r v =
     Some ts × Passed text k n (sizes ts) (hull (spans ts)) (rowsAll ts n) line left claimed w r v
-ToldAll text k n w (Walks.refused a) r v = r ≡ Refused a
+ToldAll text k n w (refused a) r v = r ≡ Refused a
 
 -- A claim at node n: the leaf is walked, or refused.
-abbrev pub ClaimTold : Case → ℕ → ℕ → ℕ → Place → List ℕ → Walk → Walked → List ℕ → Type 0
-ClaimTold k n a i next w (Walk.walked t line left claimed) r v =
+abbrev pub ClaimTold : Case → ℕ → ℕ → ℕ → Place → List ℕ → Walk Tree → Walked → List ℕ → Type 0
+ClaimTold k n a i next w (found (t, line, left, claimed)) r v =
     (r ≡ settled (Ix.ofCue i) next) × (drop rowsFrom v ≡ sets (drop rowsFrom w) (3 * n) (row (at (Ix.ofCue i)) (next .node)))
     × (marksIn (k .head .cues) v ≡ marksOf (k .head .cues) claimed) × (directoryOf v ≡ directoryOf w)
     × (planIn (k .head .cues) v ≡ planIn (k .head .cues) w)
-ClaimTold k n a i next w (Walk.refused x) r v = r ≡ Refused x
+ClaimTold k n a i next w (refused x) r v = r ≡ Refused x
 
 -- Whatever is claimed, as the marks have it.
 abbrev pub Claims : Case → ℕ → ℕ → ℕ → Place → List ℕ → Walked → List ℕ → Type 0

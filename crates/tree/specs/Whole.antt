@@ -4,18 +4,17 @@ use mathlib.Core.List.{List, []}
 use Prim.Native.Nat.{ℕ, _*_, _≤_}
 use lib.ListN.{length, take}
 use Rattle.rules.specs.declared.Header.{Header}
-use Rattle.rules.specs.Case.{Case, read, readCase}
-use Rattle.rules.specs.Tree.{Tree, Walk}
+use Rattle.rules.specs.Result.{Result, found, refused}
+use Rattle.rules.specs.Case.{Case, readCase}
+use Rattle.rules.specs.Tree.{Tree}
 use Rattle.reading.specs.Directory.{Finds}
 use Rattle.tree.specs.declared.walk.TreeWalk.{TreeWalk}
 use Rattle.tree.specs.declared.walk.TreeWalk.the-variants.{Right, Refused}
 use Rattle.tree.specs.Layout.{size, rows, marksOf, directoryOf, marksIn, planIn, rowsIn}
 
 -- The text reads as the case, and the work space holds its directory and its plan, with no position marked.
-pub record Ready (text : List ℕ) (k : Case) (header : Header) (planLine nodes : ℕ) (work : List ℕ) : Type 0 where
-  pub line : ℕ
-  pub place : ℕ
-  pub reads : readCase text ≡ read k line place
+pub record WalkReady (text : List ℕ) (k : Case) (header : Header) (planLine nodes : ℕ) (work : List ℕ) : Type 0 where
+  pub reads : readCase text ≡ found k
   pub head : header ≡ k .head
   pub planned : planLine ≡ k .planLine
   pub initial : ℕ
@@ -34,6 +33,6 @@ pub record TreeKept (k : Case) (w : List ℕ) (t : Tree) (claimed : List ℕ) (r
   pub directory : directoryOf v ≡ directoryOf w
   pub plan : planIn (k .head .cues) v ≡ planIn (k .head .cues) w
 
-abbrev pub TreeTold : Case → List ℕ → Walk → TreeWalk → List ℕ → Type 0
-TreeTold k w (Walk.walked t line left claimed) r v = TreeKept k w t claimed r v
-TreeTold k w (Walk.refused a) r v = r ≡ Refused a
+abbrev pub TreeTold : Case → List ℕ → Result (Tree × List ℕ) → TreeWalk → List ℕ → Type 0
+TreeTold k w (found (t, claimed)) r v = TreeKept k w t claimed r v
+TreeTold k w (refused a) r v = r ≡ Refused a

@@ -5,7 +5,7 @@ ghost use Prim.Native.Nat.{_+_, _≤_, _<_};
 ghost use lib.ListN.{length, getD};
 ghost use Rattle.reading.specs.Directory.{methodsFrom};
 ghost use Rattle.reading.specs.TheCase.{caseOf};
-ghost use Rattle.tree.specs.Fits.{entryOf, methodHead, fitOf, WithMethod, atLevel, Follows, lineAt};
+ghost use Rattle.tree.specs.Fits.{nodeEntry, methodHead, fitOf, WithMethod, atLevel, Follows, lineAt};
 ghost use Rattle.tree.specs.Standing.{Steady, Judged};
 use reading::Again;
 use reading::METHODS_FROM;
@@ -67,7 +67,7 @@ pub enum Fit {
 
 // A node line read again, by its letter.
 fn entry_of(a: Again) -> Entry
-    ensures { λ r. ⌜ r ≡ entryOf a ⌝ }
+    ensures { λ r. ⌜ r ≡ nodeEntry a ⌝ }
 {
     if a.letter == b'D' {
         return Entry::Task { method: a.first };

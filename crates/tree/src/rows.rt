@@ -2,7 +2,7 @@
 ghost use mathlib.Core.Path.{_≡_};
 ghost use Prim.Native.Nat.{_+_, _*_, _≤_, _<_};
 ghost use lib.ListN.{length};
-ghost use Rattle.index.specs.Spans.{indexOf, spanOf};
+ghost use Rattle.index.specs.Spans.{indexIn, spanOf};
 ghost use Rattle.rules.specs.Index.{ofGap, at};
 ghost use Rattle.reading.specs.TheCase.{caseOf};
 ghost use Rattle.rules.specs.declared.Answer.the-variants.{WrongClaim};
@@ -38,8 +38,8 @@ fn put_row(work: &mut [u32], node: u32, span: Span, after: u32)
 // A node with no subtasks: it starts and ends at one index.
 pub fn settle(work: &mut [u32], node: u32, index: Doubled, next: Place) -> Walked
     requires { ⌜ (node < 3000) × (16384 ≤ length (now work)) ⌝ }
-    ensures answer { λ r. ⌜ r ≡ settled (indexOf index) next ⌝ }
-    ensures row { λ _. ⌜ now (work .exit) ≡ putRow node (at (indexOf index)) (next .node) (now (work .entry)) ⌝ }
+    ensures answer { λ r. ⌜ r ≡ settled (indexIn index) next ⌝ }
+    ensures row { λ _. ⌜ now (work .exit) ≡ putRow node (at (indexIn index)) (next .node) (now (work .entry)) ⌝ }
 {
     let span = Span::at(index);
     put_row(work, node, span, next.node);

@@ -6,7 +6,7 @@ ghost use Rattle.reading.specs.TheCase.{caseOf};
 ghost use Rattle.tree.specs.Numbers.{numbersAt};
 ghost use Rattle.tree.specs.Fits.{Follows, firstOf};
 ghost use Rattle.tree.specs.Standing.{Steady, WalksNode, WalksList};
-ghost use Rattle.tree.specs.Whole.{Ready, TreeTold};
+ghost use Rattle.tree.specs.Whole.{WalkReady, TreeTold};
 ghost use Rattle.rules.specs.Tree.{mayClaim, walkTree};
 use crate::fit;
 use crate::fit::Fit;
@@ -109,7 +109,7 @@ pub fn walk_tree(
     nodes: Cursor,
     work: &mut [u32],
 ) -> TreeWalk
-    requires { ⌜ Ready (now text) (caseOf (now text)) header «plan_line» (nodes .at) (now work) ⌝ }
+    requires { ⌜ WalkReady (now text) (caseOf (now text)) header «plan_line» (nodes .at) (now work) ⌝ }
     ensures { λ r. ⌜ TreeTold (caseOf (now (text .entry))) (now (work .entry)) (walkTree (caseOf (now (text .entry))) (mayClaim (caseOf (now (text .entry)) .plan))) r (now (work .exit)) ⌝ }
 {
     let g = Given {

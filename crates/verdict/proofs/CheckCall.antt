@@ -28,8 +28,9 @@ use denote.Triple.Clauses.{ensured, lasts}
 use Rattle.rules.specs.declared.Node.{Node}
 use Rattle.rules.specs.declared.Answer.{Answer}
 use Rattle.rules.specs.Tree.{Tree}
-use Rattle.rules.specs.Verdict.{Lent, Found, check as checked, checkLists, answerOf, statesAfter, nodesAfter, workAfter}
-use Rattle.rules.specs.Demands.{Demand2, Demand3}
+use Rattle.rules.specs.Verdict.{Lent, Found, check as checked, checkLists, answerOf, statesAfter, nodesAfter, workAfter, reported}
+use Rattle.rules.specs.Demands.{Borrowed, borrowed, lentBy, Demand1, Demand2, Demand3}
+use Rattle.rules.proofs.Reports.{reported-one}
 use Rattle.rules.proofs.Node as T
 use Rattle.rules.proofs.Answer as S
 use Rattle.verdict.proofs.check as check′
@@ -59,6 +60,32 @@ ws′ a = workAfter (length (a .1 .1 .1 .0 .now))
 abbrev pub Lens : Args → Type 0
 Lens a = (length (ss′ a) ≡ length (a .1 .0 .now)) × ((length (ns′ a) ≡ length (a .1 .1 .0 .now)) × (length (ws′ a) ≡ length (a .1 .1 .1 .0 .now)))
 
+-- the lists as they came
+abbrev pub came : Args → Borrowed
+came a = borrowed (a .1 .0 .now) (a .1 .1 .0 .now) (a .1 .1 .1 .0 .now)
+
+-- demand 1 of the last ones: each is what is owed
+abbrev Met : Args → Answer → Unit {0} × (List ℕ × (List Node × (List ℕ × Unit {0}))) → Type 0
+Met a r zs = Demand1 (a .0 .now) (came a) (reported r) (borrowed (zs .1 .0) (zs .1 .1 .0) (zs .1 .1 .1 .0))
+
+-- demand 1 of what is owed
+pub owes : (a : Args) → Demand1 (a .0 .now) (came a) (reported (ans a)) (borrowed (ss′ a) (ns′ a) (ws′ a))
+unfolding lentBy
+owes a = record { answer = refl; states = refl; nodes = refl; work = refl }
+
+module _ (a : Args) (r : Answer) (zs : Unit {0} × (List ℕ × (List Node × (List ℕ × Unit {0})))) (met : Met a r zs) where
+  met-answer : r ≡ ans a
+  unfolding lentBy
+  met-answer = reported-one r (ans a) (met .answer)
+
+  met-states : zs .1 .0 ≡ ss′ a
+  unfolding lentBy
+  met-states = met .states
+
+  met-nodes : zs .1 .1 .0 ≡ ns′ a
+  unfolding lentBy
+  met-nodes = met .nodes
+
 module _ {M : Type 1} (𝓤 : URA M) (H : Heap 𝓤) (A : Atoms 𝓤) (mem : Memory → SProp 𝓤) (run : Routine → Fun 𝓤) where
   abbrev pub Check : Contract 𝓤
   Check = tripleOf 𝓤 H A check′.signature (check′.spec 𝓤 H A mem run)
@@ -82,12 +109,12 @@ module _ {M : Type 1} (𝓤 : URA M) (H : Heap 𝓤) (A : Atoms 𝓤) (W : Given
   check-gives v =
       qed W (raw (Check 𝓤 H A mem run .post to-check v) ∷ []) ∵ updating ! $
       use1 W (later (some (λ (r : Answer). ((‵ (flft κ q) ⊛ (‵ (flft α qα) ⊛ (‵ (flft β qβ) ⊛ (‵ (flft ζ qζ) ⊛ ‵ ftrue)))) ⊛ ‵ (S.the-row .own r (v ∷ []))) ⊛ raw (ensured 𝓤 H A check′.ended (check′.clauses 𝓤 H A mem run) (κ, (α, (β, (ζ, tt)))) a tt r)))) (id⊢ 𝓤 _) $ await ! tt $ pick ! (λ r. split ! $ move ! (1 ∷ []) $
-      use1 W (some (λ (zs : Unit {0} × (List ℕ × (List Node × (List ℕ × Unit {0})))). ‵ (lasts check′.ended (κ, (α, (β, (ζ, tt)))) a zs) ⊛ (raw (fact 𝓤 (r ≡ ans a)) ⊛ (raw (fact 𝓤 (zs .1 .0 ≡ ss′ a)) ⊛ (raw (fact 𝓤 (zs .1 .1 .0 ≡ ns′ a)) ⊛ (raw (fact 𝓤 (zs .1 .1 .1 .0 ≡ ws′ a)) ⊛ (raw (fact 𝓤 (Demand2 (lists a) (a .0 .now) r)) ⊛ raw (fact 𝓤 (Demand3 (lists a) (a .0 .now) r))))))))) (id⊢ 𝓤 _) $ pick ! (λ zs.
-      split ! $ move ! (1 ∷ []) $ split ! $ heard ! (r ≡ ans a) (λ er. split ! $ heard ! (zs .1 .0 ≡ ss′ a) (λ es. split ! $ heard ! (zs .1 .1 .0 ≡ ns′ a) (λ en. split ! $ heard ! (zs .1 .1 .1 .0 ≡ ws′ a) (λ ew.
-      split ! $ heard ! (Demand2 (lists a) (a .0 .now) r) (λ _. heard ! (Demand3 (lists a) (a .0 .now) r) (λ _.
+      use1 W (some (λ (zs : Unit {0} × (List ℕ × (List Node × (List ℕ × Unit {0})))). ‵ (lasts check′.ended (κ, (α, (β, (ζ, tt)))) a zs) ⊛ (raw (fact 𝓤 (Met a r zs)) ⊛ (raw (fact 𝓤 (Demand2 (a .0 .now) (lentBy (came a)) (reported r))) ⊛ raw (fact 𝓤 (Demand3 (a .0 .now) (lentBy (came a)) (reported r))))))) (id⊢ 𝓤 _) $ pick ! (λ zs.
+      split ! $ move ! (1 ∷ []) $ split ! $ heard ! (Met a r zs) (λ met.
+      split ! $ heard ! (Demand2 (a .0 .now) (lentBy (came a)) (reported r)) (λ _. heard ! (Demand3 (a .0 .now) (lentBy (came a)) (reported r)) (λ _.
       fsplit ! $ drop ! $ fsplit ! $ fsplit ! $ move ! (1 ∷ []) $ feqL ! (λ ls. move ! (1 ∷ []) $ fsplit ! $ fsplit ! $ move ! (1 ∷ []) $ feqL ! (λ ln. move ! (1 ∷ []) $ fsplit ! $ fsplit ! $ move ! (1 ∷ []) $ feqL ! (λ lw.
       -- [work's last list; true; nodes's; states's; the tokens and the answer]
       move ! (4 ∷ []) $ split ! $ split ! $ move ! (1 ∷ []) $ split ! $ move ! (1 ∷ []) $ split ! $ move ! (1 ∷ []) $ split ! $
       -- [ζ's token; true; β's; α's; κ's; the answer; work's last list; true; nodes's; states's]
-      rewrite ! 5 (λ (h : Answer). ‵ (S.the-row .own h (v ∷ []))) er refl $ rewrite ! 6 (λ (l : List ℕ). ‵ (finally u32 (a .1 .1 .1 .0 .name) l)) ew refl $ rewrite ! 8 (λ (l : List Node). ‵ (finally T.the-row (a .1 .1 .0 .name) l)) en refl $ rewrite ! 9 (λ (l : List ℕ). ‵ (finally u64 (a .1 .0 .name) l)) es refl $
-      at-once ! $ check ! (ap length (sym es) ∙ ls, (ap length (sym en) ∙ ln, ap length (sym ew) ∙ lw)) $ keep ! (4 ∷ 3 ∷ 2 ∷ 0 ∷ 9 ∷ 8 ∷ 6 ∷ 5 ∷ []) $ done !)))))))))))
+      rewrite ! 5 (λ (h : Answer). ‵ (S.the-row .own h (v ∷ []))) (met-answer a r zs met) refl $ rewrite ! 6 (λ (l : List ℕ). ‵ (finally u32 (a .1 .1 .1 .0 .name) l)) (met .work) refl $ rewrite ! 8 (λ (l : List Node). ‵ (finally T.the-row (a .1 .1 .0 .name) l)) (met-nodes a r zs met) refl $ rewrite ! 9 (λ (l : List ℕ). ‵ (finally u64 (a .1 .0 .name) l)) (met-states a r zs met) refl $
+      at-once ! $ check ! (ap length (sym (met-states a r zs met)) ∙ ls, (ap length (sym (met-nodes a r zs met)) ∙ ln, ap length (sym (met .work)) ∙ lw)) $ keep ! (4 ∷ 3 ∷ 2 ∷ 0 ∷ 9 ∷ 8 ∷ 6 ∷ 5 ∷ []) $ done !))))))))

@@ -4,7 +4,7 @@
 --     filled-upto      the records below the count, and the zero record after them
 --     no-records       only an acceptance comes with records
 --     records-filled   so what the core leaves gives what `nodesAfter` says
-use mathlib.Core.Path.{_≡_, refl, sym, _∙_, ap, subst}
+use mathlib.Core.Path.{_≡_, refl, sym, _∙_, ap}
 use mathlib.Core.Bool.{cond}
 use mathlib.Core.List.{List, [], _∷_, _++_, append-assoc, append-nil, List·Memᴰ·head as here, List·Memᴰ·tail as there}
 use Prim.Native.Nat.{ℕ, zero, suc, _+_, _-_, _≤_}
@@ -15,13 +15,13 @@ use borrow.Author.Tests.{lt-ltb, le-ltb}
 use Rattle.rules.specs.declared.Node.{Node}
 use Rattle.rules.specs.declared.Answer.{Answer}
 use Rattle.rules.specs.declared.Answer.the-variants.{Accepted, ShortList, LongText, Unreadable, OutOfRange, Inapplicable, WrongNode, TooDeep, WrongClaim, Unclaimed, OrderBroken, BeforeBroken, AfterBroken, BetweenBroken}
+use Rattle.rules.specs.Result.{found, refused}
 use Rattle.rules.specs.Case.{Case}
 use Rattle.rules.specs.Tree.{Tree}
-use Rattle.rules.specs.Demands.{IsAccepted}
-use Rattle.rules.specs.Verdict.{Found, right, wrong, nodeNeed, checkLists, lent, check, filled, noNode, nodesAfter, answerOf, reported}
+use Rattle.rules.specs.Verdict.{Found, nodeNeed, checkLists, lent, check, filled, noNode, nodesAfter, answerOf, reported}
 use Rattle.rules.proofs.Judgement.Sound.{sound}
-use Rattle.rules.proofs.Judgement.Statement.{Accepts, FirstBroken}
-use Rattle.rules.proofs.Judgement.Refusals.{CheckSays, check-says}
+use Rattle.rules.proofs.Judgement.Refusals.{Accepts, CheckSays, check-says}
+use Rattle.rules.proofs.Judgement.Theorem.{shows-not-zero}
 use Rattle.records.specs.Records.{recordAt, upTo, recordOf, RecordsHeld}
 use Rattle.verdict.specs.Nodes.{nodeFrom}
 
@@ -61,9 +61,9 @@ module _ (w : List ℕ) (count : ℕ) where
 
 -- ---- How many records
 
-pub no-records : (a : Answer) → (IsAccepted a → ⊥) → reported a .nodes ≡ 0
+pub no-records : (a : Answer) → ((cues nodes : ℕ) → a ≡ Accepted cues nodes → ⊥) → reported a .nodes ≡ 0
 unfolding reported
-no-records (Accepted cues nodes) h = absurd (h (cues, nodes, refl))
+no-records (Accepted cues nodes) h = absurd (h cues nodes refl)
 no-records (ShortList i) h = refl
 no-records LongText h = refl
 no-records (Unreadable l i) h = refl
@@ -82,9 +82,9 @@ no-records (BetweenBroken l i) h = refl
 few-nodes : (s n w : ℕ) (text : List ℕ) (k : Case) (t : Tree) → Accepts (checkLists s n w) text k t → k .head .nodes ≤ n
 unfolding checkLists nodeNeed
 few-nodes s n w text k t a =
-    let r = a .covered .grown .run .reads in
+    let r = a .covered .grown .runs .reads in
     let long : 3000 ≤ n = r .admits .lists-long (lent 2 n nodeNeed) (there (here refl)) in
-    omega (arith, sound text k (r .line) (r .place) (r .reading) .head-good .few-nodes)
+    omega (arith, sound text k (r .reading) .head-good .few-nodes)
 
 -- ---- What the core leaves
 
@@ -94,8 +94,8 @@ unfolding RecordsHeld recordOf nodesAfter reported filled
 records-filled s n w text work = go (check (checkLists s n w) text) (check-says (checkLists s n w) text)
   where
     go : (f : Found Tree) → CheckSays (checkLists s n w) text f → RecordsHeld f work → upTo (nodeFrom work (reported (answerOf f) .nodes)) n ≡ nodesAfter n f
-    go (right k t) a held = filled-upto work (k .head .nodes) n (few-nodes s n w text k t a) ∙ ap (filled n noNode) held
-    go (wrong r) b held =
-        let none = no-records r (λ x. subst (λ (y : Answer). FirstBroken (checkLists s n w) text y) (x .2) b) in
+    go (found (k, t)) a held = filled-upto work (k .head .nodes) n (few-nodes s n w text k t a) ∙ ap (filled n noNode) held
+    go (refused r) b held =
+        let none = no-records r (λ cues nodes e. shows-not-zero b (ap (λ (a : Answer). reported a .number) e)) in
         let all : n - 0 ≡ n = omega arith in
         ap (λ (m : ℕ). upTo (nodeFrom work m) n) none ∙ filled-upto work 0 n (omega arith) ∙ ap (λ (m : ℕ). replicate m noNode) all

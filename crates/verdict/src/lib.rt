@@ -13,8 +13,8 @@ use state::WORDS;
 ghost use mathlib.Core.Path.{_≡_};
 ghost use Prim.Native.Nat.{_+_};
 ghost use lib.ListN.{length, getD};
-ghost use Rattle.rules.specs.Verdict.{check, checkLists, answerOf, statesAfter, nodesAfter, workAfter, reported};
-ghost use Rattle.rules.specs.Demands.{Demand2, Demand3};
+ghost use Rattle.rules.specs.Verdict.{check, answerOf, reported};
+ghost use Rattle.rules.specs.Demands.{borrowed, lentBy, asAsked, Demand1, Demand2, Demand3};
 ghost use Rattle.records.specs.Records.{recordAt, upTo};
 ghost use Rattle.verdict.specs.Nodes.{nodeFrom};
 
@@ -82,12 +82,9 @@ fn count_of(answer: Answer) -> usize
 
 // The check call, open to every text and to lists of every length.
 pub fn check(text: &[u8], states: &mut [u64], nodes: &mut [Node], work: &mut [u32]) -> Answer
-    ensures answer { λ r. ⌜ r ≡ answerOf (check (checkLists (length (now (states .entry))) (length (now (nodes .entry))) (length (now (work .entry)))) (now (text .entry))) ⌝ }
-    ensures states { λ r. ⌜ now (states .exit) ≡ statesAfter (length (now (states .entry))) (check (checkLists (length (now (states .entry))) (length (now (nodes .entry))) (length (now (work .entry)))) (now (text .entry))) ⌝ }
-    ensures nodes { λ r. ⌜ now (nodes .exit) ≡ nodesAfter (length (now (nodes .entry))) (check (checkLists (length (now (states .entry))) (length (now (nodes .entry))) (length (now (work .entry)))) (now (text .entry))) ⌝ }
-    ensures work { λ r. ⌜ now (work .exit) ≡ workAfter (length (now (work .entry))) ⌝ }
-    ensures demand2 { λ r. ⌜ Demand2 (checkLists (length (now (states .entry))) (length (now (nodes .entry))) (length (now (work .entry)))) (now (text .entry)) r ⌝ }
-    ensures demand3 { λ r. ⌜ Demand3 (checkLists (length (now (states .entry))) (length (now (nodes .entry))) (length (now (work .entry)))) (now (text .entry)) r ⌝ }
+    ensures demand1 { λ r. ⌜ Demand1 (now (text .entry)) (borrowed (now (states .entry)) (now (nodes .entry)) (now (work .entry))) (reported r) (borrowed (now (states .exit)) (now (nodes .exit)) (now (work .exit))) ⌝ }
+    ensures demand2 { λ r. ⌜ Demand2 (now (text .entry)) (lentBy (borrowed (now (states .entry)) (now (nodes .entry)) (now (work .entry)))) (reported r) ⌝ }
+    ensures demand3 { λ r. ⌜ Demand3 (now (text .entry)) (lentBy (borrowed (now (states .entry)) (now (nodes .entry)) (now (work .entry)))) (reported r) ⌝ }
 {
     let room = nodes.len();
     let answer = judge::judge(text, states, work, room);
@@ -98,9 +95,9 @@ pub fn check(text: &[u8], states: &mut [u64], nodes: &mut [Node], work: &mut [u3
 
 // The check call over lists of its own, as long as asked: whoever calls it needs no walk.
 pub fn check_text(text: &[u8]) -> Answer
-    ensures answer { λ r. ⌜ r ≡ answerOf (check (checkLists 4004 3000 16384) (now (text .entry))) ⌝ }
-    ensures demand2 { λ r. ⌜ Demand2 (checkLists 4004 3000 16384) (now (text .entry)) r ⌝ }
-    ensures demand3 { λ r. ⌜ Demand3 (checkLists 4004 3000 16384) (now (text .entry)) r ⌝ }
+    ensures answer { λ r. ⌜ reported r ≡ reported (answerOf (check asAsked (now (text .entry)))) ⌝ }
+    ensures demand2 { λ r. ⌜ Demand2 (now (text .entry)) asAsked (reported r) ⌝ }
+    ensures demand3 { λ r. ⌜ Demand3 (now (text .entry)) asAsked (reported r) ⌝ }
 {
     let mut states = [0u64; STATES * WORDS];
     let mut nodes = [Node {

@@ -5,13 +5,13 @@ use borrow.Author.Needs.{needs}
 use Rattle.rules.specs.declared.Answer.{Answer}
 use Rattle.rules.specs.Verdict.{reported}
 use Rattle.capi.specs.declared.Reply.{Reply}
-use Rattle.capi.specs.Replies.{replyOf}
+use Rattle.capi.specs.Replies.{reportOf}
 use Rattle.capi.proofs.as_reply.Statement.{statement}
 use Rattle.capi.proofs.as_reply.Tie as tie
 
 -- a reply to what the answer is told to be is the reply to the answer
-told : (r : Reply) (answer variant : Answer) → answer ≡ variant → r ≡ replyOf (reported variant) → r ≡ replyOf (reported answer)
-told r answer variant e h = h ∙ sym (ap (λ (a : Answer). replyOf (reported a)) e)
+told : (r : Reply) (answer variant : Answer) → answer ≡ variant → reportOf r ≡ reported variant → reportOf r ≡ reported answer
+told r answer variant e h = h ∙ sym (ap reported e)
 
 enum-known-answer : tie.Need-enum-known-answer
 enum-known-answer c = search needs
@@ -96,7 +96,7 @@ refusal-requires-13 c κs = search needs
 
 returns : tie.Need-returns
 unfolding reported
-returns c = sym (ap (λ (a : Answer). replyOf (reported a)) (c .before .answer .given .1))
+returns c = sym (ap reported (c .before .answer .given .1))
 
 returns-2 : tie.Need-returns-2
 unfolding reported

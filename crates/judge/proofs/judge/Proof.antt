@@ -7,7 +7,8 @@ use Rattle.judge.proofs.judge.Tie as tie
 use Rattle.records.specs.Records.{RecordsHeld}
 use Rattle.rules.specs.State.{wordCount}
 use Rattle.rules.specs.Tree.{Tree}
-use Rattle.rules.specs.Verdict.{answerOf, statesAfter, textMost, workNeed, stateNeed, nodeNeed, check, checkLists, judgeTree, Found}
+use Rattle.rules.specs.Verdict.{answerOf, statesAfter, textMost, workNeed, stateNeed, nodeNeed, check, checkLists, Found}
+use Rattle.rules.proofs.Judgement.Rows.{fromTree}
 use Rattle.rules.specs.declared.Answer.the-variants.{ShortList, LongText}
 use borrow.Author.Needs.{needs}
 use lib.ListN.{length, replicate}
@@ -95,7 +96,7 @@ returns-4 c = let a = c .before .before .before .before .before .before .before 
     let roomy : nodeNeed ≤ a .node-room = omega (arith, c .before .before .if2 .left) in
     let long-too : workNeed ≤ w = omega (arith, c .before .if3 .left) in
     let over : textMost < length (a .text .now) = omega (arith, c .if4 .taken) in
-    let q = lists-long s (a .node-room) w (a .text .now) long roomy long-too ∙ text-long judgeTree (a .text .now) over in
+    let q = lists-long s (a .node-room) w (a .text .now) long roomy long-too ∙ text-long fromTree (a .text .now) over in
     let r = refused-all s (check (checkLists s (a .node-room) w) (a .text .now)) LongText q in
     (r .0, (c .before .before .before .before .before .before .before .before .before .before .clear .ensures ∙ r .1, r .2 _))
 

@@ -5,7 +5,8 @@ use Rattle.judge.proofs.Verdicts.{claims-refused}
 use Rattle.judge.proofs.judge_claims.Statement.{statement}
 use Rattle.judge.proofs.judge_claims.Tie as tie
 use Rattle.reading.specs.TheCase.{caseOf}
-use Rattle.rules.specs.Verdict.{workNeed, judgeTree}
+use Rattle.rules.specs.Verdict.{workNeed}
+use Rattle.rules.proofs.Judgement.Rows.{fromTree}
 use Rattle.rules.specs.declared.Answer.the-variants.{Unclaimed}
 use Rattle.rules.specs.declared.Header.{Header}
 use borrow.Author.Needs.{needs}
@@ -57,8 +58,8 @@ returns-2 c = let a = c .before .before .before .before .before .before .before 
     let z = c .before .before .refuse in
     let k = caseOf (a .text .now) in
     let lacks = claims-lack (a .text .now) (a .o) (a .states .now) (a .work .now) p (b .result) (b .ensures) (x .0 .0) (x .1) in
-    let q = claims-refused k (p .tree) (p .past) (p .left) (p .claimed) (p .walks) (x .0 .0) lacks in
-    let r = refused-all (length (a .states .now)) (judgeTree k) (Unclaimed (k .planLine) (x .0 .0)) q in
+    let q = claims-refused k (p .tree) (p .claimed) (p .walks) (x .0 .0) lacks in
+    let r = refused-all (length (a .states .now)) (fromTree k) (Unclaimed (k .planLine) (x .0 .0)) q in
     (z .ensures .0 ∙ ap (λ (n : ℕ). Unclaimed n (x .0 .0)) (p .opens .planned) ∙ r .0, (z .ensures .1 ∙ r .1, r .2 _))
 
 pub judge-claims-spec : {M : Type 1} → statement M

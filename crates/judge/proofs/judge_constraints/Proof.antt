@@ -4,7 +4,7 @@ use Rattle.judge.proofs.Phases.{refused-all}
 use Rattle.judge.proofs.judge_constraints.Statement.{statement}
 use Rattle.judge.proofs.judge_constraints.Tie as tie
 use Rattle.reading.specs.TheCase.{caseOf}
-use Rattle.rules.specs.Verdict.{judgeTree}
+use Rattle.rules.proofs.Judgement.Rows.{fromTree}
 use borrow.Author.Needs.{needs}
 use lib.ListN.{length}
 use mathlib.Core.Path.{_∙_}
@@ -58,7 +58,7 @@ returns-2 c = let a = c .before .before .before .before .before .before .before 
     let x = c .before .before .before .before .before .kept .given in
     let z = c .before .before .refuse in
     let q = kept-not (a .text .now) (a .o) (a .states .now) (a .work .now) p (b .result) (b .ensures .0) (x .0 .0) (x .1) in
-    let r = refused-all (length (a .states .now)) (judgeTree (caseOf (a .text .now))) (x .0 .0) q in
+    let r = refused-all (length (a .states .now)) (fromTree (caseOf (a .text .now))) (x .0 .0) q in
     (z .ensures .0 ∙ r .0, (z .ensures .1 ∙ r .1, r .2 _))
 
 pub judge-constraints-spec : {M : Type 1} → statement M

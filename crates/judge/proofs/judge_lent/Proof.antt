@@ -7,7 +7,8 @@ use Rattle.reading.specs.Directory.{directorySize}
 use Rattle.records.specs.Records.{RecordsHeld}
 use Rattle.reading.specs.TheCase.{caseOf}
 use Rattle.rules.specs.Tree.{Tree}
-use Rattle.rules.specs.Verdict.{answerOf, statesAfter, textMost, workNeed, judgeText, judgeTree, Found}
+use Rattle.rules.specs.Verdict.{answerOf, statesAfter, textMost, workNeed, Found}
+use Rattle.rules.proofs.Judgement.Rows.{fromText, fromTree}
 use borrow.Author.Needs.{needs}
 use lib.ListN.{length, take, drop, length-take}
 use mathlib.Core.Path.{_≡_, ap, sym, subst, _∙_}
@@ -76,7 +77,7 @@ returns c = let a = c .before .before .before .before .before .before .before .b
     let size = front-size d (a .work .now) whole (omega arith) in
     let o = read-opens (a .text .now) d (drop 3072 (a .work .now)) (b .result) (b .ensures) (x .0 .0) (x .0 .1 .0) (x .0 .1 .1 .0) (x .0 .1 .1 .1 .0)
     (x .0 .1 .1 .1 .1 .0) (x .1) (p .short) whole (omega arith) in
-    let same = text-reads judgeTree (a .text .now) (caseOf (a .text .now)) (o .line) (o .place) (p .short) (o .reads) in (
+    let same = text-reads fromTree (a .text .now) (caseOf (a .text .now)) (p .short) (o .reads) in (
       z .ensures .0 ∙ ap answerOf (sym same),
       (z .ensures .1 .0 ∙ ap (λ (f : Found Tree). statesAfter (length (a .states .now)) f) (sym same), subst (λ (f : Found Tree). RecordsHeld f (z .last .1 .1 .1 .1 .0)) (sym same) (z .ensures .1 .1)),
     )
@@ -94,8 +95,8 @@ returns-2 c = let a = c .before .before .before .before .before .before .before 
     let b = c .before .before .before .before .before .before .before .before .before .read-case in
     let z = c .before .before .refuse in
     let d = b .last .1 .0 in
-    let q = text-refused judgeTree (a .text .now) (x .0 .0) (p .short) (read-refuses (a .text .now) d (drop 3072 (a .work .now)) (b .result) (b .ensures) (x .0 .0) (x .1)) in
-    let r = refused-all (length (a .states .now)) (judgeText judgeTree (a .text .now)) (x .0 .0) q in
+    let q = text-refused fromTree (a .text .now) (x .0 .0) (p .short) (read-refuses (a .text .now) d (drop 3072 (a .work .now)) (b .result) (b .ensures) (x .0 .0) (x .1)) in
+    let r = refused-all (length (a .states .now)) (fromText fromTree (a .text .now)) (x .0 .0) q in
     (z .ensures .0 ∙ r .0, (z .ensures .1 ∙ r .1, r .2 _))
 
 pub judge-lent-spec : {M : Type 1} → statement M

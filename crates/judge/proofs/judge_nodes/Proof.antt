@@ -4,7 +4,7 @@ use Rattle.judge.proofs.Verdicts.{tree-refused}
 use Rattle.judge.proofs.judge_nodes.Statement.{statement}
 use Rattle.judge.proofs.judge_nodes.Tie as tie
 use Rattle.reading.specs.TheCase.{caseOf}
-use Rattle.rules.specs.Verdict.{judgeTree}
+use Rattle.rules.proofs.Judgement.Rows.{fromTree}
 use borrow.Author.Needs.{needs}
 use lib.ListN.{length}
 use mathlib.Core.Path.{_∙_}
@@ -60,7 +60,7 @@ returns-2 c = let a = c .before .before .before .before .before .before .before 
     let refuses = walk-refuses (a .text .now) (a .o) (p .initial) (a .work .now) (p .opens) (c .before .before .before .before .before .before .before .before .before .before .before .before .before .store-plan .last .1 .1 .1 .0) (c .before .before .before .before .before .before .before .before .before .before .before .before .before .store-plan .ensures) (p .unused)
     (b .result) (b .last .1 .1 .1 .1 .0) (b .ensures) (x .0 .0) (x .1) in
     let q = tree-refused k (x .0 .0) refuses in
-    let r = refused-all (length (a .states .now)) (judgeTree k) (x .0 .0) q in
+    let r = refused-all (length (a .states .now)) (fromTree k) (x .0 .0) q in
     (z .ensures .0 ∙ r .0, (z .ensures .1 ∙ r .1, r .2 _))
 
 pub judge-nodes-spec : {M : Type 1} → statement M

@@ -9,7 +9,8 @@ use Rattle.replay.proofs.Reached.{initial-is, few-cues}
 use Rattle.reading.specs.TheCase.{caseOf}
 use Rattle.rules.specs.State.{wordCount}
 use Rattle.rules.specs.Tree.{Tree}
-use Rattle.rules.specs.Verdict.{answerOf, statesAfter, stateNeed, judgeRun, judgeTree, Found}
+use Rattle.rules.specs.Verdict.{answerOf, statesAfter, stateNeed, Found}
+use Rattle.rules.proofs.Judgement.Rows.{fromRun, fromTree}
 use Rattle.rules.specs.declared.Answer.the-variants.{Inapplicable}
 use borrow.Author.Needs.{needs}
 use lib.ListN.{length, replicate}
@@ -69,7 +70,7 @@ returns c = let a = c .before .before .before .before .before .before .before .b
     let kept : length (b .last .1 .1 .1 .1 .1 .0) ≡ length (a .states .now) = b .kept .1 .1 .1 .1 .1 .0 in
     let passes = run-passes (a .text .now) (a .o) (a .initial .at) (a .work .now) (p .opens) (b .result) (a .states .now) (b .last .1 .1 .1 .1 .1 .0) (b .ensures)
     (c .before .before .before .before .before .before .before .enum-told .given .1) (p .statesZero) (p .stateRoom) kept in
-    let same = run-right judgeTree k (passes .runs) in (
+    let same = run-right fromTree k (passes .runs) in (
       z .ensures .0 ∙ ap answerOf (sym same),
       (z .ensures .1 .0 ∙ (λ j. statesAfter (kept j) (sym same j)), subst (λ (f : Found Tree). RecordsHeld f (z .last .1 .1 .1 .0)) (sym same) (z .ensures .1 .1)),
     )
@@ -89,8 +90,8 @@ returns-2 c = let a = c .before .before .before .before .before .before .before 
     let k = caseOf (a .text .now) in
     let kept : length (b .last .1 .1 .1 .1 .1 .0) ≡ length (a .states .now) = b .kept .1 .1 .1 .1 .1 .0 in
     let stops = run-stops (a .text .now) (a .o) (a .initial .at) (a .work .now) (p .opens) (b .result) (a .states .now) (b .last .1 .1 .1 .1 .1 .0) (b .ensures) (x .0 .0) (x .1) in
-    let q = run-refused judgeTree k (x .0 .0) stops in
-    let r = refused-all (length (a .states .now)) (judgeRun judgeTree k) (Inapplicable (k .planLine) (x .0 .0)) q in
+    let q = run-refused fromTree k (x .0 .0) stops in
+    let r = refused-all (length (a .states .now)) (fromRun fromTree k) (Inapplicable (k .planLine) (x .0 .0)) q in
     (z .ensures .0 ∙ ap (λ (n : ℕ). Inapplicable n (x .0 .0)) (p .opens .planned) ∙ r .0, (z .ensures .1 ∙ ap (λ (n : ℕ). replicate n 0) kept ∙ r .1, r .2 _))
 
 pub judge-run-spec : {M : Type 1} → statement M

@@ -4,13 +4,13 @@ use Rattle.reading.proofs.Progress.{Listing, list-begins, list-goes-on,
 use Rattle.reading.proofs.Turns.{stays-line}
 use Rattle.reading.proofs.actions.Statement.{statement}
 use Rattle.reading.proofs.actions.Tie as tie
-use Rattle.rules.specs.Case.{oneLine}
+use Rattle.reading.specs.Groups.{valuedLine}
 use Rattle.rules.specs.Table as T
 use borrow.Author.Needs.{needs}
 use native.Mathlib.Omega.{arith}
 
 abbrev Inv-loop : tie.InvT-loop
-Inv-loop text past directory₀ x count at₀ i₀ directory at i = Listing text past (oneLine text (x .header) T.action 0) (x .header .actions) at₀ 0 directory₀ at directory i
+Inv-loop text past directory₀ x count at₀ i₀ directory at i = Listing text past (valuedLine text (x .header) T.action 0) (x .header .actions) at₀ 0 directory₀ at directory i
 
 abbrev μ-loop : tie.MeasureT-loop
 μ-loop text past directory₀ x count at₀ i₀ directory at i = count - i
@@ -22,8 +22,8 @@ loop-holds : tie.Need-loop-holds Inv-loop μ-loop
 loop-holds c =
     let s = c .before .before .before in
     let a = s .args in
-    let one = oneLine (a .text .now) (a .header) T.action 0 in
-    let stays = stays-line (a .text .now) (a .header) T.action 0 in
+    let one = valuedLine (a .text .now) (a .header) T.action 0 in
+    let stays = stays-line (a .text .now) (a .header) T.action 0 (λ x. x) in
     list-begins (a .text .now) (a .past) one stays (a .header .actions) (a .from) 0 (a .directory .now) (s .pre .0)
 
 one-line-requires : tie.Need-one-line-requires Inv-loop μ-loop
@@ -51,8 +51,8 @@ loop-again : tie.Need-loop-again Inv-loop μ-loop
 loop-again c =
     let s = c .before .before .before .before .before .before .before .before .before .before in
     let a = s .args in
-    let one = oneLine (a .text .now) (a .header) T.action 0 in
-    let stays = stays-line (a .text .now) (a .header) T.action 0 in
+    let one = valuedLine (a .text .now) (a .header) T.action 0 in
+    let stays = stays-line (a .text .now) (a .header) T.action 0 (λ x. x) in
     let l = c .before .before .before .before .before .before .loop in
     let r = c .before .before .before .before .one-line in
     let n = c .before .before .next .given in
@@ -70,8 +70,8 @@ returns : tie.Need-returns Inv-loop μ-loop
 returns c =
     let s = c .before .before .before .before .before .before .before .before .before in
     let a = s .args in
-    let one = oneLine (a .text .now) (a .header) T.action 0 in
-    let stays = stays-line (a .text .now) (a .header) T.action 0 in
+    let one = valuedLine (a .text .now) (a .header) T.action 0 in
+    let stays = stays-line (a .text .now) (a .header) T.action 0 (λ x. x) in
     let l = c .before .before .before .before .before .loop in
     let r = c .before .before .before .one-line in
     let e = c .before .answer .given in
@@ -85,8 +85,8 @@ returns-2 : tie.Need-returns-2 Inv-loop μ-loop
 returns-2 c =
     let s = c .before .before .before .before .before in
     let a = s .args in
-    let one = oneLine (a .text .now) (a .header) T.action 0 in
-    let stays = stays-line (a .text .now) (a .header) T.action 0 in
+    let one = valuedLine (a .text .now) (a .header) T.action 0 in
+    let stays = stays-line (a .text .now) (a .header) T.action 0 (λ x. x) in
     let l = c .before .loop in
     list-ends (a .text .now) (a .past) one stays (a .header .actions) (a .from) 0 (a .directory .now) (l .at) (l .directory) (l .i) (l .inv) (c .loop-test .left)
 

@@ -5,11 +5,11 @@ use Rattle.reading.proofs.Progress.{Progress, begins, goes-on, stops, e
 use Rattle.reading.proofs.Turns.{stays-line}
 use Rattle.reading.proofs.lines_of.Statement.{statement}
 use Rattle.reading.proofs.lines_of.Tie as tie
-use Rattle.rules.specs.Case.{oneLine}
+use Rattle.reading.specs.Groups.{valuedLine}
 use borrow.Author.Needs.{needs}
 
 abbrev Inv-loop : tie.InvT-loop
-Inv-loop text past due x count at₀ i₀ at i = Progress text past (oneLine text (x .header) (roleOf due) (x .subtasks)) count at₀ at i
+Inv-loop text past due x count at₀ i₀ at i = Progress text past (valuedLine text (x .header) (roleOf due) (x .subtasks)) count at₀ at i
 
 abbrev μ-loop : tie.MeasureT-loop
 μ-loop text past due x count at₀ i₀ at i = count - i
@@ -18,8 +18,8 @@ loop-holds : tie.Need-loop-holds Inv-loop μ-loop
 loop-holds c =
     let s = c .before in
     let a = s .args in
-    let one = oneLine (a .text .now) (a .x .header) (roleOf (a .due)) (a .x .subtasks) in
-    let stays = stays-line (a .text .now) (a .x .header) (roleOf (a .due)) (a .x .subtasks) in
+    let one = valuedLine (a .text .now) (a .x .header) (roleOf (a .due)) (a .x .subtasks) in
+    let stays = stays-line (a .text .now) (a .x .header) (roleOf (a .due)) (a .x .subtasks) (λ x. x) in
     begins (a .text .now) (a .past) one stays (a .count) (a .from) (s .pre)
 
 one-line-requires : tie.Need-one-line-requires Inv-loop μ-loop
@@ -38,8 +38,8 @@ loop-again : tie.Need-loop-again Inv-loop μ-loop
 loop-again c =
     let s = c .before .before .before .before .before .before .before in
     let a = s .args in
-    let one = oneLine (a .text .now) (a .x .header) (roleOf (a .due)) (a .x .subtasks) in
-    let stays = stays-line (a .text .now) (a .x .header) (roleOf (a .due)) (a .x .subtasks) in
+    let one = valuedLine (a .text .now) (a .x .header) (roleOf (a .due)) (a .x .subtasks) in
+    let stays = stays-line (a .text .now) (a .x .header) (roleOf (a .due)) (a .x .subtasks) (λ x. x) in
     let l = c .before .before .before .before .before .loop in
     let r = c .before .before .before .one-line in
     let n = c .before .next .given in
@@ -52,8 +52,8 @@ returns : tie.Need-returns Inv-loop μ-loop
 returns c =
     let s = c .before .before .before .before .before .before .before in
     let a = s .args in
-    let one = oneLine (a .text .now) (a .x .header) (roleOf (a .due)) (a .x .subtasks) in
-    let stays = stays-line (a .text .now) (a .x .header) (roleOf (a .due)) (a .x .subtasks) in
+    let one = valuedLine (a .text .now) (a .x .header) (roleOf (a .due)) (a .x .subtasks) in
+    let stays = stays-line (a .text .now) (a .x .header) (roleOf (a .due)) (a .x .subtasks) (λ x. x) in
     let l = c .before .before .before .before .before .loop in
     let r = c .before .before .before .one-line in
     let e = c .before .answer .given in
@@ -63,8 +63,8 @@ returns-2 : tie.Need-returns-2 Inv-loop μ-loop
 returns-2 c =
     let s = c .before .before .before in
     let a = s .args in
-    let one = oneLine (a .text .now) (a .x .header) (roleOf (a .due)) (a .x .subtasks) in
-    let stays = stays-line (a .text .now) (a .x .header) (roleOf (a .due)) (a .x .subtasks) in
+    let one = valuedLine (a .text .now) (a .x .header) (roleOf (a .due)) (a .x .subtasks) in
+    let stays = stays-line (a .text .now) (a .x .header) (roleOf (a .due)) (a .x .subtasks) (λ x. x) in
     let l = c .before .loop in
     ends (a .text .now) (a .past) one stays (a .count) (a .from) (l .at) (l .i) (l .inv) (c .loop-test .left)
 

@@ -3,7 +3,7 @@ use Rattle.lines.specs.Reading.{roleOf}
 use Rattle.reading.proofs.Turns.{line-entry, entry-group, field-below}
 use Rattle.reading.proofs.one_line.Statement.{statement}
 use Rattle.reading.proofs.one_line.Tie as tie
-use Rattle.rules.specs.Case.{oneLine}
+use Rattle.reading.specs.Groups.{valuedLine}
 use borrow.Author.Needs.{needs}
 use native.Mathlib.Omega.{arith}
 
@@ -22,7 +22,7 @@ returns : tie.Need-returns
 returns c =
     let a = c .before .before .before .args in
     let r = c .before .read-line in
-    entry-group (record { group = c .after .result; values = r .result .values }) (oneLine (a .text .now) (a .x .header) (roleOf (a .due)) (a .x .subtasks) (a .at .line) (a .at .start .at))
+    entry-group (record { group = c .after .result; values = r .result .values }) (valuedLine (a .text .now) (a .x .header) (roleOf (a .due)) (a .x .subtasks) (a .at .line) (a .at .start .at))
     (line-entry (a .text .now) (a .x .header) (roleOf (a .due)) (a .x .subtasks) (a .at .line) (a .at .start .at) (r .result) (c .after .result) (r .ensures) (c .after .ensures))
 
 pub one-line-spec : {M : Type 1} → statement M

@@ -2,7 +2,7 @@
 use Rattle.reading.proofs.Turns.{entry-group, method-on, method-stopped, stays-line, due-next}
 use Rattle.reading.proofs.one_method.Statement.{statement}
 use Rattle.reading.proofs.one_method.Tie as tie
-use Rattle.rules.specs.Case.{oneLine}
+use Rattle.reading.specs.Groups.{valuedLine}
 use Rattle.rules.specs.Table as T
 use borrow.Author.Needs.{needs}
 
@@ -21,9 +21,9 @@ array-read-lines-of-2 c = search needs
 lines-of-requires : tie.Need-lines-of-requires
 lines-of-requires c κs =
     let a = c .before .before .before .before .before .before .args in
-    let one = oneLine (a .text .now) (a .header) T.method 0 in
+    let one = valuedLine (a .text .now) (a .header) T.method 0 in
     let e = c .before .before .before .before .valued-line in
-    due-next (a .text .now) one (stays-line (a .text .now) (a .header) T.method 0) (a .past) (a .at) (c .before .group .given .0 .0) (e .result .group) (c .before .before .before .before .before .before .pre) (c .before .group .given .1)
+    due-next (a .text .now) one (stays-line (a .text .now) (a .header) T.method 0 (λ x. x)) (a .past) (a .at) (c .before .group .given .0 .0) (e .result .group) (c .before .before .before .before .before .before .pre) (c .before .group .given .1)
     (entry-group (e .result) (one (a .at .line) (a .at .start .at)) (e .ensures))
 
 enum-known-group-2 : tie.Need-enum-known-group-2

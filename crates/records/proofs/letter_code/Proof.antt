@@ -3,24 +3,30 @@ use Prim.Native.Nat.{ℕ}
 use Rattle.records.proofs.letter_code.Statement.{statement}
 use Rattle.records.proofs.letter_code.Tie as tie
 use Rattle.records.specs.Records.{letterCode}
+use Rattle.rules.specs.Index.{at}
+use Rattle.rules.specs.Case.{NodeLine, D, E, L, nodeOf}
+use Rattle.rules.specs.Verdict.{nodeRecord}
 use borrow.Author.Tests.{ne-eqb}
 use lib.Dec.{eqb}
 use mathlib.Core.Bool.{Bool, true, false}
 use mathlib.Core.Path.{_≡_, sym, ap, _∙_}
 
+-- The code by the tests of the letter.
+abbrev byTests : Bool → Bool → ℕ
+byTests d e =
+    nodeRecord (elim d as (λ x. NodeLine) [ true ↦ D 0 | false ↦ elim e as (λ x. NodeLine) [ true ↦ E 0 0 | false ↦ L 0 0 ] ]) (at 0) .letter
+
 -- A letter that is neither D nor E is a leaf's.
 code-leaf : (l : ℕ) → (l ≡ 68 → ⊥) → (l ≡ 69 → ⊥) → 3 ≡ letterCode l
-unfolding letterCode
-code-leaf l d e =
-    sym (ap (λ (b : Bool). elim b as (λ x. ℕ) [ true ↦ 1 | false ↦ elim (eqb l 69) [ true ↦ 2 | false ↦ 3 ] ]) (ne-eqb l 68 d)
-    ∙ ap (λ (b : Bool). elim b as (λ x. ℕ) [ true ↦ 2 | false ↦ 3 ]) (ne-eqb l 69 e))
+unfolding letterCode nodeOf nodeRecord
+code-leaf l d e = sym (ap (λ (b : Bool). byTests b (eqb l 69)) (ne-eqb l 68 d) ∙ ap (byTests false) (ne-eqb l 69 e))
 
 returns : tie.Need-returns
-unfolding letterCode
+unfolding letterCode nodeOf nodeRecord
 returns c = rw (c .match .keys1)
 
 returns-2 : tie.Need-returns-2
-unfolding letterCode
+unfolding letterCode nodeOf nodeRecord
 returns-2 c = rw (c .match .keys2)
 
 returns-3 : tie.Need-returns-3

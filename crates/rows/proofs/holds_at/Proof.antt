@@ -1,6 +1,6 @@
 -- `holds_at`: the middle part that was lent is the row of state l. Assumes nothing.
 use Prim.Native.Nat.{ℕ}
-use Rattle.index.specs.Spans.{numberOf}
+use Rattle.index.specs.Spans.{stateOf}
 use Rattle.rows.proofs.Written.{part-row}
 use Rattle.rows.proofs.holds_at.Statement.{statement}
 use Rattle.rows.proofs.holds_at.Tie as tie
@@ -36,7 +36,7 @@ unfolding wordCount
 returns c =
     let a = c .before .before .before .before .args in
     let from = c .before .before .row-start in
-    c .holds .ensures ∙ ap (λ (s : List ℕ). member s (a .p)) (part-row (a .states .now) (numberOf (a .l)) (from .result) (from .ensures))
+    c .holds .ensures ∙ ap (λ (s : List ℕ). member s (a .p)) (part-row (a .states .now) (stateOf (a .l)) (from .result) (from .ensures))
 
 pub holds-at-spec : {M : Type 1} → statement M
 holds-at-spec =

@@ -1,5 +1,5 @@
 -- `put_row`: the middle part that was lent is the row of state l. Assumes nothing.
-use Rattle.index.specs.Spans.{numberOf}
+use Rattle.index.specs.Spans.{stateOf}
 use Rattle.rows.proofs.Written.{part-put}
 use Rattle.rows.proofs.put_row.Statement.{statement}
 use Rattle.rows.proofs.put_row.Tie as tie
@@ -37,7 +37,7 @@ unfolding wordCount
 returns c =
     let a = c .before .before .before .before .before .before .args in
     let from = c .before .before .before .before .row-start in
-    part-put (a .states .now) (numberOf (a .l)) (from .result) (from .ensures) (a .s .words) (c .before .before .put-words .last .0) (c .before .before .put-words .ensures)
+    part-put (a .states .now) (stateOf (a .l)) (from .result) (from .ensures) (a .s .words) (c .before .before .put-words .last .0) (c .before .before .put-words .ensures)
 
 pub put-row-spec : {M : Type 1} → statement M
 put-row-spec =

@@ -22,13 +22,13 @@ use Rattle.rules.proofs.Judgement.Preorder.{claimedBy, ClaimsPass}
 abbrev pub toCome : List ℕ → ℕ → Bool → List ℕ
 toCome plan j claimed? = cond claimed? [] (getD plan (j - 1) 0 ∷ [])
 
-may-claim : (plan : List ℕ) (a i : ℕ) (c : List ℕ) → mayClaim plan a i c ≡ true → (getD plan (i - 1) 0 ≡ a) × (isIn i c ≡ false)
+pub may-claim : (plan : List ℕ) (a i : ℕ) (c : List ℕ) → mayClaim plan a i c ≡ true → (getD plan (i - 1) 0 ≡ a) × (isIn i c ≡ false)
 unfolding mayClaim
 may-claim plan a i c e =
     let w = both-true (eqb (getD plan (i - 1) 0) a) (not (isIn i c)) e in
     (eqb-true (getD plan (i - 1) 0) a (w .0), not-true (isIn i c) (w .1))
 
-may-claim-of : (plan : List ℕ) (a i : ℕ) (c : List ℕ) → getD plan (i - 1) 0 ≡ a → isIn i c ≡ false → mayClaim plan a i c ≡ true
+pub may-claim-of : (plan : List ℕ) (a i : ℕ) (c : List ℕ) → getD plan (i - 1) 0 ≡ a → isIn i c ≡ false → mayClaim plan a i c ≡ true
 unfolding mayClaim
 may-claim-of plan a i c p q = rw (eq-eqb (getD plan (i - 1) 0) a p, q)
 
@@ -155,7 +155,7 @@ claimants-none j (L a i ∷ ls) c h = go (eqb j i) refl (claimants-none j ls (i 
     go true q ih = absurd (false≢true (sym h ∙ stays-in j ls (i ∷ c) (is-in-same i j c (eqb-true j i q))))
     go false q ih = claimants-other a i j ls (eqb-false j i q) ∙ ih
 
-claimed-by : (j : ℕ) (ls : List NodeLine) (c : List ℕ) → isIn j (claimedBy ls c) ≡ true → ((a : ℕ) × Mem (L a j) ls) ⊎ (isIn j c ≡ true)
+pub claimed-by : (j : ℕ) (ls : List NodeLine) (c : List ℕ) → isIn j (claimedBy ls c) ≡ true → ((a : ℕ) × Mem (L a j) ls) ⊎ (isIn j c ≡ true)
 claimed-by j [] c h = inr h
 claimed-by j (D m ∷ ls) c h = ⊎-elim (λ w. inl (w .0, there (w .1))) (λ w. inr w) (claimed-by j ls c h)
 claimed-by j (E m g ∷ ls) c h = ⊎-elim (λ w. inl (w .0, there (w .1))) (λ w. inr w) (claimed-by j ls c h)
@@ -165,14 +165,11 @@ claimed-by j (L a i ∷ ls) c h = ⊎-elim (λ w. inl (w .0, there (w .1))) (λ 
     go true q w = inl (a, here (ap (λ (n : ℕ). L a n) (eqb-true j i q)))
     go false q w = inr (sym (is-in-other i j c (eqb-false j i q)) ∙ w)
 
--- "leaf's position has another action or was claimed earlier"
-pub may-not-claim : (plan : List ℕ) (a i : ℕ) (ls : List NodeLine) → mayClaim plan a i (claimedBy ls []) ≡ false
-    → (getD plan (i - 1) 0 ≢ a) ⊎ ((b : ℕ) × Mem (L b i) ls)
-unfolding isIn
-may-not-claim plan a i ls h = go (eqb (getD plan (i - 1) 0) a) refl (isIn i (claimedBy ls [])) refl
-  where
-    go : (b : Bool) → eqb (getD plan (i - 1) 0) a ≡ b → (d : Bool) → isIn i (claimedBy ls []) ≡ d
-        → (getD plan (i - 1) 0 ≢ a) ⊎ ((b : ℕ) × Mem (L b i) ls)
-    go true e true q = ⊎-elim (λ w. inr w) (λ w. absurd (false≢true w)) (claimed-by i ls [] q)
-    go true e false q = absurd (false≢true (sym h ∙ may-claim-of plan a i (claimedBy ls []) (eqb-true (getD plan (i - 1) 0) a e) q))
-    go false e d q = inl (eqb-false (getD plan (i - 1) 0) a e)
+-- A position that a leaf claims is claimed.
+pub not-claimed : (i b : ℕ) (ls : List NodeLine) (c : List ℕ) → Mem (L b i) ls → isIn i (claimedBy ls c) ≡ false → ⊥
+not-claimed i b (y ∷ ls) c (here e) h =
+    let s = stays-in i ls (i ∷ c) (is-in-same i i c refl) in
+    false≢true (sym h ∙ ap (λ (z : NodeLine). isIn i (claimedBy (z ∷ ls) c)) (sym e) ∙ s)
+not-claimed i b (D m ∷ ls) c (there w) h = not-claimed i b ls c w h
+not-claimed i b (E m g ∷ ls) c (there w) h = not-claimed i b ls c w h
+not-claimed i b (L a j ∷ ls) c (there w) h = not-claimed i b ls (j ∷ c) w h

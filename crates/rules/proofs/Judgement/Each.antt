@@ -1,15 +1,12 @@
 -- Members of a list that all have a property, or the first that hasn't, and tests that are joined. By recursion on the list, or on the test.
 use mathlib.Core.Path.{_≡_, refl, sym, ap, subst}
 use mathlib.Core.Bool.{Bool, true, false, _&&_, false≢true}
-use mathlib.Core.List.{List, [], _∷_, _++_, map}
+use mathlib.Core.List.{List, [], _∷_, map}
 use mathlib.Core.List.{List·Memᴰ as Mem, List·Memᴰ·head as here, List·Memᴰ·tail as there, List·Memᴰ·not-nil as not-nil, Memᴰ·append-right as in-right}
 use Prim.Native.Nat.{ℕ, zero, suc, _<_}
 use native.Mathlib.Omega.{arith}
 use lib.ListN.{length, getD}
-
--- Every member has the property.
-abbrev pub Each : {A : Type 0} → (A → Type 0) → List A → Type 0
-Each {A} P l = (x : A) → Mem x l → P x
+pub use Rattle.rules.specs.Refusals.{Each, First}
 
 module _ {A : Type 0} (P : A → Type 0) where
   pub each-nil : Each P []
@@ -37,15 +34,6 @@ each-weaken P Q l g f x m = g x (f x m)
 pub both-true : (a b : Bool) → (a && b) ≡ true → (a ≡ true) × (b ≡ true)
 both-true true b e = (refl, e)
 both-true false b e = absurd (false≢true e)
-
--- Of a list, a first member that hasn't a property.
-pub record First {A : Type 0} (Good Bad : A → Type 0) (l : List A) : Type 0 where
-  pub before : List A
-  pub it : A
-  pub after : List A
-  pub split : l ≡ before ++ it ∷ after
-  pub good : Each Good before
-  pub bad : Bad it
 
 abbrev pub first-here : {A : Type 0} {Good Bad : A → Type 0} (x : A) (l : List A) → Bad x → First Good Bad (x ∷ l)
 first-here {Good = Good} x l b = record { before = []; it = x; after = l; split = refl; good = each-nil Good; bad = b }

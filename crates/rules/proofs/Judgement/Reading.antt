@@ -12,63 +12,58 @@ use Rattle.rules.specs.declared.Header.{Header}
 use Rattle.rules.specs.declared.Answer.{Answer}
 use Rattle.rules.specs.declared.Answer.the-variants.{Unreadable, OutOfRange}
 use Rattle.rules.specs.Text.{Number, number, notPlain, missing, numberAt, Letter, letter, noLetter, letterAt, Ending, ended, surplus, endingAt, feedFollows}
-use Rattle.rules.specs.Table.{Role, upTo, task, anAction, proposition, memberCount, Item, one, set, subtaskList, cues, Row, table, rowIn, rowOf, roleNumber, inRange, taken, out, take, Value, scalar, members, numberOf, ItemRead, item, followTaken, withMember, leastAfter, readMembers, readList, readItem, LineRead, line, followItem, withValue, finishLine, readItems, readRow, readLetter, readLine}
-use Rattle.rules.specs.Case.{Valued, Read, read, refused, follow, readOf, oneLine, many}
+use Rattle.rules.specs.Table.{Role, upTo, task, anAction, proposition, memberCount, Item, one, set, subtaskList, cues, Row, table, rowIn, rowOf, roleNumber, inRange, taken, out, within, Value, scalar, listed, numberOf, ItemRead, item, followTaken, withMember, leastAfter, readMembers, readList, readItem, LineRead, line, followItem, withValue, finishLine, readItems, readRow, readLetter, readLine}
+use Rattle.rules.specs.Result.{Result, found, refused, _>>=_}
+use Rattle.rules.specs.Case.{Valued, Read, readAs, oneLine, many}
+use Rattle.rules.proofs.Outcomes.{AfterMember, ItemSays, member-says, LineSays, value-says, item-then}
 use Rattle.rules.proofs.Judgement.Each.{Each, each-nil, each-cons, both-true}
 
 -- ---- Items
 
--- P of the value, if the item is read.
-abbrev ItemSays : (Value → Type 0) → ItemRead → Type 0
-ItemSays P (item v field next) = P v
-ItemSays P (ItemRead.unreadable field) = Unit {0}
-ItemSays P (ItemRead.outside field) = Unit {0}
+-- Nothing is said of a field that is refused.
+abbrev Any : ℕ → Type 0
+Any field = Unit {0}
 
-taken-says : (P : Value → Type 0) (ok : ℕ → Bool) (x : Number) (field : ℕ) (rest : ℕ → ℕ → ItemRead)
-    → ((v next : ℕ) → ok v ≡ true → ItemSays P (rest v next)) → ItemSays P (followTaken (take ok x) field rest)
+taken-says : (P : Value → ℕ → ℕ → Type 0) (ok : ℕ → Bool) (x : Number) (field : ℕ) (rest : ℕ → ℕ → ItemRead)
+    → ((v next : ℕ) → ok v ≡ true → ItemSays Any Any P (rest v next)) → ItemSays Any Any P (followTaken (within ok x) field rest)
 taken-says P ok (number v next) field rest f = go (ok v) refl
   where
-    go : (b : Bool) → ok v ≡ b → ItemSays P (followTaken (elim b [ true ↦ taken v next | false ↦ out ]) field rest)
+    go : (b : Bool) → ok v ≡ b → ItemSays Any Any P (followTaken (elim b [ true ↦ taken v next | false ↦ out ]) field rest)
     go true e = f v next e
     go false e = tt
 taken-says P ok notPlain field rest f = tt
 taken-says P ok missing field rest f = tt
 
--- P once a member has been put before the others.
-abbrev AfterMember : (Value → Type 0) → ℕ → Value → Type 0
-AfterMember P v (scalar w) = P (scalar w)
-AfterMember P v (members vs) = P (members (v ∷ vs))
-
-member-says : (P : Value → Type 0) (v : ℕ) (r : ItemRead) → ItemSays (AfterMember P v) r → ItemSays P (withMember v r)
-member-says P v (item (scalar w) field next) h = h
-member-says P v (item (members vs) field next) h = h
-member-says P v (ItemRead.unreadable field) h = tt
-member-says P v (ItemRead.outside field) h = tt
-
 -- P of every list of so many members that all pass the test.
 abbrev ForMembers : ℕ → (ℕ → Bool) → (Value → Type 0) → Type 0
-ForMembers count ok P = (vs : List ℕ) → length vs ≡ count → Each (λ v. ok v ≡ true) vs → P (members vs)
+ForMembers count ok P = (vs : List ℕ) → length vs ≡ count → Each (λ v. ok v ≡ true) vs → P (listed vs)
 
-members-say : (text : List ℕ) (ok : ℕ → Bool) (ascending : Bool) (count low field place : ℕ) (P : Value → Type 0) → ForMembers count ok P
-    → ItemSays P (readMembers text ok ascending count low field place)
-members-say text ok ascending zero low field place P f = f [] refl (each-nil (λ v. ok v ≡ true))
+members-say : (text : List ℕ) (ok : ℕ → Bool) (ascending : Bool) (count low field place : ℕ) (P : Value → ℕ → ℕ → Type 0)
+    → ((vs : List ℕ) (field next : ℕ) → length vs ≡ count → Each (λ v. ok v ≡ true) vs → P (listed vs) field next)
+    → ItemSays Any Any P (readMembers text ok ascending count low field place)
+members-say text ok ascending zero low field place P f = f [] field place refl (each-nil (λ v. ok v ≡ true))
 members-say text ok ascending (suc count) low field place P f =
     let rest : ℕ → ℕ → ItemRead = λ v next. readMembers text ok ascending count (leastAfter ascending v) (field + 1) next in
     taken-says P (λ v. leb low v && ok v) (numberAt text place) field (λ v next. withMember v (rest v next))
-    (λ v next e. member-says P v (rest v next)
+    (λ v next e. member-says Any Any P v (rest v next)
     (members-say text ok ascending count (leastAfter ascending v) (field + 1) next (AfterMember P v)
-    (λ vs n h. f (v ∷ vs) (ap suc n) (each-cons (λ w. ok w ≡ true) v vs (both-true (leb low v) (ok v) e .1) h))))
+    (λ vs field′ next′ n h. f (v ∷ vs) field′ next′ (ap suc n) (each-cons (λ w. ok w ≡ true) v vs (both-true (leb low v) (ok v) e .1) h))))
+
+-- P of the value, if the item is read.
+abbrev ItemTells : (Value → Type 0) → ItemRead → Type 0
+ItemTells P = ItemSays Any Any (λ v field next. P v)
 
 -- P of every list whose count and members pass their tests.
 abbrev ForList : (ℕ → Bool) → (ℕ → Bool) → (Value → Type 0) → Type 0
-ForList count? ok P = (vs : List ℕ) → count? (length vs) ≡ true → Each (λ v. ok v ≡ true) vs → P (members vs)
+ForList count? ok P = (vs : List ℕ) → count? (length vs) ≡ true → Each (λ v. ok v ≡ true) vs → P (listed vs)
 
 list-says : (text : List ℕ) (count? ok : ℕ → Bool) (ascending : Bool) (field place : ℕ) (P : Value → Type 0) → ForList count? ok P
-    → ItemSays P (readList text count? ok ascending field place)
+    → ItemTells P (readList text count? ok ascending field place)
 unfolding readList
 list-says text count? ok ascending field place P f =
-    taken-says P count? (numberAt text place) field (λ count next. readMembers text ok ascending count 0 (field + 1) next)
-    (λ count next e. members-say text ok ascending count 0 (field + 1) next P (λ vs n h. f vs (subst (λ (c : ℕ). count? c ≡ true) (sym n) e) h))
+    taken-says (λ v field next. P v) count? (numberAt text place) field (λ count next. readMembers text ok ascending count 0 (field + 1) next)
+    (λ count next e. members-say text ok ascending count 0 (field + 1) next (λ v field next. P v)
+    (λ vs field′ next′ n h. f vs (subst (λ (c : ℕ). count? c ≡ true) (sym n) e) h))
 
 -- P of every value that passes the tests of an item.
 abbrev pub ForItem : Header → ℕ → List ℕ → Item → (Value → Type 0) → Type 0
@@ -78,36 +73,24 @@ ForItem h n before subtaskList P = ForList (inRange h n before (upTo 32)) (inRan
 ForItem h n before cues P = ForMembers (h .cues) (inRange h n before anAction) P
 
 item-says : (text : List ℕ) (h : Header) (n : ℕ) (before : List ℕ) (i : Item) (field place : ℕ) (P : Value → Type 0) → ForItem h n before i P
-    → ItemSays P (readItem text h n before i field place)
+    → ItemTells P (readItem text h n before i field place)
 unfolding readItem
 item-says text h n before (one kind) field place P f =
-    taken-says P (inRange h n before kind) (numberAt text place) field (λ v next. item (scalar v) (field + 1) next) (λ v next e. f v e)
+    taken-says (λ v field next. P v) (inRange h n before kind) (numberAt text place) field (λ v next. item (scalar v) (field + 1) next) (λ v next e. f v e)
 item-says text h n before set field place P f = list-says text (inRange h n before memberCount) (inRange h n before proposition) true field place P f
 item-says text h n before subtaskList field place P f = list-says text (inRange h n before (upTo 32)) (inRange h n before task) false field place P f
-item-says text h n before cues field place P f = members-say text (inRange h n before anAction) false (h .cues) 0 field place P f
+item-says text h n before cues field place P f =
+    members-say text (inRange h n before anAction) false (h .cues) 0 field place (λ v field next. P v) (λ vs field′ next′ n g. f vs n g)
 
 -- ---- Lines
 
 -- P of the letter and the values, if the line is read.
-abbrev LineSays : (ℕ → List Value → Type 0) → LineRead → Type 0
-LineSays P (line l vs next) = P l vs
-LineSays P (LineRead.unreadable field) = Unit {0}
-LineSays P (LineRead.outside field) = Unit {0}
+abbrev pub LineTells : (ℕ → List Value → Type 0) → LineRead → Type 0
+LineTells P = LineSays Any Any (λ l vs next. P l vs)
 
-ending-says : (P : ℕ → List Value → Type 0) (l field : ℕ) (x : Ending) → P l [] → LineSays P (finishLine l field x)
+ending-says : (P : ℕ → List Value → Type 0) (l field : ℕ) (x : Ending) → P l [] → LineTells P (finishLine l field x)
 ending-says P l field (ended next) p = p
 ending-says P l field surplus p = tt
-
-value-says : (P : ℕ → List Value → Type 0) (v : Value) (r : LineRead) → LineSays (λ l vs. P l (v ∷ vs)) r → LineSays P (withValue v r)
-value-says P v (line l vs next) h = h
-value-says P v (LineRead.unreadable field) h = tt
-value-says P v (LineRead.outside field) h = tt
-
-item-then : (P : ℕ → List Value → Type 0) (Q : Value → Type 0) (r : ItemRead) (rest : Value → ℕ → ℕ → LineRead) → ItemSays Q r
-    → ((v : Value) (field next : ℕ) → Q v → LineSays P (rest v field next)) → LineSays P (followItem r rest)
-item-then P Q (item v field next) rest q f = f v field next q
-item-then P Q (ItemRead.unreadable field) rest q f = tt
-item-then P Q (ItemRead.outside field) rest q f = tt
 
 -- P of every list of values that passes the tests of the items.
 abbrev pub ForItems : Header → ℕ → List Item → List ℕ → (List Value → Type 0) → Type 0
@@ -115,13 +98,14 @@ ForItems h n [] before P = P []
 ForItems h n (i ∷ is) before P = ForItem h n before i (λ v. ForItems h n is (before ++ (numberOf v ∷ [])) (λ vs. P (v ∷ vs)))
 
 items-say : (text : List ℕ) (h : Header) (n l : ℕ) (is : List Item) (before : List ℕ) (field place : ℕ) (P : ℕ → List Value → Type 0)
-    → ForItems h n is before (P l) → LineSays P (readItems text h n l is before field place)
+    → ForItems h n is before (P l) → LineTells P (readItems text h n l is before field place)
 items-say text h n l [] before field place P f = ending-says P l field (endingAt text place) f
 items-say text h n l (i ∷ is) before field place P f =
-    item-then P (λ v. ForItems h n is (before ++ (numberOf v ∷ [])) (λ vs. P l (v ∷ vs))) (readItem text h n before i field place)
+    item-then Any Any (λ l′ vs next. P l′ vs) (λ v field next. ForItems h n is (before ++ (numberOf v ∷ [])) (λ vs. P l (v ∷ vs)))
+    (readItem text h n before i field place)
     (λ v after next. withValue v (readItems text h n l is (before ++ (numberOf v ∷ [])) after next))
     (item-says text h n before i field place (λ v. ForItems h n is (before ++ (numberOf v ∷ [])) (λ vs. P l (v ∷ vs))) f)
-    (λ v after next g. value-says P v (readItems text h n l is (before ++ (numberOf v ∷ [])) after next)
+    (λ v after next g. value-says Any Any (λ l′ vs next. P l′ vs) v (readItems text h n l is (before ++ (numberOf v ∷ [])) after next)
     (items-say text h n l is (before ++ (numberOf v ∷ [])) after next (λ l′ vs. P l′ (v ∷ vs)) g))
 
 -- A besides B, where the test passes.
@@ -139,7 +123,7 @@ also-rest true A B w = w .1
 also-rest false A B w = w
 
 rows-say : (text : List ℕ) (h : Header) (n : ℕ) (due : Role) (P : ℕ → List Value → Type 0) (l place : ℕ) (rs : List Row) → ForRows h n due P rs
-    → LineSays P (readRow text due h n l place (rowIn l rs))
+    → LineTells P (readRow text due h n l place (rowIn l rs))
 rows-say text h n due P l place [] f = tt
 rows-say text h n due P l place (r ∷ rs) f =
     let this = ForItems h n (r .items) [] (P (r .letter)) in
@@ -147,12 +131,12 @@ rows-say text h n due P l place (r ∷ rs) f =
     go (eqb l (r .letter)) refl (rows-say text h n due P l place rs later)
   where
     chosen : (d : Bool) → l ≡ r .letter → AlsoIf d (ForItems h n (r .items) [] (P (r .letter))) (ForRows h n due P rs)
-        → LineSays P (elim d [ true ↦ readItems text h n l (r .items) [] 2 place | false ↦ LineRead.unreadable 1 ])
+        → LineTells P (elim d [ true ↦ readItems text h n l (r .items) [] 2 place | false ↦ LineRead.unreadable 1 ])
     chosen true e g = items-say text h n l (r .items) [] 2 place P (subst (λ (x : ℕ). ForItems h n (r .items) [] (P x)) (sym e) (g .0))
     chosen false e g = tt
 
-    go : (b : Bool) → eqb l (r .letter) ≡ b → LineSays P (readRow text due h n l place (rowIn l rs))
-        → LineSays P (readRow text due h n l place (elim b [ true ↦ some r | false ↦ rowIn l rs ]))
+    go : (b : Bool) → eqb l (r .letter) ≡ b → LineTells P (readRow text due h n l place (rowIn l rs))
+        → LineTells P (readRow text due h n l place (elim b [ true ↦ some r | false ↦ rowIn l rs ]))
     go true e rest = chosen (eqb (roleNumber due) (roleNumber (r .role))) (eqb-true l (r .letter) e) f
     go false e rest = rest
 
@@ -160,16 +144,16 @@ rows-say text h n due P l place (r ∷ rs) f =
 unfoldable pub ForLine : Header → ℕ → Role → (ℕ → List Value → Type 0) → Type 0
 ForLine h n due P = ForRows h n due P table
 
-line-says : (text : List ℕ) (h : Header) (n : ℕ) (due : Role) (P : ℕ → List Value → Type 0) (place : ℕ) → ForLine h n due P
-    → LineSays P (readLine text due h n place)
+pub line-says : (text : List ℕ) (h : Header) (n : ℕ) (due : Role) (P : ℕ → List Value → Type 0) (place : ℕ) → ForLine h n due P
+    → LineTells P (readLine text due h n place)
 unfolding readLine ForLine rowOf
 line-says text h n due P place f = go (feedFollows text place)
   where
-    found : (x : Letter) → LineSays P (readLetter text due h n x)
+    found : (x : Letter) → LineTells P (readLetter text due h n x)
     found (letter b next) = rows-say text h n due P b next table f
     found noLetter = tt
 
-    go : (b : Bool) → LineSays P (elim b [ true ↦ readLetter text due h n (letterAt text place) | false ↦ LineRead.unreadable 0 ])
+    go : (b : Bool) → LineTells P (elim b [ true ↦ readLetter text due h n (letterAt text place) | false ↦ LineRead.unreadable 0 ])
     go true = found (letterAt text place)
     go false = tt
 
@@ -180,22 +164,30 @@ pub data OfReading : Answer → Type 0 where
   unreadable : {l i : ℕ} → OfReading (Unreadable l i)
   outside : {l i : ℕ} → OfReading (OutOfRange l i)
 
--- P of what is read; or the answer is one of reading's.
+-- P of what is found; or the answer is one of reading's.
+abbrev pub Says : {A : Type 0} → (A → Type 0) → Result A → Type 0
+Says P (found a) = P a
+Says P (refused r) = OfReading r
+
+-- P of what is read, whatever line comes next.
 abbrev pub ReadSays : {A : Type 0} → (A → Type 0) → Read A → Type 0
-ReadSays P (read a n place) = P a
-ReadSays P (refused r) = OfReading r
+ReadSays P r = Says (λ x. P (x .0)) r
 
-pub read-then : {A B : Type 0} (P : A → Type 0) (Q : B → Type 0) (r : Read A) (rest : A → ℕ → ℕ → Read B) → ReadSays P r
-    → ((a : A) (n place : ℕ) → P a → ReadSays Q (rest a n place)) → ReadSays Q (follow r rest)
-read-then P Q (read a n place) rest p f = f a n place p
-read-then P Q (refused r) rest p f = p
+pub says-then : {A B : Type 0} (P : A → Type 0) (Q : B → Type 0) (r : Result A) (rest : A → Result B) → Says P r → ((a : A) → P a → Says Q (rest a))
+    → Says Q (r >>= rest)
+says-then P Q (found a) rest p f = f a p
+says-then P Q (refused r) rest p f = p
 
-pub one-line-says : (text : List ℕ) (h : Header) (due : Role) (s n place : ℕ) (P : ℕ → List Value → Type 0) → ForLine h s due P
-    → ReadSays {A = Valued} (λ x. P (x .0) (x .1)) (oneLine text h due s n place)
+pub read-then : {A B : Type 0} (P : A → Type 0) (Q : B → Type 0) (r : Read A) (rest : A × ℕ × ℕ → Read B) → ReadSays P r
+    → ((x : A × ℕ × ℕ) → P (x .0) → ReadSays Q (rest x)) → ReadSays Q (r >>= rest)
+read-then P Q r rest p f = says-then (λ x. P (x .0)) (λ x. Q (x .0)) r rest p f
+
+pub one-line-says : {A : Type 0} (text : List ℕ) (h : Header) (due : Role) (s : ℕ) (means : Valued → A) (n place : ℕ) (P : A → Type 0)
+    → ForLine h s due (λ l vs. P (means (l, vs))) → ReadSays P (oneLine text h due s means n place)
 unfolding oneLine
-one-line-says text h due s n place P f = go (readLine text due h s place) (line-says text h s due P place f)
+one-line-says text h due s means n place P f = go (readLine text due h s place) (line-says text h s due (λ l vs. P (means (l, vs))) place f)
   where
-    go : (r : LineRead) → LineSays P r → ReadSays {A = Valued} (λ x. P (x .0) (x .1)) (readOf n r)
+    go : (r : LineRead) → LineTells (λ l vs. P (means (l, vs))) r → ReadSays P (readAs means n r)
     go (line l vs next) p = p
     go (LineRead.unreadable field) p = OfReading.unreadable
     go (LineRead.outside field) p = OfReading.outside
@@ -209,10 +201,9 @@ pub many-say : {A : Type 0} (P : A → Type 0) (each : ℕ → ℕ → Read A) �
 many-say P each f zero n place = (refl, each-nil P)
 many-say P each f (suc count) n place =
     read-then P (Counted P (suc count)) (each n place) _ (f n place)
-    (λ x n′ place′ p. read-then (Counted P count) (Counted P (suc count)) (many each count n′ place′) _ (many-say P each f count n′ place′)
-    (λ xs n″ place″ h. (ap suc (h .0), each-cons P x xs p (h .1))))
+    (λ x p. read-then (Counted P count) (Counted P (suc count)) (many each count (x .1) (x .2)) _ (many-say P each f count (x .1) (x .2))
+    (λ xs h. (ap suc (h .0), each-cons P (x .0) (xs .0) p (h .1))))
 
-pub lines-say : (text : List ℕ) (h : Header) (due : Role) (s count n place : ℕ) (P : ℕ → List Value → Type 0) → ForLine h s due P
-    → ReadSays (Counted {A = Valued} (λ x. P (x .0) (x .1)) count) (many (oneLine text h due s) count n place)
-lines-say text h due s count n place P f =
-    many-say {A = Valued} (λ x. P (x .0) (x .1)) (oneLine text h due s) (λ m at. one-line-says text h due s m at P f) count n place
+pub lines-say : {A : Type 0} (text : List ℕ) (h : Header) (due : Role) (s : ℕ) (means : Valued → A) (count n place : ℕ) (P : A → Type 0)
+    → ForLine h s due (λ l vs. P (means (l, vs))) → ReadSays (Counted P count) (many (oneLine text h due s means) count n place)
+lines-say text h due s means count n place P f = many-say P (oneLine text h due s means) (λ m at. one-line-says text h due s means m at P f) count n place

@@ -1,169 +1,240 @@
--- A refusal names the first rule broken: each row is tried only after those before it have passed, so what the call finds is read off row
+-- A refusal shows the first rule broken: each row is tried only after those before it have passed, so what the call finds is read off row
 -- by row, from the last to the first.
-use mathlib.Core.Path.{_≡_, refl, sym, subst}
-use mathlib.Core.Bool.{Bool, true, false}
+use mathlib.Core.Path.{_≡_, refl, sym, _∙_, subst}
+use mathlib.Core.Bool.{Bool, true, false, false≢true}
 use mathlib.Core.List.{List, [], _∷_, _++_}
+use mathlib.Core.List.{List·Memᴰ as Mem}
+use mathlib.Core.Logic.{⊎-elim}
 use mathlib.Core.Option.{Option, none, some}
-use Prim.Native.Nat.{ℕ, _+_}
+use Prim.Native.Nat.{ℕ, _+_, _≤_, _<_}
 use native.Mathlib.Omega.{arith}
 use lib.Dec.{ltb}
 use lib.ListN.{length}
 use borrow.Author.Tests.{ltb-true, ltb-false}
 use Rattle.rules.specs.declared.Answer.{Answer}
-use Rattle.rules.specs.declared.Answer.the-variants.{LongText}
+use Rattle.rules.specs.declared.Answer.the-variants.{LongText, ShortList}
 use Rattle.rules.specs.State.{firstStop}
-use Rattle.rules.specs.Case.{Constraint, O, B, F, W, NodeLine, Case, Read, read, refused, readCase}
-use Rattle.rules.specs.Tree.{Tree, preorder, Walk, isIn, mayClaim, walkTree, leastUnclaimed}
+use Rattle.rules.specs.Result.{Result, found, refused, _>>=_, _>>_}
+use Rattle.rules.specs.Case.{Constraint, O, B, F, W, NodeLine, D, E, L, Case, readCase}
+use Rattle.rules.specs.Tree.{Tree, preorder, isIn, fits, mayClaim, walkTree, leastUnclaimed, levelCount}
 use Rattle.rules.specs.Constraint.{holdsIn, brokenAt, firstBroken}
-use Rattle.rules.specs.Verdict.{Found, right, wrong, Lent, firstShort, statesOf, noneBroken, judgeConstraints, allClaimed, treeWalked, judgeTree, planRuns, judgeRun, textRead, textMost, judgeText, listsLent, check}
-use Rattle.rules.specs.Rules.{PlanRuns}
-use Rattle.rules.proofs.Judgement.Each.{Each, each-nil, each-cons, First, first-here, first-later}
-use Rattle.rules.proofs.Judgement.Reading.{OfReading, unreadable, outside, ReadSays}
-use Rattle.rules.proofs.Judgement.Sound.{Sound, case-says}
-use Rattle.rules.proofs.Judgement.Preorder.{claimedBy}
-use Rattle.rules.proofs.Judgement.Waiting.{Expected, waiting, Reached, Stop, lacking, over, misfit, deep, unclaimable}
+use Rattle.rules.specs.Verdict.{Found, Lent, reported, listsLong, textMost, textShort, unless, statesOf, planRuns, allClaimed, noneBroken, check}
+use Rattle.rules.specs.Rules.{cueAction, Fits}
+use Rattle.rules.specs.Refusals.{Each, First, LongEnough, Short, Admits, Reads, Runs, Expected, below, waiting, MayClaim, RightNodes, root, Walks, Claimed, KeepsAll, Grows, brokenNumber, Covers, Shows, short, long, unread, outside, cue, lacking, over, misfit, deep, claim, unclaimed, broken}
+use Rattle.rules.proofs.Statements.{fits-iff, are-states}
+use Rattle.rules.proofs.Faults.{FaultSays, CaseSays, reading-shows}
+use Rattle.rules.proofs.Judgement.Each.{each-nil, each-cons, first-here, first-later}
+use Rattle.rules.proofs.Judgement.Preorder.{height, claim as claimBy, Passes, claimedBy, ClaimsPass, TreeOf, linesOf}
+use Rattle.rules.proofs.Judgement.Waiting as Wa
+use Rattle.rules.proofs.Judgement.Waiting.{Reached, Stop, tree-reached}
 use Rattle.rules.proofs.Judgement.Walk.{TreeSays, tree-says}
-use Rattle.rules.proofs.Judgement.Claims.{claimants-passed, LeastSays, least-says, claimants-none, may-not-claim}
+use Rattle.rules.proofs.Judgement.Claims.{claimants-passed, LeastSays, least-says, claimants-none, may-claim, may-claim-of, claimed-by, not-claimed}
 use Rattle.rules.proofs.Judgement.Run.{StopSays, stop-says}
-use Rattle.rules.proofs.Judgement.Kept.{BrokenSays, broken-says, KeepsAll, BreaksOne}
-use Rattle.rules.proofs.Judgement.Statement.{LongEnough, Short, Admits, Reads, Runs, Grows, Claimed, Covers, Accepts, Unread, NodeStops, FirstBroken}
+use Rattle.rules.proofs.Judgement.Kept.{BrokenSays, broken-says}
+use Rattle.rules.proofs.Judgement.Rows.{fromConstraints, fromClaims, fromTree, fromRun, fromText}
+
+-- All rows are passed.
+pub record Accepts (lists : List Lent) (text : List ℕ) (k : Case) (t : Tree) : Type 0 where
+  pub covered : Covers lists text k (statesOf k) t
+  pub shallow : height t ≤ levelCount
+  pub kept : Each (KeepsAll k (statesOf k)) (preorder t)
+
+-- What an answer shows, by its number, line and item.
+abbrev pub AnswerShows : List Lent → List ℕ → Answer → Type 0
+AnswerShows lists text r = Shows lists text (reported r .number) (reported r .line) (reported r .item)
 
 -- What the call's finding says: all rows are passed, or the first that isn't.
 abbrev pub CheckSays : List Lent → List ℕ → Found Tree → Type 0
-CheckSays lists text (right k t) = Accepts lists text k t
-CheckSays lists text (wrong r) = FirstBroken lists text r
+CheckSays lists text (found (k, t)) = Accepts lists text k t
+CheckSays lists text (refused r) = AnswerShows lists text r
+
+-- ---- Right lines, as statements
+
+module _ (k : Case) where
+  passes-claim : (before : List NodeLine) (x : NodeLine) → Passes (mayClaim (k .plan)) x (claimedBy before []) → MayClaim k before x
+  passes-claim before (D m) p = tt
+  passes-claim before (E m g) p = tt
+  passes-claim before (L a i) p =
+      let w = may-claim (k .plan) a i (claimedBy before []) p in
+      (w .0, λ b h. not-claimed i b before [] h (w .1))
+
+  claimed-snoc : (before : List NodeLine) (x : NodeLine) → claimedBy (before ++ x ∷ []) [] ≡ claimBy x (claimedBy before [])
+  claimed-snoc before x = go before []
+    where
+      go : (ls : List NodeLine) (c : List ℕ) → claimedBy (ls ++ x ∷ []) c ≡ claimBy x (claimedBy ls c)
+      go [] c = refl
+      go (y ∷ ls) c = go ls (claimBy y c)
+
+  right-nodes : (before xs : List NodeLine) (st : List Expected) → Reached k (mayClaim (k .plan)) xs st (claimedBy before []) → RightNodes k before xs st
+  right-nodes before [] st r = tt
+  right-nodes before (x ∷ xs) [] r = absurd r
+  right-nodes before (x ∷ xs) (e ∷ st) r = (
+    fits-iff k x (e .0) .0 (r .0),
+    r .1,
+    passes-claim before x (r .2),
+    right-nodes (before ++ x ∷ []) xs (below k (e .1) x ++ st)
+        (subst (λ (c : List ℕ). Reached k (mayClaim (k .plan)) xs (below k (e .1) x ++ st) c) (sym (claimed-snoc before x)) (r .3)),
+  )
+
+  misfits : (x : NodeLine) (t : ℕ) → fits k x t ≡ false → Fits k x t → ⊥
+  misfits x t e f = false≢true (sym e ∙ fits-iff k x t .1 f)
+
+  unclaims : (before : List NodeLine) (a i : ℕ) → mayClaim (k .plan) a i (claimedBy before []) ≡ false → MayClaim k before (L a i) → ⊥
+  unfolding isIn
+  unclaims before a i e w = go (isIn i (claimedBy before [])) refl
+    where
+      go : (b : Bool) → isIn i (claimedBy before []) ≡ b → ⊥
+      go true q = ⊎-elim (λ (h : (b : ℕ) × Mem (L b i) before). w .1 (h .0) (h .1)) (λ h. false≢true h) (claimed-by i before [] q)
+      go false q = false≢true (sym e ∙ may-claim-of (k .plan) a i (claimedBy before []) (w .0) q)
+
+-- The text is not too long; or it is.
+abbrev pub TextSays : List ℕ → Result (Unit {0}) → Type 0
+TextSays text (found u) = length text ≤ textMost
+TextSays text (refused r) = (textMost < length text) × (r ≡ LongText)
+
+pub short-says : (text : List ℕ) → TextSays text (textShort text)
+short-says text = go (ltb textMost (length text)) refl
+  where
+    go : (b : Bool) → ltb textMost (length text) ≡ b → TextSays text (elim b [ true ↦ refused LongText | false ↦ found tt ])
+    go true e = (ltb-true textMost (length text) e, refl)
+    go false e = ltb-false textMost (length text) e
 
 module _ (lists : List Lent) (text : List ℕ) where
   -- ---- Rows 10 to 13
 
-  broken-shows : (k : Case) (t : Tree) → Covers lists text k t
-      → (node : First (KeepsAll k (holdsIn (statesOf k))) (BreaksOne k (holdsIn (statesOf k))) (preorder t)) → (d : Constraint) → node .bad .it ≡ d
-      → FirstBroken lists text (brokenAt (k .planLine + 1 + length (node .before)) (length (node .bad .before)) d)
-  unfolding brokenAt
-  broken-shows k t c node (O i j) e = record { k = k; t = t; covered = c; node = node; at-node = refl; counted = refl; letter = (i, j, e) }
-  broken-shows k t c node (B p u) e = record { k = k; t = t; covered = c; node = node; at-node = refl; counted = refl; letter = (p, u, e) }
-  broken-shows k t c node (F p u) e = record { k = k; t = t; covered = c; node = node; at-node = refl; counted = refl; letter = (p, u, e) }
-  broken-shows k t c node (W u p v) e = record { k = k; t = t; covered = c; node = node; at-node = refl; counted = refl; letter = (u, p, v, e) }
+  as-answer : (d : Constraint) {line n : ℕ} → Shows lists text (brokenNumber d) line n → AnswerShows lists text (brokenAt line n d)
+  unfolding brokenAt reported
+  as-answer (O i j) s = s
+  as-answer (B p u) s = s
+  as-answer (F p u) s = s
+  as-answer (W u p v) s = s
 
-  constraints-say : (k : Case) (t : Tree) → Covers lists text k t → CheckSays lists text (judgeConstraints k t)
-  unfolding judgeConstraints
-  constraints-say k t c =
-      go (firstBroken k (holdsIn (statesOf k)) (k .planLine + 1) (preorder t)) (broken-says k (holdsIn (statesOf k)) (k .planLine + 1) (preorder t))
+  constraints-say : (k : Case) (t : Tree) → Covers lists text k (statesOf k) t → height t ≤ levelCount → CheckSays lists text (fromConstraints k t)
+  unfolding noneBroken
+  constraints-say k t c s =
+      go (firstBroken k (holdsIn (statesOf k)) (k .planLine + 1) (preorder t)) (broken-says k (statesOf k) (k .planLine + 1) (preorder t))
     where
-      go : (o : Option Answer) → BrokenSays k (holdsIn (statesOf k)) (k .planLine + 1) (preorder t) o → CheckSays lists text (noneBroken k t o)
-      go none f = record { covered = c; kept = f }
-      go (some r) (node, e) = subst (λ (x : Answer). FirstBroken lists text x) (sym e) (broken-shows k t c node (node .bad .it) refl)
+      go : (o : Option Answer) → BrokenSays k (statesOf k) (k .planLine + 1) (preorder t) o → CheckSays lists text (unless (λ r. r) o >> found (k, t))
+      go none f = record { covered = c; shallow = s; kept = f }
+      go (some r) (node, e) = subst (λ (x : Answer). AnswerShows lists text x) (sym e) (as-answer (node .bad .it) (broken c node))
 
   -- ---- Row 9
 
-  claims-say : (k : Case) (t : Tree) → Grows lists text k t
-      → CheckSays lists text (allClaimed k t (leastUnclaimed (claimedBy (k .nodes) []) (k .head .cues) 1))
-  unfolding isIn
-  claims-say k t w = go (leastUnclaimed (claimedBy (k .nodes) []) (k .head .cues) 1) (least-says (claimedBy (k .nodes) []) (k .head .cues) 1)
+  claims-say : (k : Case) (t : Tree) → Grows lists text k (statesOf k) t → TreeOf k (mayClaim (k .plan)) t
+      → CheckSays lists text (fromClaims k t (claimedBy (k .nodes) []))
+  unfolding isIn allClaimed reported
+  claims-say k t w tree = go (leastUnclaimed (claimedBy (k .nodes) []) (k .head .cues) 1) (least-says (claimedBy (k .nodes) []) (k .head .cues) 1)
     where
       claimed : (j : ℕ) → isIn j (claimedBy (k .nodes) []) ≡ true → Claimed k j
-      claimed j e = claimants-passed (k .plan) j (k .nodes) [] (w .tree .passing) e
+      claimed j e = claimants-passed (k .plan) j (k .nodes) [] (tree .passing) e
 
-      go : (o : Option ℕ) → LeastSays (claimedBy (k .nodes) []) (k .head .cues) 1 o → CheckSays lists text (allClaimed k t o)
-      go none f = constraints-say k t (record { grown = w; claimed = λ j lo hi. claimed j (f j lo (omega arith)) })
-      go (some i) f =
-          record {
-            k = k;
-            t = t;
-            grown = w;
-            at-plan = refl;
-            a-position = omega arith;
-            unclaimed = claimants-none i (k .nodes) [] (f .2);
-            claimed-before = λ j lo hi. claimed j (f .3 j lo hi);
-          }
+      go : (o : Option ℕ) → LeastSays (claimedBy (k .nodes) []) (k .head .cues) 1 o
+          → CheckSays lists text (unless (Answer.Unclaimed (k .planLine)) o >> fromConstraints k t)
+      go none f = constraints-say k t (record { grown = w; claimed = λ j lo hi. claimed j (f j lo (omega arith)) }) (tree .shallow)
+      go (some i) f = unclaimed w (f .0) (omega arith) (claimants-none i (k .nodes) [] (f .2)) (λ j lo hi. claimed j (f .3 j lo hi))
 
   -- ---- Rows 6 to 8
 
-  -- Lines before a stop that are right, and what waits there.
-  module _ (k : Case) (run : Runs lists text k) (before : List NodeLine)
-      (reached : Reached k (mayClaim (k .plan)) before ((k .head .goal, 1) ∷ []) []) where
-    abbrev node-stops : {rest : List NodeLine} {st : List Expected} {r : Answer} → k .nodes ≡ before ++ rest
-        → waiting k before ((k .head .goal, 1) ∷ []) ≡ st
-        → Stop k (mayClaim (k .plan)) (k .planLine + 1 + length before) (claimedBy before []) rest st r → NodeStops lists text r
-    node-stops {rest} {st} {r} e q s =
-        let here : List Expected → Type 0 = λ z. Stop k (mayClaim (k .plan)) (k .planLine + 1 + length before) (claimedBy before []) rest z r in
-        record { k = k; run = run; stopped = record { before = before; rest = rest; split = e; reached = reached; stop = subst here (sym q) s } }
-
-    stop-shows : {rest : List NodeLine} {st : List Expected} {r : Answer} → k .nodes ≡ before ++ rest
-        → waiting k before ((k .head .goal, 1) ∷ []) ≡ st
-        → Stop k (mayClaim (k .plan)) (k .planLine + 1 + length before) (claimedBy before []) rest st r → FirstBroken lists text r
-    stop-shows e q lacking = node-stops e q lacking
-    stop-shows e q over = node-stops e q over
-    stop-shows e q (misfit f) = node-stops e q (misfit f)
-    stop-shows e q (deep f) = node-stops e q (deep f)
-    stop-shows e q (unclaimable {a = a} {i = i} {xs = xs} f h n) =
-        record { node = node-stops e q (unclaimable f h n); action = a; after = xs; a-leaf = refl; fails = may-not-claim (k .plan) a i before n }
-
-  tree-say : (k : Case) → Runs lists text k → CheckSays lists text (judgeTree k)
-  unfolding judgeTree
-  tree-say k r = go (walkTree k (mayClaim (k .plan))) (tree-says k (mayClaim (k .plan)))
+  stop-shows : (k : Case) → Runs lists text k (statesOf k) → (before rest : List NodeLine) (st : List Expected) → k .nodes ≡ before ++ rest
+      → Reached k (mayClaim (k .plan)) before (root k) [] → waiting k before (root k) ≡ st → {r : Answer}
+      → Stop k (mayClaim (k .plan)) (k .planLine + 1 + length before) (claimedBy before []) rest st r → AnswerShows lists text r
+  unfolding reported
+  stop-shows k run before rest st e reached q s = go s walks
     where
-      go : (w : Walk) → TreeSays k (mayClaim (k .plan)) w → CheckSays lists text (treeWalked k w)
-      go (Walk.walked t line left c) w =
-          subst (λ (d : List ℕ). CheckSays lists text (allClaimed k t (leastUnclaimed d (k .head .cues) 1))) (sym (w .3))
-          (claims-say k t (record { run = r; tree = w .1 }))
-      go (Walk.refused a) w = stop-shows k r (w .before) (w .reached) (w .split) refl (w .stop)
+      walks : Walks lists text k before rest st
+      walks = record { states = statesOf k; runs = run; split = e; right = right-nodes k [] before (root k) reached; expected = q }
+
+      go : {rest : List NodeLine} {st : List Expected} {r : Answer}
+          → Stop k (mayClaim (k .plan)) (k .planLine + 1 + length before) (claimedBy before []) rest st r → Walks lists text k before rest st
+          → AnswerShows lists text r
+      go Wa.lacking w = lacking w
+      go Wa.over w = over w
+      go (Wa.misfit {x = x} {t = t} f) w = misfit w (misfits k x t f)
+      go (Wa.deep {x = x} {t = t} f) w = deep w (fits-iff k x t .0 f)
+      go (Wa.unclaimable {a = a} {i = i} {t = t} f h n) w = claim w (fits-iff k (L a i) t .0 f) h (unclaims k before a i n)
+
+  tree-say : (k : Case) → Runs lists text k (statesOf k) → CheckSays lists text (fromTree k)
+  unfolding fromTree levelCount
+  tree-say k run = go (walkTree k (mayClaim (k .plan))) (tree-says k (mayClaim (k .plan)))
+    where
+      go : (w : Result (Tree × List ℕ)) → TreeSays k (mayClaim (k .plan)) w → CheckSays lists text (w >>= λ (t, claimed). fromClaims k t claimed)
+      go (found (t, c)) w =
+          let tree = w .0 in
+          let reached = tree-reached k (mayClaim (k .plan)) t (k .head .goal) 1 [] [] (tree .fitting) (let h = tree .shallow in omega arith)
+          (subst (λ (ls : List NodeLine). ClaimsPass (mayClaim (k .plan)) ls []) (sym (tree .preordered)) (tree .passing)) in
+          let right = subst (λ (ls : List NodeLine). RightNodes k [] ls (root k)) (tree .preordered) (right-nodes k [] (linesOf t) (root k) reached) in
+          subst (λ (d : List ℕ). CheckSays lists text (fromClaims k t d)) (sym (w .1))
+          (claims-say k t (record { runs = run; right = right; preordered = tree .preordered; fitting = tree .fitting }) tree)
+      go (refused a) w = stop-shows k run (w .before) (w .rest) (waiting k (w .before) (root k)) (w .split) (w .reached) refl (w .stop)
 
   -- ---- Row 5
 
-  run-says : (k : Case) → Reads lists text k → CheckSays lists text (judgeRun judgeTree k)
-  unfolding judgeRun PlanRuns statesOf
-  run-says k r = go (firstStop (k .actions) (k .plan) (k .initial) 1) (stop-says (k .actions) (k .plan) (k .initial) 1)
+  run-says : (k : Case) → Admits lists text → readCase text ≡ found k → CheckSays lists text (fromRun fromTree k)
+  unfolding fromRun planRuns reported statesOf cueAction
+  run-says k a e = go (firstStop (k .actions) (k .plan) (k .initial) 1) (stop-says (k .actions) (k .plan) (k .initial) 1)
     where
-      go : (o : Option ℕ) → StopSays (k .actions) (k .plan) (k .initial) 1 o → CheckSays lists text (planRuns judgeTree k o)
-      go none f = tree-say k (record { reads = r; runs = f })
-      go (some i) w = record { k = k; reads = r; at-plan = refl; earlier = w .0; counted = w .1; a-cue = w .2; stops = w .3; runs-before = w .4 }
+      reads : Reads lists text k (statesOf k)
+      reads = record { admits = a; reading = e; are = are-states k }
+
+      go : (o : Option ℕ) → StopSays (k .actions) (k .plan) (k .initial) 1 o
+          → CheckSays lists text (unless (Answer.Inapplicable (k .planLine)) o >> fromTree k)
+      go none f = tree-say k (record { reads = reads; runs = f })
+      go (some i) (j, n, h, e, f) =
+          let m : j + 1 ≡ i = omega arith in
+          subst (λ (x : ℕ). Shows lists text 5 (k .planLine) x) m (cue {i = j} reads h f (λ y. false≢true (sym e ∙ y)))
 
   -- ---- Rows 1 to 4
 
-  unread-shows : {r : Answer} → OfReading r → Unread lists text r → FirstBroken lists text r
-  unread-shows unreadable w = w
-  unread-shows outside w = w
-
-  text-says : Each LongEnough lists → CheckSays lists text (judgeText judgeTree text)
-  unfolding judgeText
-  text-says long = go (ltb textMost (length text)) refl
+  text-says : Each LongEnough lists → CheckSays lists text (fromText fromTree text)
+  unfolding fromText reported
+  text-says l = go (textShort text) (short-says text)
     where
-      reading : Admits lists text → (r : Read Case) → readCase text ≡ r → ReadSays Sound r → CheckSays lists text (textRead judgeTree r)
-      reading l (read k line place) e s = run-says k (record { admits = l; line = line; place = place; reading = e })
-      reading l (refused r) e s = unread-shows s (record { admits = l; reading = e })
+      unread-shows : Admits lists text → (r : Answer) → FaultSays text r → AnswerShows lists text r
+      unread-shows a (Answer.Unreadable line field) f = unread a f
+      unread-shows a (Answer.OutOfRange line field) f = outside a f
+      unread-shows a (Answer.Accepted cues nodes) f = absurd f
+      unread-shows a (Answer.ShortList i) f = absurd f
+      unread-shows a Answer.LongText f = absurd f
+      unread-shows a (Answer.Inapplicable line i) f = absurd f
+      unread-shows a (Answer.WrongNode line) f = absurd f
+      unread-shows a (Answer.TooDeep line) f = absurd f
+      unread-shows a (Answer.WrongClaim line i) f = absurd f
+      unread-shows a (Answer.Unclaimed line i) f = absurd f
+      unread-shows a (Answer.OrderBroken line i) f = absurd f
+      unread-shows a (Answer.BeforeBroken line i) f = absurd f
+      unread-shows a (Answer.AfterBroken line i) f = absurd f
+      unread-shows a (Answer.BetweenBroken line i) f = absurd f
 
-      go : (b : Bool) → ltb textMost (length text) ≡ b
-          → CheckSays lists text (elim b [ true ↦ wrong LongText | false ↦ textRead judgeTree (readCase text) ])
-      go true e = (long, ltb-true textMost (length text) e)
-      go false e = reading (record { lists-long = long; text-short = ltb-false textMost (length text) e }) (readCase text) refl (case-says text)
+      reading : Admits lists text → (r : Result Case) → readCase text ≡ r → CaseSays text r → CheckSays lists text (r >>= λ k. fromRun fromTree k)
+      reading a (found k) e s = run-says k a e
+      reading a (refused r) e s = unread-shows a r s
+
+      go : (o : Result (Unit {0})) → TextSays text o → CheckSays lists text (o >> (readCase text >>= λ k. fromRun fromTree k))
+      go (found u) h = reading (record { lists-long = l; text-short = h }) (readCase text) refl (reading-shows text)
+      go (refused r) (h, e) = subst (λ (x : Answer). AnswerShows lists text x) (sym e) (long l h)
 
 -- Of the lent lists: all are long enough; or the first that isn't.
-abbrev ShortSays : List Lent → Option ℕ → Type 0
-ShortSays ls none = Each LongEnough ls
-ShortSays ls (some i) = (list : First LongEnough Short ls) × (i ≡ list .it .item)
+abbrev pub ListsSay : List Lent → Result (Unit {0}) → Type 0
+ListsSay ls (found u) = Each LongEnough ls
+ListsSay ls (refused r) = (l : First LongEnough Short ls) × (r ≡ ShortList (l .it .item))
 
-short-says : (ls : List Lent) → ShortSays ls (firstShort ls)
-short-says [] = each-nil LongEnough
-short-says (l ∷ ls) = go (ltb (l .size) (l .need)) refl (firstShort ls) (short-says ls)
+pub lists-say : (ls : List Lent) → ListsSay ls (listsLong ls)
+lists-say [] = each-nil LongEnough
+lists-say (l ∷ ls) = go (ltb (l .size) (l .need)) refl (listsLong ls) (lists-say ls)
   where
-    later : LongEnough l → (o : Option ℕ) → ShortSays ls o → ShortSays (l ∷ ls) o
-    later h none f = each-cons LongEnough l ls h f
-    later h (some i) w = (first-later l ls h (w .0), w .1)
+    later : LongEnough l → (o : Result (Unit {0})) → ListsSay ls o → ListsSay (l ∷ ls) o
+    later h (found u) f = each-cons LongEnough l ls h f
+    later h (refused r) w = (first-later l ls h (w .0), w .1)
 
-    go : (b : Bool) → ltb (l .size) (l .need) ≡ b → (o : Option ℕ) → ShortSays ls o
-        → ShortSays (l ∷ ls) (elim b [ true ↦ some (l .item) | false ↦ o ])
+    go : (b : Bool) → ltb (l .size) (l .need) ≡ b → (o : Result (Unit {0})) → ListsSay ls o
+        → ListsSay (l ∷ ls) (elim b [ true ↦ refused (ShortList (l .item)) | false ↦ o ])
     go true e o f = (first-here l ls (ltb-true (l .size) (l .need) e), refl)
     go false e o f = later (ltb-false (l .size) (l .need) e) o f
 
 pub check-says : (lists : List Lent) (text : List ℕ) → CheckSays lists text (check lists text)
-unfolding check
-check-says lists text = go (firstShort lists) (short-says lists)
+unfolding check fromTree fromRun fromText reported
+check-says lists text = go (listsLong lists) (lists-say lists)
   where
-    go : (o : Option ℕ) → ShortSays lists o → CheckSays lists text (listsLent judgeTree text o)
-    go none f = text-says lists text f
-    go (some i) w = w
-
--- A refusal names the first rule broken, and every rule before it is kept.
-pub refusal-shows : (lists : List Lent) (text : List ℕ) (r : Answer) → check lists text ≡ wrong r → FirstBroken lists text r
-refusal-shows lists text r e = subst (λ (f : Found Tree). CheckSays lists text f) e (check-says lists text)
+    go : (o : Result (Unit {0})) → ListsSay lists o → CheckSays lists text (o >> fromText fromTree text)
+    go (found u) f = text-says lists text f
+    go (refused r) (l, e) = subst (λ (x : Answer). AnswerShows lists text x) (sym e) (short l)

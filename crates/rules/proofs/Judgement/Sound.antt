@@ -1,20 +1,21 @@
 -- What reading guarantees of a case: each number is in its range and each list has its length, since each line was read by a row of the
 -- table and each group of lines by its count.
 use mathlib.Core.Logic.{_≢_}
-use mathlib.Core.Path.{_≡_, refl, sym, _∙_, subst}
+use mathlib.Core.Path.{_≡_, refl, sym, subst}
 use mathlib.Core.Bool.{Bool, true, false, _&&_, not}
-use mathlib.Core.List.{List, [], map}
+use mathlib.Core.List.{List, []}
 use Prim.Native.Nat.{ℕ, suc, _+_, _^_, _≤_, _<_}
 use native.Mathlib.Omega.{arith}
 use lib.Dec.{eqb, leb, ltb}
-use lib.ListN.{length, length-map}
+use lib.ListN.{length}
 use borrow.Author.Tests.{leb-true, ltb-true, eqb-false, not-true}
 use Rattle.rules.specs.declared.Header.{Header}
 use Rattle.rules.specs.declared.Answer.the-variants.{Unreadable}
 use Rattle.rules.specs.Table.{Value, header, initial, action, method, constraint, plan, node, table, roleNumber, isCompound, inRange}
-use Rattle.rules.specs.Case.{Constraint, O, B, F, W, Method, NodeLine, D, E, L, Case, scalarAt, membersAt, setAt, headerOf, actionOf, Valued, constraintOf, nodeOf, methodOf, Read, read, refused, oneLine, many, oneMethod, noSurplus, readBody, noHeader, readCase}
-use Rattle.rules.proofs.Judgement.Each.{Each, each-nil, each-map, each-weaken, both-true}
-use Rattle.rules.proofs.Judgement.Reading.{ForLine, OfReading, ReadSays, read-then, one-line-says, Counted, many-say, lines-say}
+use Rattle.rules.specs.Result.{Result, found, refused, _>>_}
+use Rattle.rules.specs.Case.{Constraint, O, B, F, W, Method, NodeLine, D, E, L, Case, scalarAt, membersAt, headerOf, initialOf, actionOf, constraintOf, asConstraint, planOf, nodeOf, asNode, oneLine, many, oneMethod, noSurplus, readBody, noHeader, readFrom, readCase}
+use Rattle.rules.proofs.Judgement.Each.{Each, each-nil, each-weaken, both-true}
+use Rattle.rules.proofs.Judgement.Reading.{ForLine, OfReading, Says, ReadSays, says-then, read-then, one-line-says, Counted, many-say, lines-say}
 
 -- ---- What is guaranteed
 
@@ -75,19 +76,21 @@ each-below n vs = each-weaken (λ v. ltb v n ≡ true) (λ v. v < n) vs (λ v. l
 
 -- ---- Each line, by its rows of the table
 
-pub header-good : ForLine noHeader 0 header (λ l vs. GoodHeader (headerOf vs))
-unfolding ForLine table roleNumber inRange isCompound headerOf scalarAt
+pub header-good : ForLine noHeader 0 header (λ l vs. GoodHeader (headerOf (l, vs)))
+unfolding ForLine table roleNumber inRange isCompound headerOf
 header-good = (
   λ p hp a ha c hc m hm g hg q hq n hn. omega (arith, leb-true, first-le, second-le (leb a g) (suc g) (a + c) hg, second-le (leb 1 n) n 3000 hn),
   tt,
 )
 
--- What the M line says, before its constraints are read.
-abbrev MethodLine : Header → Valued → Type 0
-MethodLine h x = GoodMethod h (methodOf (x .1) []) × (scalarAt (x .1) 1 ≡ length (membersAt (x .1) 1)) × (scalarAt (x .1) 2 ≤ 64)
+-- What the values of an M line say, before its constraints are read.
+abbrev MethodLine : Header → List Value → Type 0
+MethodLine h vs =
+    GoodMethod h (record { task = scalarAt vs 0; subtasks = membersAt vs 1; constraints = [] }) × (scalarAt vs 1 ≡ length (membersAt vs 1))
+    × (scalarAt vs 2 ≤ 64)
 
-method-line-good : (h : Header) → ForLine h 0 method (λ l vs. MethodLine h (l, vs))
-unfolding ForLine table roleNumber inRange isCompound methodOf scalarAt membersAt
+method-line-good : (h : Header) → ForLine h 0 method (λ l vs. MethodLine h vs)
+unfolding ForLine table roleNumber inRange isCompound scalarAt membersAt
 method-line-good h = (
   λ t ht vs n hs c hc. (
     record {
@@ -104,20 +107,20 @@ method-line-good h = (
   tt,
 )
 
-constraint-good : (h : Header) (count : ℕ) → ForLine h count constraint (λ l vs. GoodConstraint h count (constraintOf (l, vs)))
-unfolding ForLine table roleNumber inRange constraintOf scalarAt
+constraint-good : (h : Header) (count : ℕ) → ForLine h count constraint (λ l vs. GoodConstraint h count (asConstraint (l, vs)))
+unfolding ForLine table roleNumber inRange asConstraint constraintOf scalarAt
 constraint-good h count = (λ i hi j hj. omega (arith, leb-true, first-le, second-ne (ltb j count) j i hj), omega (arith, leb-true))
 
 -- What the P line says.
-abbrev PlanLine : Header → List Value → Type 0
-PlanLine h vs = Counted (λ a. a < h .actions) (h .cues) (membersAt vs 0)
+abbrev PlanLine : Header → List ℕ → Type 0
+PlanLine h cues = Counted (λ a. a < h .actions) (h .cues) cues
 
-plan-good : (h : Header) → ForLine h 0 plan (λ l vs. PlanLine h vs)
-unfolding ForLine table roleNumber inRange membersAt
+plan-good : (h : Header) → ForLine h 0 plan (λ l vs. PlanLine h (planOf (l, vs)))
+unfolding ForLine table roleNumber inRange planOf membersAt
 plan-good h = (λ vs n hs. (n, each-below (h .actions) vs hs), tt)
 
-node-good : (h : Header) → ForLine h 0 node (λ l vs. GoodNode h (nodeOf (l, vs)))
-unfolding ForLine table roleNumber inRange nodeOf scalarAt
+node-good : (h : Header) → ForLine h 0 node (λ l vs. GoodNode h (asNode (l, vs)))
+unfolding ForLine table roleNumber inRange asNode nodeOf scalarAt
 node-good h = (
   omega (arith, leb-true),
   (omega (arith, leb-true), (λ a ha i hi. omega (arith, leb-true, first-le, second-le (leb 1 i) i (h .cues) hi), tt)),
@@ -133,79 +136,78 @@ action-good h = (λ a na ha b nb hb c nc hc d nd hd. tt, tt)
 
 -- ---- Line by line
 
-with-constraints : (h : Header) (x : Valued) (cs : List Valued) → MethodLine h x → length cs ≡ scalarAt (x .1) 2
-    → Each (λ c. GoodConstraint h (scalarAt (x .1) 1) (constraintOf c)) cs → GoodMethod h (methodOf (x .1) cs)
-unfolding methodOf
-with-constraints h x cs w n f =
+with-constraints : (h : Header) (vs : List Value) (cs : List Constraint) → MethodLine h vs
+    → Counted (GoodConstraint h (scalarAt vs 1)) (scalarAt vs 2) cs
+    → GoodMethod h (record { task = scalarAt vs 0; subtasks = membersAt vs 1; constraints = cs })
+with-constraints h vs cs w f =
     let m = w .0 in
     record {
       task-least = m .task-least;
       task-below = m .task-below;
       few-subtasks = m .few-subtasks;
       subtasks-below = m .subtasks-below;
-      few-constraints = omega (arith, length-map cs constraintOf, w .2);
-      constraints-good = each-map (GoodConstraint h (length (membersAt (x .1) 1))) constraintOf cs
-          (subst (λ (s : ℕ). Each (λ c. GoodConstraint h s (constraintOf c)) cs) (w .1) f);
+      few-constraints = omega (arith, f .0, w .2);
+      constraints-good = subst (λ (s : ℕ). Each (GoodConstraint h s) cs) (w .1) (f .1);
     }
 
 method-good : (text : List ℕ) (h : Header) (n place : ℕ) → ReadSays (GoodMethod h) (oneMethod text h n place)
 unfolding oneMethod
 method-good text h n place =
-    read-then (MethodLine h) (GoodMethod h) (oneLine text h method 0 n place) _
-    (one-line-says text h method 0 n place (λ l vs. MethodLine h (l, vs)) (method-line-good h))
-    (λ x n′ place′ w. let s = scalarAt (x .1) 1 in let count = scalarAt (x .1) 2 in
-    read-then (Counted (λ c. GoodConstraint h s (constraintOf c)) count) (GoodMethod h) (many (oneLine text h constraint s) count n′ place′) _
-    (lines-say text h constraint s count n′ place′ (λ l vs. GoodConstraint h s (constraintOf (l, vs))) (constraint-good h s))
-    (λ cs n″ place″ f. with-constraints h x cs w (f .0) (f .1)))
-
-surplus-says : (text : List ℕ) (k : Case) (n place : ℕ) → Sound k → ReadSays Sound (noSurplus text k n place)
-unfolding noSurplus
-surplus-says text k n place s = go (ltb place (length text))
-  where
-    go : (b : Bool) → ReadSays Sound (elim b [ true ↦ refused (Unreadable n 1) | false ↦ read k n place ])
-    go true = OfReading.unreadable
-    go false = s
+    read-then (MethodLine h) (GoodMethod h) (oneLine text h method 0 (λ x. x .1) n place) _
+    (one-line-says text h method 0 (λ x. x .1) n place (MethodLine h) (method-line-good h))
+    (λ x w. let s = scalarAt (x .0) 1 in let count = scalarAt (x .0) 2 in
+    read-then (Counted (GoodConstraint h s) count) (GoodMethod h) (many (oneLine text h constraint s asConstraint) count (x .1) (x .2)) _
+    (lines-say text h constraint s asConstraint count (x .1) (x .2) (GoodConstraint h s) (constraint-good h s))
+    (λ y f. with-constraints h (x .0) (y .0) w f))
 
 body-sound : (text : List ℕ) (h : Header) (n place : ℕ) → GoodHeader h → ReadSays Sound (readBody text h n place)
 unfolding readBody
 body-sound text h n place good =
-    read-then (λ x. Unit {0}) Sound (oneLine text h initial 0 n place) _ (one-line-says text h initial 0 n place (λ l vs. Unit {0}) (initial-good h))
-    (λ i n₁ p₁ a. read-then (Counted (λ x. Unit {0}) (h .actions)) Sound (many (oneLine text h action 0) (h .actions) n₁ p₁) _
-    (lines-say text h action 0 (h .actions) n₁ p₁ (λ l vs. Unit {0}) (action-good h))
-    (λ acts n₂ p₂ b. read-then (Counted (GoodMethod h) (h .methods)) Sound (many (oneMethod text h) (h .methods) n₂ p₂) _
-    (many-say (GoodMethod h) (oneMethod text h) (method-good text h) (h .methods) n₂ p₂)
-    (λ ms n₃ p₃ c. read-then (λ x. PlanLine h (x .1)) Sound (oneLine text h plan 0 n₃ p₃) _
-    (one-line-says text h plan 0 n₃ p₃ (λ l vs. PlanLine h vs) (plan-good h))
-    (λ cs n₄ p₄ d. read-then (Counted (λ x. GoodNode h (nodeOf x)) (h .nodes)) Sound (many (oneLine text h node 0) (h .nodes) n₄ p₄) _
-    (lines-say text h node 0 (h .nodes) n₄ p₄ (λ l vs. GoodNode h (nodeOf (l, vs))) (node-good h))
-    (λ ns n₅ p₅ e. surplus-says text
-    (record {
-      head = h;
-      initial = setAt (i .1) 0;
-      actions = map (λ x. actionOf (x .1)) acts;
-      methods = ms;
-      plan = membersAt (cs .1) 0;
-      nodes = map nodeOf ns;
-      planLine = n₃;
-    })
-    n₅ p₅
-    (record {
+    read-then (λ i. Unit {0}) Sound (oneLine text h initial 0 initialOf n place) _
+    (one-line-says text h initial 0 initialOf n place (λ i. Unit {0}) (initial-good h))
+    (λ i a. read-then (Counted (λ x. Unit {0}) (h .actions)) Sound (many (oneLine text h action 0 actionOf) (h .actions) (i .1) (i .2)) _
+    (lines-say text h action 0 actionOf (h .actions) (i .1) (i .2) (λ x. Unit {0}) (action-good h))
+    (λ acts b. read-then (Counted (GoodMethod h) (h .methods)) Sound (many (oneMethod text h) (h .methods) (acts .1) (acts .2)) _
+    (many-say (GoodMethod h) (oneMethod text h) (method-good text h) (h .methods) (acts .1) (acts .2))
+    (λ ms c. read-then (PlanLine h) Sound (oneLine text h plan 0 planOf (ms .1) (ms .2)) _
+    (one-line-says text h plan 0 planOf (ms .1) (ms .2) (PlanLine h) (plan-good h))
+    (λ cs d. read-then (Counted (GoodNode h) (h .nodes)) Sound (many (oneLine text h node 0 asNode) (h .nodes) (cs .1) (cs .2)) _
+    (lines-say text h node 0 asNode (h .nodes) (cs .1) (cs .2) (GoodNode h) (node-good h))
+    (λ ns e. record {
       head-good = good;
-      actions-length = length-map acts (λ x. actionOf (x .1)) ∙ b .0;
+      actions-length = b .0;
       methods-length = c .0;
       methods-good = c .1;
       plan-length = d .0;
       plan-below = d .1;
-      nodes-length = length-map ns nodeOf ∙ e .0;
-      nodes-good = each-map (GoodNode h) nodeOf ns (e .1);
-    }))))))
+      nodes-length = e .0;
+      nodes-good = e .1;
+    })))))
 
-pub case-says : (text : List ℕ) → ReadSays Sound (readCase text)
+from-sound : (text : List ℕ) (n place : ℕ) → ReadSays Sound (readFrom text n place)
+unfolding readFrom
+from-sound text n place =
+    read-then GoodHeader Sound (oneLine text noHeader header 0 headerOf n place) _
+    (one-line-says text noHeader header 0 headerOf n place GoodHeader header-good)
+    (λ x g. body-sound text (x .0) (x .1) (x .2) g)
+
+surplus-says : (text : List ℕ) (n place : ℕ) → Says (λ x. Unit {0}) (noSurplus text n place)
+unfolding noSurplus
+surplus-says text n place = go (ltb place (length text))
+  where
+    go : (b : Bool) → Says {A = Unit {0}} (λ x. Unit {0}) (elim b as (λ b. Result (Unit {0})) [ true ↦ refused (Unreadable n 1) | false ↦ found tt ])
+    go true = OfReading.unreadable
+    go false = tt
+
+pub case-says : (text : List ℕ) → Says Sound (readCase text)
 unfolding readCase
 case-says text =
-    read-then (λ x. GoodHeader (headerOf (x .1))) Sound (oneLine text noHeader header 0 1 0) (λ x n place. readBody text (headerOf (x .1)) n place)
-    (one-line-says text noHeader header 0 1 0 (λ l vs. GoodHeader (headerOf vs)) header-good)
-    (λ x n place g. body-sound text (headerOf (x .1)) n place g)
+    says-then (λ x. Sound (x .0)) Sound (readFrom text 1 0) _ (from-sound text 1 0)
+    (λ x s. over-then (noSurplus text (x .1) (x .2)) (surplus-says text (x .1) (x .2)) s)
+  where
+    over-then : {k : Case} (r : Result (Unit {0})) → Says (λ x. Unit {0}) r → Sound k → Says Sound (r >> found k)
+    over-then (found u) w s = s
+    over-then (refused r) w s = w
 
-pub sound : (text : List ℕ) (k : Case) (n place : ℕ) → readCase text ≡ read k n place → Sound k
-sound text k n place e = subst (λ (r : Read Case). ReadSays Sound r) e (case-says text)
+pub sound : (text : List ℕ) (k : Case) → readCase text ≡ found k → Sound k
+sound text k e = subst (λ (r : Result Case). Says Sound r) e (case-says text)

@@ -11,27 +11,9 @@ use Rattle.rules.specs.declared.Answer.the-variants.{WrongNode, TooDeep,
 use Rattle.rules.specs.Case.{methodAt, NodeLine, D, E, L, Case}
 use Rattle.rules.specs.Tree.{Tree, leaf, empty, task, Trees, noTree, more, preorder, rootLine, fits, ClaimTest}
 use Rattle.rules.specs.Rules.{FitsTask, FitsTasks}
+use Rattle.rules.specs.Refusals.{Expected, expectedAt, below, waiting}
+use Rattle.rules.proofs.Statements.{fits-iff}
 use Rattle.rules.proofs.Judgement.Preorder.{linesOf, linesOfAll, lines-more, height, heights, claim, Passes, claimedBy, ClaimsPass, claimed-append, claims-left, claims-right}
-
--- A task that is expected, and its level.
-abbrev pub Expected : Type 0
-Expected = ℕ × ℕ
-
-abbrev pub expectedAt : ℕ → List ℕ → List Expected
-expectedAt level [] = []
-expectedAt level (t ∷ ts) = (t, level) ∷ expectedAt level ts
-
--- The subtasks that a line at a level brings.
-abbrev pub below : Case → ℕ → NodeLine → List Expected
-below k level (D m) = expectedAt (level + 1) (methodAt (k .methods) m .subtasks)
-below k level (E m g) = []
-below k level (L a i) = []
-
--- What is expected after so many lines.
-abbrev pub waiting : Case → List NodeLine → List Expected → List Expected
-waiting k [] st = st
-waiting k (x ∷ xs) [] = []
-waiting k (x ∷ xs) (e ∷ st) = waiting k xs (below k (e .1) x ++ st)
 
 -- Each line fits the task that is expected there, stands at most at level 64, and may claim its position.
 abbrev pub Reached : Case → ClaimTest → List NodeLine → List Expected → List ℕ → Type 0
@@ -110,10 +92,10 @@ module _ (k : Case) (ok : ClaimTest) where
 
     pub tree-reached : (x : Tree) (t level : ℕ) (st : List Expected) (c : List ℕ) → FitsTask k x t → level + height x ≤ 65
         → ClaimsPass ok (linesOf x) c → Reached k ok (linesOf x) ((t, level) ∷ st) c
-    tree-reached (leaf a i) t level st c f h p = (f, omega arith, p .0, tt)
-    tree-reached (empty m g) t level st c f h p = (f, omega arith, tt, tt)
+    tree-reached (leaf a i) t level st c f h p = (fits-iff k (L a i) t .1 f, omega arith, p .0, tt)
+    tree-reached (empty m g) t level st c f h p = (fits-iff k (E m g) t .1 f, omega arith, tt, tt)
     tree-reached (task m xs) t level st c f h p =
-        (f .0, omega arith, tt, trees-reached xs (methodAt (k .methods) m .subtasks) (level + 1) st c (f .1) (omega arith) (p .1))
+        (fits-iff k (D m) t .1 (f .0), omega arith, tt, trees-reached xs (methodAt (k .methods) m .subtasks) (level + 1) st c (f .1) (omega arith) (p .1))
 
     trees-reached : (xs : Trees) (ts : List ℕ) (level : ℕ) (st : List Expected) (c : List ℕ) → FitsTasks k xs ts → level + heights xs ≤ 65
         → ClaimsPass ok (linesOfAll xs) c → Reached k ok (linesOfAll xs) (expectedAt level ts ++ st) c

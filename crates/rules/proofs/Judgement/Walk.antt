@@ -9,10 +9,13 @@ use lib.ListN.{length, length-append}
 use Rattle.rules.specs.declared.Answer.{Answer}
 use Rattle.rules.specs.declared.Answer.the-variants.{WrongNode, TooDeep, WrongClaim}
 use Rattle.rules.specs.Case.{methodAt, NodeLine, D, E, L, Case}
-use Rattle.rules.specs.Tree.{Tree, leaf, more, preorder, rootLine, fits, Walk, Walks, Walker, asTask, withTree, followTree, walkSubtasks, ClaimTest, walkFitting, walkNode, noneOver, levelCount, walkTree}
+use Rattle.rules.specs.Tree.{Tree, leaf, more, preorder, rootLine, Trees, fits, task, Walk, Walker, walkSubtasks, ClaimTest, walkFitting, walkNode, noneOver, levelCount, walkTree}
+use Rattle.rules.specs.Result.{Result, found, refused, _>>=_, _>>_}
 use Rattle.rules.specs.Rules.{FitsTask, FitsTasks}
+use Rattle.rules.specs.Refusals.{Expected, expectedAt, below, root}
+use Rattle.rules.proofs.Statements.{fits-iff}
 use Rattle.rules.proofs.Judgement.Preorder.{linesOf, linesOfAll, lines-more, height, heights, claim, Passes, claimedBy, ClaimsPass, claimed-append, claims-join, TreeOf}
-use Rattle.rules.proofs.Judgement.Waiting.{Expected, expectedAt, below, Stop, lacking, over, misfit, deep, unclaimable, Point, point, Stopped, tree-waiting, tree-reached, stopped-after, stopped-here}
+use Rattle.rules.proofs.Judgement.Waiting.{Stop, lacking, over, misfit, deep, unclaimable, Point, point, Stopped, tree-waiting, tree-reached, stopped-after, stopped-here}
 
 -- From one point to another something has been walked: it fits, is no higher than the levels left, and has taken its lines, the first of
 -- those that were there, with their claims.
@@ -45,14 +48,14 @@ module _ (k : Case) (ok : ClaimTest) where
   StopsAt levels p expected r = (level : ℕ) (st : List Expected) → level + levels ≡ 65 → Stopped k ok p (expected level ++ st) r
 
   -- A tree that fits the task has been walked; or the walk stops.
-  abbrev WalkSays : ℕ → ℕ → Point → Walk → Type 0
-  WalkSays levels t p (Walk.walked x n left c) = Walked (FitsTask k x t) (height x) (linesOf x) ok levels p (point n left c)
-  WalkSays levels t p (Walk.refused r) = StopsAt levels p (λ level. (t, level) ∷ []) r
+  abbrev WalkSays : ℕ → ℕ → Point → Walk Tree → Type 0
+  WalkSays levels t p (found (x, n, left, c)) = Walked (FitsTask k x t) (height x) (linesOf x) ok levels p (point n left c)
+  WalkSays levels t p (refused r) = StopsAt levels p (λ level. (t, level) ∷ []) r
 
   -- Trees that fit the tasks; or the walk stops.
-  abbrev WalksSay : ℕ → List ℕ → Point → Walks → Type 0
-  WalksSay levels ts p (Walks.walked xs n left c) = Walked (FitsTasks k xs ts) (heights xs) (linesOfAll xs) ok levels p (point n left c)
-  WalksSay levels ts p (Walks.refused r) = StopsAt levels p (λ level. expectedAt level ts) r
+  abbrev WalksSay : ℕ → List ℕ → Point → Walk Trees → Type 0
+  WalksSay levels ts p (found (xs, n, left, c)) = Walked (FitsTasks k xs ts) (heights xs) (linesOfAll xs) ok levels p (point n left c)
+  WalksSay levels ts p (refused r) = StopsAt levels p (λ level. expectedAt level ts) r
 
   -- A walker that does so for each task, wherever it stands.
   abbrev WalkerSays : ℕ → Walker → Type 0
@@ -70,16 +73,21 @@ module _ (k : Case) (ok : ClaimTest) where
       (sym (tree-waiting k x t level st (w .fitting)))
       (subst (λ (z : Point). Stopped k ok z st r) (λ j. point (w .past j) (q .left) (w .claims j)) s)))
 
-  with-tree : (x : Tree) (ws : Walks) (levels t : ℕ) (ts : List ℕ) (p q : Point)
+  -- Trees after a first one.
+  abbrev withTree : Tree → Walk Trees → Walk Trees
+  withTree x ws = ws >>= λ (xs, line, nodes, claimed). found (more x xs, line, nodes, claimed)
+
+  with-tree : (x : Tree) (ws : Walk Trees) (levels t : ℕ) (ts : List ℕ) (p q : Point)
       → Walked (FitsTask k x t) (height x) (linesOf x) ok levels p q → WalksSay levels ts q ws → WalksSay levels (t ∷ ts) p (withTree x ws)
   unfolding FitsTasks heights
-  with-tree x (Walks.walked xs n left c) levels t ts p q w s = walked-join (linesOfAll (more x xs)) (lines-more x xs) (λ f g. (f, g)) w s
-  with-tree x (Walks.refused r) levels t ts p q w s = λ level st e. stopped-tree x w e (s level st e)
+  with-tree x (found (xs, n, left, c)) levels t ts p q w s = walked-join (linesOfAll (more x xs)) (lines-more x xs) (λ f g. (f, g)) w s
+  with-tree x (refused r) levels t ts p q w s = λ level st e. stopped-tree x w e (s level st e)
 
-  follow-tree : (w : Walk) (rest : ℕ → List NodeLine → List ℕ → Walks) (levels t : ℕ) (ts : List ℕ) (p : Point) → WalkSays levels t p w
-      → ((q : Point) → WalksSay levels ts q (rest (q .line) (q .left) (q .claimed))) → WalksSay levels (t ∷ ts) p (followTree w rest)
-  follow-tree (Walk.walked x n left c) rest levels t ts p w f = with-tree x (rest n left c) levels t ts p (point n left c) w (f (point n left c))
-  follow-tree (Walk.refused r) rest levels t ts p w f = λ level st e. w level (expectedAt level ts ++ st) e
+  follow-tree : (w : Walk Tree) (rest : ℕ → List NodeLine → List ℕ → Walk Trees) (levels t : ℕ) (ts : List ℕ) (p : Point) → WalkSays levels t p w
+      → ((q : Point) → WalksSay levels ts q (rest (q .line) (q .left) (q .claimed)))
+      → WalksSay levels (t ∷ ts) p (w >>= λ (x, line, nodes, claimed). withTree x (rest line nodes claimed))
+  follow-tree (found (x, n, left, c)) rest levels t ts p w f = with-tree x (rest n left c) levels t ts p (point n left c) w (f (point n left c))
+  follow-tree (refused r) rest levels t ts p w f = λ level st e. w level (expectedAt level ts ++ st) e
 
   subtasks-say : (levels : ℕ) (walk : Walker) → WalkerSays levels walk → (ts : List ℕ) (p : Point)
       → WalksSay levels ts p (walkSubtasks walk ts (p .line) (p .left) (p .claimed))
@@ -94,20 +102,20 @@ module _ (k : Case) (ok : ClaimTest) where
       → Stopped k ok (point line (x ∷ left) c) ((t, level) ∷ st) r
   stopped-node x {t} {line} {level} {left} {c} {st} e h p s = stopped-after k ok line (x ∷ []) left c ((t, level) ∷ st) (e, h, p, tt) s
 
-  as-task : (m : ℕ) (ws : Walks) (levels t line : ℕ) (left : List NodeLine) (c : List ℕ) → fits k (D m) t ≡ true
+  as-task : (m : ℕ) (ws : Walk Trees) (levels t line : ℕ) (left : List NodeLine) (c : List ℕ) → fits k (D m) t ≡ true
       → WalksSay levels (methodAt (k .methods) m .subtasks) (point (line + 1) left c) ws
-      → WalkSays (suc levels) t (point line (D m ∷ left) c) (asTask m ws)
+      → WalkSays (suc levels) t (point line (D m ∷ left) c) (ws >>= λ (ts, line, nodes, claimed). found (task m ts, line, nodes, claimed))
   unfolding FitsTask height preorder rootLine
-  as-task m (Walks.walked xs n rest d) levels t line left c e w =
+  as-task m (found (xs, n, rest, d)) levels t line left c e w =
       record {
-        fitting = (e, w .fitting);
+        fitting = (fits-iff k (D m) t .0 e, w .fitting);
         shallow = omega arith;
         taken = ap (λ (l : List NodeLine). D m ∷ l) (w .taken);
         past = omega arith;
         claims = w .claims;
         passed = (tt, w .passed);
       }
-  as-task m (Walks.refused r) levels t line left c e w = λ level st q. stopped-node (D m) e (omega arith) tt (w (level + 1) st (omega arith))
+  as-task m (refused r) levels t line left c e w = λ level st q. stopped-node (D m) e (omega arith) tt (w (level + 1) st (omega arith))
 
   fitting-says : (levels : ℕ) (walk : Walker) → WalkerSays levels walk → (x : NodeLine) (t line : ℕ) (left : List NodeLine) (c : List ℕ)
       → fits k x t ≡ true → WalkSays (suc levels) t (point line (x ∷ left) c) (walkFitting k ok walk x line left c)
@@ -116,24 +124,24 @@ module _ (k : Case) (ok : ClaimTest) where
       let ts = methodAt (k .methods) m .subtasks in
       as-task m (walkSubtasks walk ts (line + 1) left c) levels t line left c e (subtasks-say levels walk f ts (point (line + 1) left c))
   fitting-says levels walk f (E m g) t line left c e =
-      record { fitting = e; shallow = omega arith; taken = refl; past = omega arith; claims = refl; passed = (tt, tt) }
+      record { fitting = fits-iff k (E m g) t .0 e; shallow = omega arith; taken = refl; past = omega arith; claims = refl; passed = (tt, tt) }
   fitting-says levels walk f (L a i) t line left c e = go (ok a i c) refl
     where
       go : (b : Bool) → ok a i c ≡ b
           → WalkSays (suc levels) t (point line (L a i ∷ left) c)
-          (elim b [ true ↦ Walk.walked (leaf a i) (line + 1) left (i ∷ c) | false ↦ Walk.refused (WrongClaim line i) ])
-      go true p = record { fitting = e; shallow = omega arith; taken = refl; past = omega arith; claims = refl; passed = (p, tt) }
+          (elim b [ true ↦ found (leaf a i, line + 1, left, i ∷ c) | false ↦ refused (WrongClaim line i) ])
+      go true p = record { fitting = fits-iff k (L a i) t .0 e; shallow = omega arith; taken = refl; past = omega arith; claims = refl; passed = (p, tt) }
       go false p = λ level st q. stopped-here k ok (unclaimable e (omega arith) p)
 
   -- A node that is there: it doesn't fit, or what becomes of it if it does.
-  node-there : (levels t line : ℕ) (x : NodeLine) (left : List NodeLine) (c : List ℕ) (w : Walk) (b : Bool) → fits k x t ≡ b
+  node-there : (levels t line : ℕ) (x : NodeLine) (left : List NodeLine) (c : List ℕ) (w : Walk Tree) (b : Bool) → fits k x t ≡ b
       → (fits k x t ≡ true → WalkSays levels t (point line (x ∷ left) c) w)
-      → WalkSays levels t (point line (x ∷ left) c) (elim b [ true ↦ w | false ↦ Walk.refused (WrongNode line) ])
+      → WalkSays levels t (point line (x ∷ left) c) (elim b [ true ↦ w | false ↦ refused (WrongNode line) ])
   node-there levels t line x left c w true e f = f e
   node-there levels t line x left c w false e f = λ level st q. stopped-here k ok (misfit e)
 
   node-deep : (t line : ℕ) (x : NodeLine) (left : List NodeLine) (c : List ℕ) → fits k x t ≡ true
-      → WalkSays zero t (point line (x ∷ left) c) (Walk.refused (TooDeep line))
+      → WalkSays zero t (point line (x ∷ left) c) (refused (TooDeep line))
   node-deep t line x left c e = λ level st q.
       let s : 65 ≡ level = omega arith in
       stopped-here k ok (subst (λ (n : ℕ). Stop k ok line c (x ∷ left) ((t, n) ∷ st) (TooDeep line)) s (deep e))
@@ -141,36 +149,34 @@ module _ (k : Case) (ok : ClaimTest) where
   node-says : (levels t line : ℕ) (left : List NodeLine) (c : List ℕ) → WalkSays levels t (point line left c) (walkNode levels k ok t line left c)
   unfolding walkNode
   node-says zero t line [] c = λ level st q. stopped-here k ok lacking
-  node-says zero t line (x ∷ left) c = node-there zero t line x left c (Walk.refused (TooDeep line)) (fits k x t) refl (node-deep t line x left c)
+  node-says zero t line (x ∷ left) c = node-there zero t line x left c (refused (TooDeep line)) (fits k x t) refl (node-deep t line x left c)
   node-says (suc levels) t line [] c = λ level st q. stopped-here k ok lacking
   node-says (suc levels) t line (x ∷ left) c =
       let walk : Walker = λ t′ line′ left′ c′. walkNode levels k ok t′ line′ left′ c′ in
       node-there (suc levels) t line x left c (walkFitting k ok walk x line left c) (fits k x t) refl
       (fitting-says levels walk (λ t′ q. node-says levels t′ (q .line) (q .left) (q .claimed)) x t line left c)
 
-  -- The root's tree, and nothing over; or where the walk of the root stops.
-  abbrev pub TreeSays : Walk → Type 0
-  TreeSays (Walk.walked x line left c) = (left ≡ []) × TreeOf k ok x × (line ≡ k .planLine + 1 + length (k .nodes)) × (c ≡ claimedBy (k .nodes) [])
-  TreeSays (Walk.refused r) = Stopped k ok (point (k .planLine + 1) (k .nodes) []) ((k .head .goal, 1) ∷ []) r
+  -- The root's tree, with the claims of all lines; or where the walk of the root stops.
+  abbrev pub TreeSays : Result (Tree × List ℕ) → Type 0
+  TreeSays (found (x, c)) = TreeOf k ok x × (c ≡ claimedBy (k .nodes) [])
+  TreeSays (refused r) = Stopped k ok (point (k .planLine + 1) (k .nodes) []) (root k) r
 
   pub tree-says : TreeSays (walkTree k ok)
   unfolding walkTree levelCount
   tree-says =
       go (walkNode 64 k ok (k .head .goal) (k .planLine + 1) (k .nodes) []) (node-says 64 (k .head .goal) (k .planLine + 1) (k .nodes) [])
     where
-      go : (w : Walk) → WalkSays 64 (k .head .goal) (point (k .planLine + 1) (k .nodes) []) w → TreeSays (noneOver w)
-      go (Walk.walked x line [] c) w =
+      go : (w : Walk Tree) → WalkSays 64 (k .head .goal) (point (k .planLine + 1) (k .nodes) []) w
+          → TreeSays (w >>= λ (t, line, nodes, claimed). noneOver line nodes >> found (t, claimed))
+      go (found (x, line, [], c)) w =
           let e : linesOf x ≡ k .nodes = sym (w .taken ∙ append-nil (linesOf x)) in
           let p = subst (λ (ls : List NodeLine). ClaimsPass ok ls []) e (w .passed) in (
-            refl,
             record { preordered = e; fitting = w .fitting; shallow = w .shallow; passing = p },
-            w .past ∙ ap (λ (ls : List NodeLine). k .planLine + 1 + length ls) e,
             w .claims ∙ ap (λ (ls : List NodeLine). claimedBy ls []) e,
           )
-      go (Walk.walked x line (y ∷ left) c) w = stopped-tree x w refl (stopped-here k ok over)
-      go (Walk.refused r) w = w 1 [] refl
+      go (found (x, line, y ∷ left, c)) w = stopped-tree x w refl (stopped-here k ok over)
+      go (refused r) w = w 1 [] refl
 
-  -- What the walk finds is the tree whose lines stand there, with every line taken and the claims of all of them.
-  pub walk-shows : (t : Tree) (line : ℕ) (left : List NodeLine) (c : List ℕ) → walkTree k ok ≡ Walk.walked t line left c
-      → (left ≡ []) × TreeOf k ok t × (line ≡ k .planLine + 1 + length (k .nodes)) × (c ≡ claimedBy (k .nodes) [])
-  walk-shows t line left c e = subst TreeSays e tree-says
+  -- What the walk finds is the tree whose lines stand there, with the claims of all of them.
+  pub walk-shows : (t : Tree) (c : List ℕ) → walkTree k ok ≡ found (t, c) → TreeOf k ok t × (c ≡ claimedBy (k .nodes) [])
+  walk-shows t c e = subst TreeSays e tree-says

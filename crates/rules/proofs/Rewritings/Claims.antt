@@ -11,8 +11,8 @@ use lib.Dec.{eqb}
 use lib.ListN.{length, getD}
 use Rattle.rules.specs.Case.{NodeLine, D, E, L, Case}
 use Rattle.rules.specs.Rules.{claimOf, claimants}
-use Rattle.rules.specs.Rewriting.{TaskPath, Occurrence, Network, claimedLines, Place, cue, gap, placeOf, placesOf, claimedPlaces, PerformsPlan}
-use Rattle.rules.proofs.Rewritings.Statement.{Placed}
+use Rattle.rules.specs.Rewriting.{TaskPath, Occurrence, Network, Place, cue, gap, placeOf, placesOf, PerformsPlan}
+use Rattle.rules.proofs.Rewritings.Statement.{Placed, claimedNames}
 use Rattle.rules.proofs.Rewritings.Lists.{mem-cond, eqb-reflects, reflects-sure, sure-reflects}
 use Rattle.rules.proofs.Rewritings.Records.{Named, LeftAre}
 use Rattle.rules.proofs.Rewritings.Trees.{Distinct, distinct-eq, distinct-append}
@@ -133,27 +133,27 @@ map-one f (z ∷ w ∷ l) c x y e h h′ = absurd (cons≢nil (tail-eq-of-cons-e
 abbrev pub Claimed : Case → Type 0
 Claimed k = (i : ℕ) → i < k .head .cues → claimants (i + 1) (k .nodes) ≡ getD (k .plan) i 0 ∷ []
 
-module _ (k : Case) (placed : Placed k) (d : Distinct (claimedLines k)) (lines : map lineOf (claimedLines k) ≡ k .nodes) (n : Network) (are : LeftAre (claimedLines k) (n .occurrences)) where
+module _ (k : Case) (placed : Placed k) (d : Distinct (claimedNames k)) (lines : map lineOf (claimedNames k) ≡ k .nodes) (n : Network) (are : LeftAre (claimedNames k) (n .occurrences)) where
   abbrev T : List Named
-  T = claimedLines k
+  T = claimedNames k
 
   one-leaf : (q : TaskPath) (a b i j : ℕ) → Mem (q, L a i) T → Mem (q, L b j) T → (a ≡ b) × (i ≡ j)
   one-leaf q a b i j h h′ =
       let e : L a i ≡ L b j = ap lineOf (distinct-eq T (q, L a i) (q, L b j) d h h′ refl) in
       (cc, cc)
 
-  leaf-at : (o : Occurrence) (i : ℕ) → Mem o (n .occurrences) → Mem (o .0, cue i) (claimedPlaces k) → Mem o (leavesAt i T)
-  unfolding claimedPlaces
+  leaf-at : (o : Occurrence) (i : ℕ) → Mem o (n .occurrences) → Mem (o .0, cue i) (placesOf (claimedNames k)) → Mem o (leavesAt i T)
+  unfolding placesOf
   leaf-at o i h c =
       let (j, u) = are (o .0) (o .1) .0 h in
       let (b, v) = cue-line T (o .0) i c in
       leaves-iff i T o .1 (subst (λ a. Mem (o .0, L a i) T) (sym (one-leaf (o .0) (o .1) b j i u v .0)) v)
 
-  at-leaf : (o : Occurrence) (i : ℕ) → Mem o (leavesAt i T) → Mem o (n .occurrences) × Mem (o .0, cue i) (claimedPlaces k)
-  unfolding claimedPlaces
+  at-leaf : (o : Occurrence) (i : ℕ) → Mem o (leavesAt i T) → Mem o (n .occurrences) × Mem (o .0, cue i) (placesOf (claimedNames k))
+  unfolding placesOf
   at-leaf o i h = let u = leaves-iff i T o .0 h in (are (o .0) (o .1) .1 (i, u), line-cue T (o .0) (o .1) i u)
 
-  pub claims-perform : Claimed k → PerformsPlan k n
+  pub claims-perform : Claimed k → PerformsPlan k (placesOf T) n
   claims-perform c = record { placed = stands; every = every; once = once }
     where
       in-plan : (o : Occurrence) (i : ℕ) → Mem o (leavesAt i T) → (1 ≤ i) × (i ≤ k .head .cues)
@@ -166,7 +166,7 @@ module _ (k : Case) (placed : Placed k) (d : Distinct (claimedLines k)) (lines :
       position : (o : Occurrence) (i : ℕ) → Mem o (leavesAt i T) → (j : ℕ) × (i ≡ j + 1) × (j < k .head .cues)
       position o i h = let b = in-plan o i h in (i - 1, omega arith, omega arith)
 
-      stands : (o : Occurrence) → Mem o (n .occurrences) → (i : ℕ) × (i < length (k .plan)) × (getD (k .plan) i 0 ≡ o .1) × Mem (o .0, cue (i + 1)) (claimedPlaces k)
+      stands : (o : Occurrence) → Mem o (n .occurrences) → (i : ℕ) × (i < length (k .plan)) × (getD (k .plan) i 0 ≡ o .1) × Mem (o .0, cue (i + 1)) (placesOf (claimedNames k))
       stands o h =
           let (i, u) = are (o .0) (o .1) .0 h in
           let l = leaves-iff i T o .1 u in
@@ -174,20 +174,20 @@ module _ (k : Case) (placed : Placed k) (d : Distinct (claimedLines k)) (lines :
           let l′ : Mem o (leavesAt (j + 1) T) = subst (λ m. Mem o (leavesAt m T)) e l in
           (j, omega (arith, placed .planned), sym (in-single (subst (λ z. Mem (o .1) z) (tasks-at j b) (in-map taskOf l′))), at-leaf o (j + 1) l′ .1)
 
-      every : (i : ℕ) → i < length (k .plan) → (o : Occurrence) × Mem o (n .occurrences) × Mem (o .0, cue (i + 1)) (claimedPlaces k)
+      every : (i : ℕ) → i < length (k .plan) → (o : Occurrence) × Mem o (n .occurrences) × Mem (o .0, cue (i + 1)) (placesOf (claimedNames k))
       every i b =
           let e = tasks-at i (omega (arith, placed .planned)) in
           let (o, h, _) = of-map taskOf (leavesAt (i + 1) T) (subst (λ z. Mem (getD (k .plan) i 0) z) (sym e) (here refl)) in
           let w = at-leaf o (i + 1) h in
           (o, w .0, w .1)
 
-      once : (i : ℕ) (o o′ : Occurrence) → Mem o (n .occurrences) → Mem o′ (n .occurrences) → Mem (o .0, cue i) (claimedPlaces k) → Mem (o′ .0, cue i) (claimedPlaces k) → o ≡ o′
+      once : (i : ℕ) (o o′ : Occurrence) → Mem o (n .occurrences) → Mem o′ (n .occurrences) → Mem (o .0, cue i) (placesOf (claimedNames k)) → Mem (o′ .0, cue i) (placesOf (claimedNames k)) → o ≡ o′
       once i o o′ h h′ p p′ =
           let u = leaf-at o i h p in
           let (j, e, b) = position o i u in
           map-one taskOf (leavesAt i T) (getD (k .plan) j 0) o o′ (ap (λ m. map taskOf (leavesAt m T)) e ∙ tasks-at j b) u (leaf-at o′ i h′ p′)
 
-  pub performs-claim : PerformsPlan k n → Claimed k
+  pub performs-claim : PerformsPlan k (placesOf T) n → Claimed k
   performs-claim p i b =
       let (o, h, c) = p .every i (omega (arith, placed .planned)) in
       let u = leaf-at o (i + 1) h c in

@@ -1,9 +1,10 @@
 -- Worked cases, by computation: panel case a, and a case whose goal has two compound subtasks, woven, each with an empty task in it.
-use mathlib.Core.Path.{_≡_, refl}
-use mathlib.Core.Bool.{Bool, true, _&&_, false≢true}
+use mathlib.Core.Path.{_≡_, refl, subst}
+use mathlib.Core.Bool.{Bool, true, _&&_}
 use mathlib.Core.List.{List, [], _∷_, map}
 use mathlib.Core.List.{List·Memᴰ as Mem, List·Memᴰ·head as here, List·Memᴰ·tail as there}
 use Prim.Native.Nat.{ℕ, _+_, _<_}
+use native.Mathlib.Omega.{arith}
 use lib.Dec.{leb, ltb, leb→le, ltb→lt}
 use lib.ListN.{length, getD}
 use Rattle.rules.specs.State as St
@@ -16,13 +17,16 @@ use Rattle.rules.specs.Rules as Ru
 use Rattle.rules.specs.Rewriting as Re
 use Rattle.rules.specs.State.{State, Action, applies, actionAt, stateAt}
 use Rattle.rules.specs.Case.{Constraint, O, B, W, Method, NodeLine, D, E, L, Case}
-use Rattle.rules.specs.Tree.{Tree, leaf, empty, task, noTree, more, preorder, rootLine}
+use Rattle.rules.specs.Tree.{Tree, leaf, empty, task, noTree, more, preorder, rootLine, isMethodOf, fits}
 use Rattle.rules.specs.Constraint.{holdsIn, keeps, constraintsOf, partsOf}
 use Rattle.rules.specs.Verdict.{statesOf}
-use Rattle.rules.specs.Rules.{PlanRuns, FitsTask, claimants, Rules}
-use Rattle.rules.specs.Rewriting.{Occurrence, Step, samePath, Complete, used, recordOf, SameSet, claimedRecord, result, Rewriting}
-use Rattle.rules.proofs.Rewritings.Statement.{Placed}
-use Rattle.rules.proofs.Rewritings.Lists.{and-both, true-T, reflects-sure, reflects-never}
+use Rattle.rules.specs.Rules.{MethodOf, Fits, FitsTask, claimants, Keeps, Rules}
+use Rattle.rules.proofs.Statements.{keeps-iff, fits-iff, method-iff, are-states}
+use Rattle.rules.specs.Rewriting.{Occurrence, Step, samePath, CompleteRewriting, used, recordOf, SameSet, claimedRecord, result, placesOf, spanIn, AgreeingRewriting}
+use Rattle.rules.proofs.Rewritings.Statement as Sta
+use Rattle.rules.proofs.Rewritings.Statement.{Placed, claimedNames, named-exact}
+use Rattle.rules.proofs.Judgement.Each.{both-true}
+use Rattle.rules.proofs.Rewritings.Lists.{true-T, reflects-sure, reflects-never}
 use Rattle.rules.proofs.Rewritings.Records.{record-used}
 use Rattle.rules.proofs.Rewritings.Paths.{path-reflects}
 use Rattle.rules.proofs.Rewritings.Steps.{gathered-iff}
@@ -50,10 +54,17 @@ module _ (k : Case) where
   inPlan (E m g) = true
   inPlan (L a i) = leb 1 i && leb i (k .head .cues)
 
+  -- A line that passes the test fits, and a method that passes it is one of the task's own.
+  fit : (x : NodeLine) (t : ℕ) → fits k x t ≡ true → Fits k x t
+  fit x t e = fits-iff k x t .0 e
+
+  own : (m t : ℕ) → isMethodOf k m t ≡ true → MethodOf k m t
+  own m t e = method-iff k m t .0 e
+
   placed-by : length (k .plan) ≡ k .head .cues → all inPlan (k .nodes) ≡ true → Placed k
   placed-by e f = record {
     planned = e;
-    positions = λ a i h. let (u, v) = and-both (leb 1 i) (leb i (k .head .cues)) (all-sure inPlan (k .nodes) f (L a i) h) in
+    positions = λ a i h. let (u, v) = both-true (leb 1 i) (leb i (k .head .cues)) (all-sure inPlan (k .nodes) f (L a i) h) in
         (leb→le 1 i (true-T u), leb→le i (k .head .cues) (true-T v));
   }
 
@@ -68,19 +79,21 @@ module _ (k : Case) where
 
   rules-by : (t : Tree) → map rootLine (preorder t) ≡ k .nodes → FitsTask k t (k .head .goal)
       → allBelow (length (k .plan)) runsAt ≡ true → allBelow (k .head .cues) claimedAt ≡ true → all keepsAll (preorder t) ≡ true → Rules k
-  unfolding PlanRuns
+  unfolding Ru.cueAction
   rules-by t pre fit runs claimed kept = record {
+    states = statesOf k;
+    are = are-states k;
     runs = below-sure (length (k .plan)) runsAt runs;
     tree = t;
     preordered = pre;
     fitting = fit;
     claimed = λ i b. reflects-sure (path-reflects (claimants (i + 1) (k .nodes)) (getD (k .plan) i 0 ∷ [])) (below-sure (k .head .cues) claimedAt claimed i b);
-    kept = λ x h d i. all-sure (keeps (holdsIn (statesOf k)) (partsOf x)) (constraintsOf k x) (all-sure keepsAll (preorder t) kept x h) d i;
+    kept = λ x h d i. keeps-iff (statesOf k) (partsOf x) d .0 (all-sure (keeps (holdsIn (statesOf k)) (partsOf x)) (constraintsOf k x) (all-sure keepsAll (preorder t) kept x h) d i);
   }
 
 -- What the cases compute with.
 opened : Unit {0}
-unfolding St.wordCount St.bit St.member St.empty St.without St.appliesWord St.applies St.nextWord St.next St.noAction St.actionAt St.states St.stateAt Ix.ofCue Ix.ofGap Ix.at Ix.least Ix.greatest Ix.hull Ix.partOf Ix.only Ix.pick Ix.spanOfPart Ix.roundedUp Ix.roundedDown Ix.c Ix.f Ix.isBefore Ca.noMethod Ca.methodAt Tr.preorder Tr.rootLine Tr.span Tr.subtaskSpans Tr.noSubtasks Tr.isMethodOf Tr.fits Co.holdsIn Co.holdsFrom Co.keeps Co.constraintsOf Co.partsOf Ve.statesOf Ru.FitsTask Ru.claimOf Ru.claimants Re.samePath Re.subtasksOf Re.CanTake Re.replace Re.take Re.Steps Re.takeAll Re.goalAlone Re.result Re.recordOf Re.subtasksAfter Re.named Re.claimedLines Re.entryOf Re.claimedRecord Re.placeOf Re.placesOf Re.claimedPlaces Re.indexOf Re.isInPart Re.indexesIn Re.spanIn
+unfolding St.wordCount St.bit St.member St.noPropositions St.without St.appliesWord St.applies St.nextWord St.next St.noAction St.actionAt St.states St.stateAt Ix.ofCue Ix.ofGap Ix.at Ix.least Ix.greatest Ix.hull Ix.partOf Ix.only Ix.pick Ix.spanOfPart Ix.roundedUp Ix.roundedDown Ix.c Ix.f Ix.isBefore Ca.noMethod Ca.methodAt Tr.preorder Tr.rootLine Tr.span Tr.subtaskSpans Tr.noSubtasks Tr.isMethodOf Tr.fits Co.holdsIn Co.holdsFrom Co.keeps Co.constraintsOf Co.partsOf Ve.statesOf Ru.FitsTask Ru.Keeps Ru.claimOf Ru.claimants Re.samePath Re.subtasksOf Re.CanTake Re.replace Re.rewritten Re.Steps Re.rewrittenBy Re.goalAlone Re.result Re.recordOf Re.subtasksAfter Re.rightKind Re.claimedLines Sta.lineNames Sta.claimedNames Re.entryOf Re.claimedRecord Re.placeOf Re.placesOf Re.indexOf Re.isInPart Re.indexesIn Re.spanIn
 opened = tt
 
 -- ---- Panel case a
@@ -109,10 +122,10 @@ treeA = task 0 (more (empty 2 0) (more (leaf 1 1) (more (leaf 2 2) noTree)))
 
 rules-a : Rules caseA
 unfolding opened
-rules-a = rules-by caseA treeA refl (refl, (refl, (refl, (refl, tt)))) refl refl refl
+rules-a = rules-by caseA treeA refl (fit caseA (D 0) 3 refl, (fit caseA (E 2 0) 4 refl, (fit caseA (L 1 1) 1 refl, (fit caseA (L 2 2) 2 refl, tt)))) refl refl refl
 
 -- The theorem gives a rewriting that agrees with the panel's tree.
-pub rewriting-a : Rewriting caseA
+pub rewriting-a : AgreeingRewriting caseA
 rewriting-a = agreement caseA placed-a .0 rules-a
 
 -- Its steps can be taken in one order only: the goal, then its one compound subtask, by method 2 or by method 1.
@@ -122,28 +135,33 @@ stepsA = ([], 0) ∷ (0 ∷ [], 2) ∷ []
 abbrev otherA : List Step
 otherA = ([], 0) ∷ (0 ∷ [], 1) ∷ []
 
-pub complete-a : Complete caseA stepsA × Complete caseA otherA
+pub complete-a : CompleteRewriting caseA stepsA × CompleteRewriting caseA otherA
 unfolding opened
 complete-a = (
-  record { steps = ((3, here refl, refl), ((4, here refl, refl), tt)); left = left-by caseA (result caseA stepsA .occurrences) refl },
-  record { steps = ((3, here refl, refl), ((4, here refl, refl), tt)); left = left-by caseA (result caseA otherA .occurrences) refl },
+  record { steps = ((3, here refl, own caseA 0 3 refl), ((4, here refl, own caseA 2 4 refl), tt)); actions = left-by caseA (result caseA stepsA .occurrences) refl },
+  record { steps = ((3, here refl, own caseA 0 3 refl), ((4, here refl, own caseA 1 4 refl), tt)); actions = left-by caseA (result caseA otherA .occurrences) refl },
 )
 
 -- The record of the one is the claimed tree's, that of the other is not.
-pub records-a : SameSet (recordOf caseA stepsA) (claimedRecord caseA) × (¬ SameSet (recordOf caseA otherA) (claimedRecord caseA))
+pub records-a : SameSet (recordOf caseA stepsA) (claimedRecord (claimedNames caseA)) × (¬ SameSet (recordOf caseA otherA) (claimedRecord (claimedNames caseA)))
 unfolding opened
 records-a = (
-  reflects-sure (same-reflects (recordOf caseA stepsA) (claimedRecord caseA)) refl,
-  reflects-never (same-reflects (recordOf caseA otherA) (claimedRecord caseA)) refl,
+  reflects-sure (same-reflects (recordOf caseA stepsA) (claimedRecord (claimedNames caseA))) refl,
+  reflects-never (same-reflects (recordOf caseA otherA) (claimedRecord (claimedNames caseA))) refl,
 )
 
 -- In gap 2 the empty task ends too late for the order that the goal's method asks: no rewriting agrees with that tree, so it breaks the rules.
-pub no-rewriting-c : ¬ Rewriting (panel 2)
+pub no-rewriting-c : ¬ AgreeingRewriting (panel 2)
 unfolding opened
-no-rewriting-c r = false≢true (r .kept [] (O 0 2) (gathered-iff (panel 2) (r .steps) [] (O 0 2) .1 (0, goal-used, here refl)))
+no-rewriting-c r =
+    let late = subst (λ l. Keeps (r .states) (spanIn (placesOf l) []) (O 0 2)) e (r .kept [] (O 0 2) (gathered-iff (panel 2) (r .steps) [] (O 0 2) .1 (0, goal-used, here refl))) in
+    omega (arith, late)
   where
+    e : r .lines ≡ claimedNames (panel 2)
+    e = named-exact (panel 2) (panel 2 .nodes) (([], 3) ∷ []) (r .lines) (r .preordered) .1
+
     goal-used : Mem ([], 0) (r .steps)
-    goal-used = record-used (panel 2) (r .steps) [] 0 .1 (r .records ([], used 0) .1 (here refl))
+    goal-used = record-used (panel 2) (r .steps) [] 0 .1 (subst (λ l. SameSet (recordOf (panel 2) (r .steps)) (claimedRecord l)) e (r .records) ([], used 0) .1 (here refl))
 
 pub no-rules-c : ¬ Rules (panel 2)
 no-rules-c r = no-rewriting-c (agreement (panel 2) (placed-by (panel 2) refl refl) .0 r)
@@ -173,9 +191,12 @@ rules-woven : Rules woven
 unfolding opened
 rules-woven =
     rules-by woven (task 0 (more (part 1 2 3) (more (part 2 3 4) noTree))) refl
-    (refl, ((refl, (refl, (refl, (refl, tt)))), ((refl, (refl, (refl, (refl, tt)))), tt))) refl refl refl
+    (fit woven (D 0) 2 refl, (part-fits 1 2 3, (part-fits 2 3 4, tt))) refl refl refl
+  where
+    part-fits : (i g j : ℕ) → FitsTask woven (part i g j) 3
+    part-fits i g j = (fit woven (D 1) 3 refl, (fit woven (L 0 i) 0 refl, (fit woven (E 2 g) 3 refl, (fit woven (L 1 j) 1 refl, tt))))
 
-pub rewriting-woven : Rewriting woven
+pub rewriting-woven : AgreeingRewriting woven
 rewriting-woven = agreement woven placed-woven .0 rules-woven
 
 -- Two orders: one subtask after the other, and the two in turns, the second first. And a third rewriting, with both subtasks empty.
@@ -188,27 +209,27 @@ second = ([], 0) ∷ (1 ∷ [], 1) ∷ (0 ∷ [], 1) ∷ (1 ∷ 1 ∷ [], 2) ∷
 abbrev both-empty : List Step
 both-empty = ([], 0) ∷ (0 ∷ [], 2) ∷ (1 ∷ [], 2) ∷ []
 
-pub complete-woven : Complete woven first × Complete woven second × Complete woven both-empty
+pub complete-woven : CompleteRewriting woven first × CompleteRewriting woven second × CompleteRewriting woven both-empty
 unfolding opened
 complete-woven = (
   record {
-    steps = ((2, here refl, refl), ((3, here refl, refl), ((3, there (here refl), refl), ((3, there (there (here refl)), refl), ((3, there (there (there (here refl))), refl), tt)))));
-    left = left-by woven (result woven first .occurrences) refl;
+    steps = ((2, here refl, own woven 0 2 refl), ((3, here refl, own woven 1 3 refl), ((3, there (here refl), own woven 2 3 refl), ((3, there (there (here refl)), own woven 1 3 refl), ((3, there (there (there (here refl))), own woven 2 3 refl), tt)))));
+    actions = left-by woven (result woven first .occurrences) refl;
   },
   record {
-    steps = ((2, here refl, refl), ((3, there (here refl), refl), ((3, here refl, refl), ((3, there (there (there (there (here refl)))), refl), ((3, there (here refl), refl), tt)))));
-    left = left-by woven (result woven second .occurrences) refl;
+    steps = ((2, here refl, own woven 0 2 refl), ((3, there (here refl), own woven 1 3 refl), ((3, here refl, own woven 1 3 refl), ((3, there (there (there (there (here refl)))), own woven 2 3 refl), ((3, there (here refl), own woven 2 3 refl), tt)))));
+    actions = left-by woven (result woven second .occurrences) refl;
   },
-  record { steps = ((2, here refl, refl), ((3, here refl, refl), ((3, here refl, refl), tt))); left = left-by woven (result woven both-empty .occurrences) refl },
+  record { steps = ((2, here refl, own woven 0 2 refl), ((3, here refl, own woven 2 3 refl), ((3, here refl, own woven 2 3 refl), tt))); actions = left-by woven (result woven both-empty .occurrences) refl },
 )
 
 -- The two orders have one record, the claimed tree's; the third has another.
-pub records-woven : SameSet (recordOf woven first) (recordOf woven second) × SameSet (recordOf woven second) (claimedRecord woven) × (¬ SameSet (recordOf woven both-empty) (claimedRecord woven))
+pub records-woven : SameSet (recordOf woven first) (recordOf woven second) × SameSet (recordOf woven second) (claimedRecord (claimedNames woven)) × (¬ SameSet (recordOf woven both-empty) (claimedRecord (claimedNames woven)))
 unfolding opened
 records-woven = (
   reflects-sure (same-reflects (recordOf woven first) (recordOf woven second)) refl,
-  reflects-sure (same-reflects (recordOf woven second) (claimedRecord woven)) refl,
-  reflects-never (same-reflects (recordOf woven both-empty) (claimedRecord woven)) refl,
+  reflects-sure (same-reflects (recordOf woven second) (claimedRecord (claimedNames woven))) refl,
+  reflects-never (same-reflects (recordOf woven both-empty) (claimedRecord (claimedNames woven))) refl,
 )
 
 -- So the two gather one set, though in different orders.

@@ -4,41 +4,18 @@ use mathlib.Core.Path.{_≡_, refl, sym, _∙_, ap, subst}
 use mathlib.Core.List.{List, [], _∷_, _++_, append-assoc}
 use mathlib.Core.List.{List·Memᴰ as Mem, List·Memᴰ·head as here, List·Memᴰ·tail as there, Memᴰ·append-right as in-right, List·Memᴰ·append-cases as in-cases}
 use mathlib.Core.Logic.{⊎-elim}
-use mathlib.Core.Bool.{true, not, false≢true}
+use mathlib.Core.Bool.{true}
 use Prim.Native.Nat.{ℕ}
-use lib.Dec.{eqb, ltb, eqb·suc-zero}
-use lib.ListN.{length}
-use Rattle.rules.specs.Case.{Method, methodAt, NodeLine, D, E, L, Case}
-use Rattle.rules.specs.Tree.{noSubtasks, isMethodOf, fits}
-use Rattle.rules.specs.Rewriting.{Occurrence, subtasksOf, Network, Step, CanTake, take, Steps, takeAll, subtasksAfter, named, rightKind, Exact, entryOf}
-use Rattle.rules.proofs.Rewritings.Lists.{and-both, reflects-sure, eqb-reflects}
+use Rattle.rules.specs.Case.{methodAt, NodeLine, D, E, L, Case}
+use Rattle.rules.specs.Rules.{MethodOf, Fits}
+use Rattle.rules.specs.Rewriting.{Occurrence, subtasksOf, Network, Step, CanTake, rewritten, Steps, rewrittenBy, subtasksAfter, rightKind, entryOf}
+use Rattle.rules.proofs.Statements.{none-iff, some-iff}
+use Rattle.rules.proofs.Rewritings.Statement.{lineNames, Exact}
 use Rattle.rules.proofs.Rewritings.Paths.{Spread}
 use Rattle.rules.proofs.Rewritings.Records.{usedIn, leftIn, entries}
 use Rattle.rules.proofs.Rewritings.Steps.{take-in-place, step-spread}
 
--- ---- What a line that fits says
-
-no-subtasks : (m : Method) → noSubtasks m ≡ true → m .subtasks ≡ []
-unfolding noSubtasks
-no-subtasks m e = go (m .subtasks) e
-  where
-    go : (ts : List ℕ) → eqb (length ts) 0 ≡ true → ts ≡ []
-    go [] e = refl
-    go (t ∷ ts) e = absurd (false≢true (sym (eqb·suc-zero (length ts)) ∙ e))
-
 module _ (k : Case) where
-  pub fits-leaf : (a i t : ℕ) → fits k (L a i) t ≡ true → (ltb t (k .head .actions) ≡ true) × (a ≡ t)
-  unfolding fits
-  fits-leaf a i t e = let (u, v) = and-both (ltb t (k .head .actions)) (eqb a t) e in (u, reflects-sure (eqb-reflects a t) v)
-
-  pub fits-empty : (m g t : ℕ) → fits k (E m g) t ≡ true → (isMethodOf k m t ≡ true) × (noSubtasks (methodAt (k .methods) m) ≡ true)
-  unfolding fits
-  fits-empty m g t e = and-both (isMethodOf k m t) (noSubtasks (methodAt (k .methods) m)) e
-
-  pub fits-task : (m t : ℕ) → fits k (D m) t ≡ true → (isMethodOf k m t ≡ true) × (not (noSubtasks (methodAt (k .methods) m)) ≡ true)
-  unfolding fits
-  fits-task m t e = and-both (isMethodOf k m t) (not (noSubtasks (methodAt (k .methods) m))) e
-
   -- ---- Lines that fit
 
   -- What waits after a line for the first occurrence.
@@ -50,12 +27,12 @@ module _ (k : Case) where
   FitLines [] [] = Unit {0}
   FitLines [] (o ∷ os) = ⊥
   FitLines (x ∷ xs) [] = ⊥
-  FitLines (x ∷ xs) (o ∷ os) = (fits k x (o .1) ≡ true) × FitLines xs (waiting x o os)
+  FitLines (x ∷ xs) (o ∷ os) = Fits k x (o .1) × FitLines xs (waiting x o os)
 
-  fits-kind : (x : NodeLine) (t : ℕ) → fits k x t ≡ true → rightKind k x ≡ true
-  unfolding rightKind
-  fits-kind (D m) t f = fits-task m t f .1
-  fits-kind (E m g) t f = fits-empty m g t f .1
+  fits-kind : (x : NodeLine) (t : ℕ) → Fits k x t → rightKind k x ≡ true
+  unfolding rightKind Fits
+  fits-kind (D m) t f = some-iff (methodAt (k .methods) m) .1 (f .1)
+  fits-kind (E m g) t f = none-iff (methodAt (k .methods) m) .1 (f .1)
   fits-kind (L a i) t f = refl
 
   pub fit-exact : (xs : List NodeLine) (os : List Occurrence) → FitLines xs os → Exact k xs os
@@ -67,10 +44,10 @@ module _ (k : Case) where
 
   -- Where each line at the path of a good occurrence fits it, and the subtasks of a good one are good.
   pub exact-fit : (Good : Occurrence → Type 0) (xs : List NodeLine) (os : List Occurrence)
-      → ((o : Occurrence) (x : NodeLine) → Good o → rightKind k x ≡ true → Mem (o .0, x) (named k xs os)
-      → (fits k x (o .1) ≡ true) × ((p : Occurrence) → Mem p (subtasksOf (o .0) 0 (subtasksAfter k x)) → Good p))
+      → ((o : Occurrence) (x : NodeLine) → Good o → rightKind k x ≡ true → Mem (o .0, x) (lineNames k xs os)
+      → Fits k x (o .1) × ((p : Occurrence) → Mem p (subtasksOf (o .0) 0 (subtasksAfter k x)) → Good p))
       → Exact k xs os → ((o : Occurrence) → Mem o os → Good o) → FitLines xs os
-  unfolding Exact named
+  unfolding Exact lineNames
   exact-fit Good [] [] step w good = tt
   exact-fit Good [] (o ∷ os) step w good = absurd w
   exact-fit Good (x ∷ xs) [] step w good = absurd w
@@ -85,39 +62,39 @@ module _ (k : Case) where
 
   -- The steps of the lines, in preorder, and the occurrences that they leave.
   abbrev pub stepsOf : List NodeLine → List Occurrence → List Step
-  stepsOf ls os = usedIn (entries (named k ls os))
+  stepsOf ls os = usedIn (entries (lineNames k ls os))
 
   abbrev pub leavesOf : List NodeLine → List Occurrence → List Occurrence
-  leavesOf ls os = leftIn (entries (named k ls os))
+  leavesOf ls os = leftIn (entries (lineNames k ls os))
 
   -- The steps ss lead from n to the occurrences r.
   abbrev Leads : Network → List Step → List Occurrence → Type 0
-  Leads n ss r = Steps k n ss × (takeAll k n ss .occurrences ≡ r)
+  Leads n ss r = Steps k n ss × (rewrittenBy k n ss .occurrences ≡ r)
 
   lead-step : (n : Network) (m : ℕ) (xs : List Occurrence) (o : Occurrence) (os : List Occurrence) (ss : List Step) (r : List Occurrence)
-      → Spread (n .occurrences) → n .occurrences ≡ xs ++ (o ∷ os) → isMethodOf k m (o .1) ≡ true
+      → Spread (n .occurrences) → n .occurrences ≡ xs ++ (o ∷ os) → MethodOf k m (o .1)
       → ((n′ : Network) → Spread (n′ .occurrences) → n′ .occurrences ≡ xs ++ (subtasksOf (o .0) 0 (methodAt (k .methods) m .subtasks) ++ os) → Leads n′ ss r)
       → Leads n ((o .0, m) ∷ ss) r
-  unfolding Steps takeAll CanTake
+  unfolding Steps rewrittenBy CanTake
   lead-step n m xs o os ss r sp e own f =
       let s : Step = (o .0, m) in
       let c : CanTake k n s = (o .1, subst (λ l. Mem o l) (sym e) (in-right xs (here refl)), own) in
-      let b = f (take k n s) (step-spread k n s sp c) (take-in-place k n s (o .1) xs os sp e) in
+      let b = f (rewritten k n s) (step-spread k n s sp c) (take-in-place k n s (o .1) xs os sp e) in
       ((c, b .0), b .1)
 
   pub fit-leads : (ls : List NodeLine) (os xs : List Occurrence) (n : Network) → FitLines ls os → Spread (n .occurrences) → n .occurrences ≡ xs ++ os
       → Leads n (stepsOf ls os) (xs ++ leavesOf ls os)
-  unfolding named entryOf subtasksAfter subtasksOf Steps takeAll
+  unfolding lineNames entryOf subtasksAfter subtasksOf Steps rewrittenBy Fits
   fit-leads [] [] xs n f sp e = (tt, e)
   fit-leads [] (o ∷ os) xs n f sp e = absurd f
   fit-leads (l ∷ ls) [] xs n f sp e = absurd f
   fit-leads (D m ∷ ls) (o ∷ os) xs n f sp e =
       let os′ = waiting (D m) o os in
-      lead-step n m xs o os (stepsOf ls os′) (xs ++ leavesOf ls os′) sp e (fits-task m (o .1) (f .0) .0) (λ n′ sp′ e′. fit-leads ls os′ xs n′ (f .1) sp′ e′)
+      lead-step n m xs o os (stepsOf ls os′) (xs ++ leavesOf ls os′) sp e (f .0 .0) (λ n′ sp′ e′. fit-leads ls os′ xs n′ (f .1) sp′ e′)
   fit-leads (E m g ∷ ls) (o ∷ os) xs n f sp e =
-      let (own, none) = fits-empty m g (o .1) (f .0) in
+      let (own, none) = f .0 in
       lead-step n m xs o os (stepsOf ls os) (xs ++ leavesOf ls os) sp e own
-      (λ n′ sp′ e′. fit-leads ls os xs n′ (f .1) sp′ (e′ ∙ ap (λ ts. xs ++ (subtasksOf (o .0) 0 ts ++ os)) (no-subtasks (methodAt (k .methods) m) none)))
+      (λ n′ sp′ e′. fit-leads ls os xs n′ (f .1) sp′ (e′ ∙ ap (λ ts. xs ++ (subtasksOf (o .0) 0 ts ++ os)) none))
   fit-leads (L a i ∷ ls) (o ∷ os) xs n f sp e =
       let b = fit-leads ls os (xs ++ (o ∷ [])) n (f .1) sp (e ∙ sym (append-assoc xs (o ∷ []) os)) in
-      (b .0, b .1 ∙ append-assoc xs (o ∷ []) (leavesOf ls os) ∙ ap (λ t. xs ++ ((o .0, t) ∷ leavesOf ls os)) (sym (fits-leaf a i (o .1) (f .0) .1)))
+      (b .0, b .1 ∙ append-assoc xs (o ∷ []) (leavesOf ls os) ∙ ap (λ t. xs ++ ((o .0, t) ∷ leavesOf ls os)) (sym (f .0 .1)))

@@ -2,7 +2,7 @@
 use mathlib.Core.Path.{_≡_, refl, sym, ap, subst}
 use mathlib.Core.List.{List, [], _∷_, _++_}
 use mathlib.Core.List.{List·Memᴰ as Mem, List·Memᴰ·head as here, List·Memᴰ·tail as there, List·Memᴰ·not-nil as not-nil}
-use mathlib.Core.Bool.{Bool, true, false, cond, _&&_, true≢false, false≢true}
+use mathlib.Core.Bool.{Bool, true, false, cond, true≢false, false≢true}
 use lib.Dec.{T, eqb, eqb→eq, eqb-refl}
 use Prim.Native.Nat.{ℕ}
 
@@ -18,20 +18,8 @@ mem-cond true (here e) = (refl, e)
 mem-cond true (there h) = absurd (not-nil h)
 mem-cond false h = absurd (not-nil h)
 
-pub and-both : (a b : Bool) → (a && b) ≡ true → (a ≡ true) × (b ≡ true)
-and-both true b e = (refl, e)
-and-both false b e = absurd (false≢true e)
-
-pub both-and : (a b : Bool) → a ≡ true → b ≡ true → (a && b) ≡ true
-both-and true b e e′ = e′
-both-and false b e e′ = absurd (false≢true e)
-
 pub true-T : {b : Bool} → b ≡ true → T b
 true-T e = subst T (sym e) tt
-
-pub T-true : (b : Bool) → T b → b ≡ true
-T-true true h = refl
-T-true false h = absurd h
 
 -- A test that decides a statement.
 pub data Reflects (P : Type 0) : Bool → Type 0 where

@@ -1,5 +1,5 @@
 -- Paths of occurrences. A step puts subtasks, whose paths lie below the one taken, in its place; so no path ever lies below two occurrences
--- of a network ("spread"), and what a step leaves is the old list with the subtasks in place.
+-- of a network (`Spread`), and what a step leaves is the old list with the subtasks in place.
 use mathlib.Core.Path.{_≡_, refl, sym, _∙_, ap, subst}
 use mathlib.Core.List.{List, [], _∷_, _++_, append-assoc, append-nil, append-cancel-left, head-eq-of-cons-eq, tail-eq-of-cons-eq, nil≢cons, cons≢nil}
 use mathlib.Core.List.{List·Memᴰ as Mem, List·Memᴰ·head as here, List·Memᴰ·tail as there, Memᴰ·append-left as in-left, Memᴰ·append-right as in-right, List·Memᴰ·append-cases as in-cases, List·Memᴰ·not-nil as not-nil}

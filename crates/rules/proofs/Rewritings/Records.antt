@@ -6,7 +6,8 @@ use mathlib.Core.List.{List·Memᴰ as Mem, List·Memᴰ·head as here, List·Me
 use mathlib.Core.Logic.{_↔_, Iff·trans, ⊎-elim}
 use Prim.Native.Nat.{ℕ}
 use Rattle.rules.specs.Case.{NodeLine, D, E, L, Case}
-use Rattle.rules.specs.Rewriting.{TaskPath, Occurrence, Step, result, Entry, used, left, recordOf, SameSet, claimedLines, entryOf, claimedRecord}
+use Rattle.rules.specs.Rewriting.{TaskPath, Occurrence, Step, result, Entry, used, left, recordOf, SameSet, entryOf, claimedRecord}
+use Rattle.rules.proofs.Rewritings.Statement.{claimedNames}
 
 abbrev pub Named : Type 0
 Named = TaskPath × NodeLine
@@ -112,17 +113,17 @@ module _ (k : Case) where
 
   -- ---- Equal records, entry by entry
 
-  entry-iff : (q : TaskPath) (e : Entry) → Mem (q, e) (claimedRecord k) ↔ ((l : NodeLine) × Mem (q, l) (claimedLines k) × (entryOf l ≡ e))
+  entry-iff : (q : TaskPath) (e : Entry) → Mem (q, e) (claimedRecord (claimedNames k)) ↔ ((l : NodeLine) × Mem (q, l) (claimedNames k) × (entryOf l ≡ e))
   unfolding claimedRecord
   entry-iff q e = (
-    λ h. let (x, i, p) = of-map {B = TaskPath × Entry} (λ (x : Named). (x .0, entryOf (x .1))) (claimedLines k) h in
+    λ h. let (x, i, p) = of-map {B = TaskPath × Entry} (λ (x : Named). (x .0, entryOf (x .1))) (claimedNames k) h in
         (x .1, in-cast (ap {B = Named} (λ (z : TaskPath × Entry). (z .0, x .1)) (sym p)) i, ap (λ (z : TaskPath × Entry). z .1) p),
     λ w. in-cast (ap {B = TaskPath × Entry} (λ z. (q, z)) (sym (w .2))) (in-map {B = TaskPath × Entry} (λ (x : Named). (x .0, entryOf (x .1))) (w .1)),
   )
 
-  module _ (ss : List Step) (same : SameSet (recordOf k ss) (claimedRecord k)) where
-    pub used-line : (q : TaskPath) (m : ℕ) → Mem (q, m) ss ↔ ((l : NodeLine) × Mem (q, l) (claimedLines k) × (entryOf l ≡ used m))
+  module _ (ss : List Step) (same : SameSet (recordOf k ss) (claimedRecord (claimedNames k))) where
+    pub used-line : (q : TaskPath) (m : ℕ) → Mem (q, m) ss ↔ ((l : NodeLine) × Mem (q, l) (claimedNames k) × (entryOf l ≡ used m))
     used-line q m = Iff·trans (record-used ss q m) (Iff·trans (same (q, used m)) (entry-iff q (used m)))
 
-    pub left-are : LeftAre (claimedLines k) (occurrencesAfter ss)
-    left-are q a = Iff·trans (record-left ss q a) (Iff·trans (same (q, left a)) (Iff·trans (entry-iff q (left a)) (leaf-iff (claimedLines k) q a)))
+    pub left-are : LeftAre (claimedNames k) (occurrencesAfter ss)
+    left-are q a = Iff·trans (record-left ss q a) (Iff·trans (same (q, left a)) (Iff·trans (entry-iff q (left a)) (leaf-iff (claimedNames k) q a)))

@@ -4,19 +4,17 @@ use mathlib.Core.Path.{_≡_, refl, sym, _∙_, ap, subst, fun-ext}
 use mathlib.Core.List.{List, [], _∷_, _++_, map, flatten, append-assoc, append-nil}
 use mathlib.Core.List.{List·Memᴰ as Mem, List·Memᴰ·head as here, Memᴰ·append-left as in-left, List·Memᴰ·append-cases as in-cases, List·Memᴰ·cases-cons as cases-cons, List·Memᴰ·eq-of-singleton as in-single, List·Memᴰ·not-nil as not-nil}
 use mathlib.Core.Logic.{_≢_, ⊎-elim}
-use mathlib.Core.Bool.{Bool, true, false, cond, _&&_, not, false≢true}
+use mathlib.Core.Bool.{Bool, true, false, cond, _&&_}
 use Prim.Native.Nat.{ℕ, suc, _<_}
 use native.Mathlib.Omega.{arith}
 use lib.Dec.{eqb}
-use lib.ListN.{length}
-use Rattle.rules.specs.Index.{Span, at, ofCue, ofGap, least, greatest, hull, Part, whole, members, pick, spanOfPart}
+use Rattle.rules.specs.Index.{Span, at, ofCue, ofGap, least, greatest, hull, Part, whole, those, pick, spanOfPart}
 use Rattle.rules.specs.Case.{methodAt, D, Case}
-use Rattle.rules.specs.Tree.{Tree, leaf, empty, task, Trees, noTree, more, rootLine, span, spans, subtaskSpans, noSubtasks, fits}
+use Rattle.rules.specs.Tree.{Tree, leaf, empty, task, Trees, noTree, more, rootLine, span, spans, subtaskSpans}
 use Rattle.rules.specs.Constraint.{partsOf}
-use Rattle.rules.specs.Rules.{FitsTask, FitsTasks}
+use Rattle.rules.specs.Rules.{Fits, FitsTask, FitsTasks}
 use Rattle.rules.specs.Rewriting.{TaskPath, Place, cue, gap, placeOf, placesOf, indexOf, isInPart, indexesIn, spanIn}
 use Rattle.rules.proofs.Rewritings.Lists.{eqb-reflects, sure-reflects, never-reflects, mem-cond}
-use Rattle.rules.proofs.Rewritings.Lines.{fits-task}
 use Rattle.rules.proofs.Rewritings.Trees.{Node, below, nodes, nodesFrom, linesAt, below-from, from-path, fits-node}
 use Rattle.rules.proofs.Rewritings.Extremes.{Extreme, Filled, best-flatten, least-extreme, greatest-extreme}
 
@@ -78,7 +76,7 @@ at-below-other : (j : ℕ) (l : List Node) (i : ℕ) (q : TaskPath) (part : Part
 at-below-other j l i q part n = at-below j l i q part ∙ ap (λ b. cond b (indexesAt l q part) []) (never-reflects (eqb-reflects i j) n)
 
 -- From the path of the task itself, some of its subtasks or the whole.
-at-below-members : (j : ℕ) (l : List Node) (b : ℕ → Bool) → indexesAt (below j l) [] (members b) ≡ cond (b j) (indexesAt l [] whole) []
+at-below-members : (j : ℕ) (l : List Node) (b : ℕ → Bool) → indexesAt (below j l) [] (those b) ≡ cond (b j) (indexesAt l [] whole) []
 unfolding isInPart
 at-below-members j [] b = sym (cond-none (b j))
 at-below-members j (x ∷ l) b = rw (at-below-members j l b) (cond-append (b j) (ownIndexes (x .1)) (indexesAt l [] whole))
@@ -141,11 +139,11 @@ unfolding flatten
 flatten-cond true l ls = refl
 flatten-cond false l ls = refl
 
-at-members : (b : ℕ → Bool) (j : ℕ) (ts : Trees) → indexesAt (nodesFrom j ts) [] (members b) ≡ flatten (chosen b j ts)
+at-members : (b : ℕ → Bool) (j : ℕ) (ts : Trees) → indexesAt (nodesFrom j ts) [] (those b) ≡ flatten (chosen b j ts)
 unfolding nodesFrom flatten
 at-members b j noTree = refl
 at-members b j (more t ts) =
-    at-append (below j (nodes t)) (nodesFrom (suc j) ts) [] (members b)
+    at-append (below j (nodes t)) (nodesFrom (suc j) ts) [] (those b)
     ∙ rw (at-below-members j (nodes t) b, at-members b (suc j) ts) (flatten-cond (b j) (indexes t) (chosen b (suc j) ts))
 
 at-whole : (j : ℕ) (ts : Trees) → indexesAt (nodesFrom j ts) [] whole ≡ flatten (chosen all j ts)
@@ -160,9 +158,9 @@ pick-all j [] = refl
 pick-all j (s ∷ l) = ap (λ z. s ∷ z) (pick-all (suc j) l)
 
 module _ (k : Case) where
-  has-subtasks : (m t : ℕ) → fits k (D m) t ≡ true → methodAt (k .methods) m .subtasks ≢ []
-  unfolding noSubtasks
-  has-subtasks m t f e = false≢true (ap (λ ts. not (eqb (length ts) 0)) (sym e) ∙ fits-task k m t f .1)
+  has-subtasks : (m t : ℕ) → Fits k (D m) t → methodAt (k .methods) m .subtasks ≡ [] → ⊥
+  unfolding Fits
+  has-subtasks m t f e = f .1 e
 
   -- A tree that fits has an index.
   mutual
@@ -215,9 +213,9 @@ module _ (k : Case) where
     side-part : (t : Tree) (u : ℕ) → FitsTask k t u → (part : Part) → best (indexesAt (nodes t) [] part) ≡ side (partsOf t part)
     unfolding partsOf spanOfPart subtaskSpans FitsTask nodes isInPart pick
     side-part t u f whole = sym (side-tree t u f)
-    side-part (leaf a i) u f (members b) = sym (hulled [])
-    side-part (empty m g) u f (members b) = sym (hulled [])
-    side-part (task m ts) u f (members b) =
+    side-part (leaf a i) u f (those b) = sym (hulled [])
+    side-part (empty m g) u f (those b) = sym (hulled [])
+    side-part (task m ts) u f (those b) =
         let us = methodAt (k .methods) m .subtasks in
         ap best (at-members b 0 ts) ∙ best-flatten best x (chosen b 0 ts) (chosen-filled b 0 ts us (f .1)) ∙ ap best (sym (side-chosen b 0 ts us (f .1)))
         ∙ sym (hulled (pick b 0 (spans ts)))

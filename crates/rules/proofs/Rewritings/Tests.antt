@@ -10,7 +10,8 @@ use native.Mathlib.Omega.{arith}
 use native.Mathlib.Decide.{ℕ-discrete}
 use lib.Dec.{eqb}
 use Rattle.rules.specs.Rewriting.{TaskPath, samePath, Entry, used, left, SameSet}
-use Rattle.rules.proofs.Rewritings.Lists.{and-both, Reflects, holds, fails, eqb-reflects}
+use Rattle.rules.proofs.Judgement.Each.{both-true}
+use Rattle.rules.proofs.Rewritings.Lists.{Reflects, holds, fails, eqb-reflects}
 use Rattle.rules.proofs.Rewritings.Paths.{path-reflects}
 use Rattle.rules.proofs.Rewritings.Records.{used-inj, left-inj, used≢left}
 
@@ -22,8 +23,8 @@ all f (x ∷ l) = f x && all f l
 
 pub all-sure : {A : Type 0} (f : A → Bool) (l : List A) → all f l ≡ true → (x : A) → Mem x l → f x ≡ true
 all-sure f [] e x h = absurd (not-nil h)
-all-sure f (y ∷ l) e x (here p) = ap f p ∙ and-both (f y) (all f l) e .0
-all-sure f (y ∷ l) e x (there h) = all-sure f l (and-both (f y) (all f l) e .1) x h
+all-sure f (y ∷ l) e x (here p) = ap f p ∙ both-true (f y) (all f l) e .0
+all-sure f (y ∷ l) e x (there h) = all-sure f l (both-true (f y) (all f l) e .1) x h
 
 abbrev pub allBelow : ℕ → (ℕ → Bool) → Bool
 allBelow zero f = true
@@ -32,7 +33,7 @@ allBelow (suc n) f = f n && allBelow n f
 pub below-sure : (n : ℕ) (f : ℕ → Bool) → allBelow n f ≡ true → (i : ℕ) → i < n → f i ≡ true
 below-sure zero f e i b = absurd (omega arith)
 below-sure (suc n) f e i b =
-    let (u, v) = and-both (f n) (allBelow n f) e in
+    let (u, v) = both-true (f n) (allBelow n f) e in
     by-cases (ℕ-discrete i n) (λ p. ap f p ∙ u) (λ p. below-sure n f v i (omega arith))
 
 -- ---- Sets

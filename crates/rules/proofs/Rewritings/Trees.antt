@@ -10,7 +10,8 @@ use native.Mathlib.Nat.{le-refl}
 use Rattle.rules.specs.Case.{methodAt, NodeLine, D, E, L, Case}
 use Rattle.rules.specs.Tree.{Tree, leaf, empty, task, Trees, noTree, more, preorder, preorders, rootLine}
 use Rattle.rules.specs.Rules.{FitsTask, FitsTasks}
-use Rattle.rules.specs.Rewriting.{TaskPath, Occurrence, subtasksOf, subtasksAfter, named}
+use Rattle.rules.specs.Rewriting.{TaskPath, Occurrence, subtasksOf, subtasksAfter}
+use Rattle.rules.proofs.Rewritings.Statement.{lineNames}
 use Rattle.rules.proofs.Rewritings.Records.{Named}
 use Rattle.rules.proofs.Rewritings.Lines.{waiting, FitLines}
 
@@ -170,18 +171,18 @@ module _ (k : Case) where
         rw (map-append, append-assoc) (tree-fit x (q ++ (j ∷ []), t) (map rootLine (preorders xs) ++ ls) (subtasksOf q (suc j) ts ++ os) (f .0) (trees-fit xs q (suc j) ts ls os (f .1) g))
 
   mutual
-    unfolding named FitsTask nodes preorder rootLine subtasksOf subtasksAfter
+    unfolding lineNames FitsTask nodes preorder rootLine subtasksOf subtasksAfter
 
     pub named-tree : (x : Tree) (o : Occurrence) (ls : List NodeLine) (os : List Occurrence) → FitsTask k x (o .1)
-        → named k (map rootLine (preorder x) ++ ls) (o ∷ os) ≡ linesAt (o .0) (nodes x) ++ named k ls os
-    named-tree (leaf a i) o ls os f = ap (λ q. (q, L a i) ∷ named k ls os) (sym (append-nil (o .0)))
-    named-tree (empty m g) o ls os f = ap (λ q. (q, E m g) ∷ named k ls os) (sym (append-nil (o .0)))
+        → lineNames k (map rootLine (preorder x) ++ ls) (o ∷ os) ≡ linesAt (o .0) (nodes x) ++ lineNames k ls os
+    named-tree (leaf a i) o ls os f = ap (λ q. (q, L a i) ∷ lineNames k ls os) (sym (append-nil (o .0)))
+    named-tree (empty m g) o ls os f = ap (λ q. (q, E m g) ∷ lineNames k ls os) (sym (append-nil (o .0)))
     named-tree (task m ts) o ls os f =
         ap (λ l. (o .0, D m) ∷ l) (named-trees ts (o .0) 0 (methodAt (k .methods) m .subtasks) ls os (f .1))
-        ∙ ap (λ q. (q, D m) ∷ (linesAt (o .0) (nodesFrom 0 ts) ++ named k ls os)) (sym (append-nil (o .0)))
+        ∙ ap (λ q. (q, D m) ∷ (linesAt (o .0) (nodesFrom 0 ts) ++ lineNames k ls os)) (sym (append-nil (o .0)))
 
     named-trees : (xs : Trees) (q : TaskPath) (j : ℕ) (ts : List ℕ) (ls : List NodeLine) (os : List Occurrence) → FitsTasks k xs ts
-        → named k (map rootLine (preorders xs) ++ ls) (subtasksOf q j ts ++ os) ≡ linesAt q (nodesFrom j xs) ++ named k ls os
+        → lineNames k (map rootLine (preorders xs) ++ ls) (subtasksOf q j ts ++ os) ≡ linesAt q (nodesFrom j xs) ++ lineNames k ls os
     named-trees noTree q j [] ls os f = refl
     named-trees noTree q j (t ∷ ts) ls os f = absurd f
     named-trees (more x xs) q j [] ls os f = absurd f

@@ -1,4 +1,4 @@
--- Each read is below the last word; the two tests are the definition's. Assumes nothing.
+-- Each found (is, below, the) last word; the two tests are the definition's. Assumes nothing.
 use mathlib.Core.Path.{sym, _∙_}
 use Rattle.rules.specs.State.{wordCount, word}
 use Rattle.state.proofs.Tests.{none-lacking, some-lacking}

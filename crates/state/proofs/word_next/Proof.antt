@@ -1,4 +1,4 @@
--- Each read is below the last word; the operations are the definition's. Assumes nothing.
+-- Each found (is, below, the) last word; the operations are the definition's. Assumes nothing.
 use Rattle.rules.specs.State.{wordCount, nextWord}
 use borrow.Author.Needs.{needs}
 use Rattle.state.proofs.word_next.Statement.{statement}

@@ -46,10 +46,11 @@ use Rattle.rules.specs.declared.Node.{Node}
 use Rattle.rules.specs.declared.Answer.{Answer}
 use Rattle.rules.specs.Tree.{Tree}
 use Rattle.rules.specs.Verdict.{Found, check as checked, checkLists, answerOf, statesAfter, workAfter, reported}
+use Rattle.rules.specs.Demands.{lentBy}
 use Rattle.rules.proofs.Demands.{demand-2, demand-3}
 use Rattle.records.specs.Records.{upTo, RecordsHeld}
 use Rattle.verdict.specs.Nodes.{nodeFrom}
-use Rattle.verdict.proofs.Clauses.{says-6}
+use Rattle.verdict.proofs.Clauses.{says-3}
 use Rattle.verdict.proofs.Records.{records-filled}
 use Rattle.verdict.proofs.Again.{LentAgain, lends-again, comes-back, LentShared, lends-shared, shared-back}
 use Rattle.rules.proofs.Node as T
@@ -168,11 +169,11 @@ module _ {M : Type 1} (𝓤 : URA M) (H : Heap 𝓤) (A : Atoms 𝓤) (W : Given
 
   exits : (v : Val) (us : List ℕ) → RecordsHeld found us → length ss′ ≡ length (xs .now) → length (ns′ us) ≡ n → length (zeros ws) ≡ length ws
       → ent 𝓤 (⋆ 𝓤 H A (‵ (flft κt qt) ∷ ‵ (flft κs qs) ∷ ‵ (flft κn qn) ∷ ‵ (flft κw qw) ∷ ‵ OwnT ∷ ‵ (finally u64 (xs .name) ss′) ∷ ‵ (finally T.the-row (xn .name) (ns′ us)) ∷ ‵ (finally u32 γ (zeros ws)) ∷ ‵ (S.the-row .own ans (v ∷ [])) ∷ [])) (Post v)
-  unfolding workAfter
+  unfolding workAfter lentBy
   exits v us held ls ln lw =
       qed W (‵ (flft κt qt) ∷ ‵ (flft κs qs) ∷ ‵ (flft κn qn) ∷ ‵ (flft κw qw) ∷ ‵ OwnT ∷ ‵ (finally u64 (xs .name) ss′) ∷ ‵ (finally T.the-row (xn .name) (ns′ us)) ∷ ‵ (finally u32 γ (zeros ws)) ∷ ‵ (S.the-row .own ans (v ∷ [])) ∷ []) ∵
       suffices ! _ (ends-at 𝓤 H A check′.ended stayed (check′.clauses 𝓤 H A mem run) W (((κt, (κs, (κn, (κw, tt)))), (qt, (qs, (qn, (qw, tt)))), tt, a, vals), tt) v ans (tt, (ss′, (ns′ us, (zeros ws, tt)))) (tt, (ls, (ln, (lw, tt))))) $
-      says-6 ! refl refl (records-filled (length (xs .now)) n (length ws) (t .now) us held) refl (demand-2 (checkLists (length (xs .now)) n (length ws)) (t .now)) (demand-3 (checkLists (length (xs .now)) n (length ws)) (t .now)) $
+      says-3 ! (record { answer = refl; states = refl; nodes = records-filled (length (xs .now)) n (length ws) (t .now) us held; work = refl }) (demand-2 (t .now) (checkLists (length (xs .now)) n (length ws))) (demand-3 (t .now) (checkLists (length (xs .now)) n (length ws))) $
       nothing ! $ move ! (1 ∷ 2 ∷ 3 ∷ 4 ∷ 0 ∷ []) $ group ! 5 $ frame ! $
       nothing ! $ move ! (4 ∷ 0 ∷ []) $ fjoin ! $ move ! (3 ∷ 0 ∷ []) $ fjoin ! $ move ! (2 ∷ 0 ∷ []) $ fjoin ! $ move ! (1 ∷ 0 ∷ []) $ fjoin ! $ done !
 

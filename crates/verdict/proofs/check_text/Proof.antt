@@ -43,8 +43,9 @@ use denote.Exit.{yes}
 use denote.Signature.{plain}
 use Rattle.rules.specs.declared.Node.{Node}
 use Rattle.rules.specs.declared.Answer.{Answer}
-use Rattle.rules.specs.Verdict.{check as checked, checkLists, answerOf}
-use Rattle.rules.specs.Demands.{Demand2, Demand3}
+use Rattle.rules.specs.State.{wordCount}
+use Rattle.rules.specs.Verdict.{check as checked, checkLists, answerOf, stateNeed, nodeNeed, workNeed, reported}
+use Rattle.rules.specs.Demands.{asAsked, Demand2, Demand3}
 use Rattle.rules.proofs.Demands.{demand-2, demand-3}
 use Rattle.verdict.proofs.Clauses.{says-3}
 use Rattle.verdict.proofs.CheckCall.{ans, Check, to-check, goes-check, Gave, check-gives}
@@ -94,6 +95,11 @@ long-enough s n w x text =
     ∙ ap (λ (m : ℕ). answerOf (checked (checkLists s m (length (replicate {A = ℕ} w 0))) text)) (length-replicate n x)
     ∙ ap (λ (m : ℕ). answerOf (checked (checkLists s n m) text)) (length-replicate w 0)
 
+enough : (x : Node) (text : List ℕ)
+    → answerOf (checked (checkLists (length (replicate {A = ℕ} 4004 0)) (length (replicate 3000 x)) (length (replicate {A = ℕ} 16384 0))) text) ≡ answerOf (checked asAsked text)
+unfolding asAsked stateNeed nodeNeed workNeed wordCount
+enough x text = long-enough 4004 3000 16384 x text
+
 module _ {M : Type 1} (𝓤 : URA M) (H : Heap 𝓤) (A : Atoms 𝓤) (W : Given 𝓤 H A) (mem : Memory → SProp 𝓤) (run : Routine → Fun 𝓤) (κ : Lft) (q : Share) (t : RefT (List ℕ)) where
   abbrev vt : Val
   vt = sliceVal (t .ptr) (length (t .now))
@@ -104,11 +110,11 @@ module _ {M : Type 1} (𝓤 : URA M) (H : Heap 𝓤) (A : Atoms 𝓤) (W : Given
   abbrev Post : Val → SProp 𝓤
   Post = walkOf 𝓤 H A text.ended stayed (text.clauses 𝓤 H A mem run) .post (((κ, tt), (q, tt), tt, (t, tt), (vt ∷ [], tt)), tt)
 
-  exits : (r : Answer) (v : Val) → r ≡ answerOf (checked (checkLists 4004 3000 16384) (t .now)) → ent 𝓤 (⋆ 𝓤 H A (‵ (S.the-row .own r (v ∷ [])) ∷ ‵ (flft κ q) ∷ ‵ OwnT ∷ [])) (Post v)
+  exits : (r : Answer) (v : Val) → r ≡ answerOf (checked asAsked (t .now)) → ent 𝓤 (⋆ 𝓤 H A (‵ (S.the-row .own r (v ∷ [])) ∷ ‵ (flft κ q) ∷ ‵ OwnT ∷ [])) (Post v)
   exits r v e =
       qed W (‵ (S.the-row .own r (v ∷ [])) ∷ ‵ (flft κ q) ∷ ‵ OwnT ∷ []) ∵
       suffices ! _ (ends-at 𝓤 H A text.ended stayed (text.clauses 𝓤 H A mem run) W (((κ, tt), (q, tt), tt, (t, tt), (vt ∷ [], tt)), tt) v r (tt, tt) (tt, tt)) $
-      says-3 ! e (subst (Demand2 (checkLists 4004 3000 16384) (t .now)) (sym e) (demand-2 (checkLists 4004 3000 16384) (t .now))) (subst (Demand3 (checkLists 4004 3000 16384) (t .now)) (sym e) (demand-3 (checkLists 4004 3000 16384) (t .now))) $
+      says-3 ! (ap reported e) (subst (λ (y : Answer). Demand2 (t .now) asAsked (reported y)) (sym e) (demand-2 (t .now) asAsked)) (subst (λ (y : Answer). Demand3 (t .now) asAsked (reported y)) (sym e) (demand-3 (t .now) asAsked)) $
       nothing ! $ move ! (2 ∷ 0 ∷ []) $ join ! $ frame ! $ nothing ! $ move ! (2 ∷ 0 ∷ []) $ fjoin ! $ done !
 
   -- the lists that are lent
@@ -168,7 +174,7 @@ module _ {M : Type 1} (𝓤 : URA M) (H : Heap 𝓤) (A : Atoms 𝓤) (W : Given
         returns ! (look ! 25 refl) $ forget ! 6 refl $ forget ! 8 refl $ forget ! 10 refl $ forget ! 12 refl $ forget ! 14 refl $ forget ! 16 refl $ forget ! 18 refl $ forget ! 23 refl $ forget ! 25 refl $
         move ! (25 ∷ 26 ∷ []) $ free1 ! $ move ! (23 ∷ 24 ∷ []) $ free1 ! $ move ! (0 ∷ 22 ∷ []) $ free1 ! $ move ! (0 ∷ 20 ∷ []) $ free1 ! $ move ! (0 ∷ 18 ∷ []) $ free1 ! $
         move ! (15 ∷ 16 ∷ []) $ free1 ! $ move ! (13 ∷ 14 ∷ []) $ free1 ! $ move ! (11 ∷ 12 ∷ []) $ free1 ! $ move ! (9 ∷ 10 ∷ []) $ free1 ! $ move ! (7 ∷ 8 ∷ []) $ free1 ! $ move ! (5 ∷ 6 ∷ []) $ free1 ! $ move ! (3 ∷ 4 ∷ []) $ free1 ! $ free0 ! $
-        by ! (exits (ans (t, (states l₂ γs, (nodes l₃ γn, (work l₄ γw, tt))))) v (long-enough 4004 3000 16384 zeroNode (t .now))))))))))))))))))))))))
+        by ! (exits (ans (t, (states l₂ γs, (nodes l₃ γn, (work l₄ γw, tt))))) v (enough zeroNode (t .now))))))))))))))))))))))))
 
 module _ {M : Type 1} (𝓤 : URA M) (H : Heap 𝓤) (A : Atoms 𝓤) (W : Given 𝓤 H A) (mem : Memory → SProp 𝓤) (run : Routine → Fun 𝓤) where
   text-walks : (C : Calls 𝓤 H) (Λ : Loops 𝓤 H) → FmC 𝓤 H (W .laws) C → Triple 𝓤 (C #verdict·check) (Check 𝓤 H A mem run)

@@ -29,7 +29,7 @@ enum-known-answer c = search needs
 returns : tie.Need-returns
 returns c =
     sym (no-records (c .before .args .answer)
-    (λ w. not-zero 0 later (subst (λ (a : Answer). OneOf (map suc (0 ∷ later)) (tagOf S.the-type a)) (w .2) (c .match .keys2))))
+    (λ cues nodes e. not-zero 0 later (subst (λ (a : Answer). OneOf (map suc (0 ∷ later)) (tagOf S.the-type a)) e (c .match .keys2))))
 
 cast-result : tie.Need-cast-result
 cast-result c = search needs

@@ -1,7 +1,7 @@
 -- `holds_from`: the test of all states from the first is that of those from here on. Assumes nothing.
 use Prim.Native.Nat.{ℕ, _+_, _-_, _≤_}
 use Rattle.index.proofs.Ranges.{number-fits}
-use Rattle.index.specs.Spans.{numberOf}
+use Rattle.index.specs.Spans.{stateOf}
 use Rattle.parts.proofs.states.holds_from.Statement.{statement}
 use Rattle.parts.proofs.states.holds_from.Tie as tie
 use Rattle.parts.specs.States.{inRow}
@@ -15,11 +15,11 @@ use native.Mathlib.Omega.{arith}
 
 abbrev Inv-loop : tie.InvT-loop
 Inv-loop states p past l₀ l =
-    (numberOf l₀ ≤ numberOf l)
-    × (holdsFrom (inRow states) p (numberOf l₀) (numberOf past) ≡ every (numberOf past - numberOf l) (numberOf l) (λ i. inRow states p i))
+    (stateOf l₀ ≤ stateOf l)
+    × (holdsFrom (inRow states) p (stateOf l₀) (stateOf past) ≡ every (stateOf past - stateOf l) (stateOf l) (λ i. inRow states p i))
 
 abbrev μ-loop : tie.MeasureT-loop
-μ-loop states p past l₀ l = numberOf past - numberOf l
+μ-loop states p past l₀ l = stateOf past - stateOf l
 
 loop-holds : tie.Need-loop-holds Inv-loop μ-loop
 unfolding holdsFrom
@@ -32,7 +32,7 @@ holds-at-requires : tie.Need-holds-at-requires Inv-loop μ-loop
 unfolding wordCount
 holds-at-requires c κs =
     let s = c .before .before .before .before in
-    let less = ltb-true (numberOf (c .before .before .loop .l)) (numberOf (s .args .past)) (sym (c .before .is-less .ensures) ∙ c .if1 .taken) in
+    let less = ltb-true (stateOf (c .before .before .loop .l)) (stateOf (s .args .past)) (sym (c .before .is-less .ensures) ∙ c .if1 .taken) in
     omega (arith, s .pre)
 
 returns : tie.Need-returns Inv-loop μ-loop
@@ -40,8 +40,8 @@ unfolding inRow
 returns c =
     let a = c .before .before .before .before .before .before .args in
     let l = c .before .before .before .before .loop in
-    let n = numberOf (l .l) in
-    let m = numberOf (a .past) in
+    let n = stateOf (l .l) in
+    let m = stateOf (a .past) in
     let less = ltb-true n m (sym (c .before .before .before .is-less .ensures) ∙ c .before .before .if1 .taken) in
     sym (l .inv .1 ∙ every-fails (m - n) (m - (n + 1)) n (λ i. inRow (a .states .now) (a .p) i) (omega arith)
     (sym (c .before .holds-at .ensures) ∙ not-true (c .before .holds-at .result) (c .if2 .taken)))
@@ -49,15 +49,15 @@ returns c =
 next-requires : tie.Need-next-requires Inv-loop μ-loop
 next-requires c κs =
     let s = c .before .before .before .before .before .before in
-    let less = ltb-true (numberOf (c .before .before .before .before .loop .l)) (numberOf (s .args .past)) (sym (c .before .before .before .is-less .ensures) ∙ c .before .before .if1 .taken) in
+    let less = ltb-true (stateOf (c .before .before .before .before .loop .l)) (stateOf (s .args .past)) (sym (c .before .before .before .is-less .ensures) ∙ c .before .before .if1 .taken) in
     let few = number-fits (s .args .past) _ (s .good .1 .1 .1 .0) in
     omega arith
 
 loop-less : tie.Need-loop-less Inv-loop μ-loop
 loop-less c =
     let a = c .before .before .before .before .before .before .before .args in
-    let n = numberOf (c .before .before .before .before .before .loop .l) in
-    let less = ltb-true n (numberOf (a .past)) (sym (c .before .before .before .before .is-less .ensures) ∙ c .before .before .before .if1 .taken) in
+    let n = stateOf (c .before .before .before .before .before .loop .l) in
+    let less = ltb-true n (stateOf (a .past)) (sym (c .before .before .before .before .is-less .ensures) ∙ c .before .before .before .if1 .taken) in
     omega (arith, c .next .ensures)
 
 loop-again : tie.Need-loop-again Inv-loop μ-loop
@@ -65,8 +65,8 @@ unfolding inRow
 loop-again c =
     let a = c .before .before .before .before .before .before .before .args in
     let l = c .before .before .before .before .before .loop in
-    let n = numberOf (l .l) in
-    let m = numberOf (a .past) in
+    let n = stateOf (l .l) in
+    let m = stateOf (a .past) in
     let less = ltb-true n m (sym (c .before .before .before .before .is-less .ensures) ∙ c .before .before .before .if1 .taken) in (
       omega (arith, c .next .ensures),
       l .inv .1 ∙ every-next (m - n) (m - (n + 1)) n (λ i. inRow (a .states .now) (a .p) i) (omega arith)
@@ -78,8 +78,8 @@ returns-2 : tie.Need-returns-2 Inv-loop μ-loop
 returns-2 c =
     let a = c .before .before .before .before .args in
     let l = c .before .before .loop in
-    let n = numberOf (l .l) in
-    let m = numberOf (a .past) in
+    let n = stateOf (l .l) in
+    let m = stateOf (a .past) in
     let over = ltb-false n m (sym (c .before .is-less .ensures) ∙ c .if1 .left) in
     sym (l .inv .1 ∙ every-none (m - n) n (λ i. inRow (a .states .now) (a .p) i) (omega arith))
 

@@ -5,7 +5,7 @@ use Rattle.replay.proofs.again.next_set.Statement.{statement}
 use Rattle.replay.proofs.again.next_set.Tie as tie
 use Rattle.replay.specs.Again.{membersAgain, setAgain}
 use Rattle.reading.specs.declared.again.Numbered.{Numbered}
-use Rattle.rules.specs.State.{wordCount, empty, insert}
+use Rattle.rules.specs.State.{wordCount, noPropositions, insert}
 use borrow.Author.Needs.{needs}
 use lib.ListN.{length, length-set}
 use mathlib.Core.Path.{_≡_, refl, sym, ap, _∙_}
@@ -58,14 +58,14 @@ loop-again c =
     )
 
 returns : tie.Need-returns Inv-loop μ-loop
-unfolding setAgain empty wordCount
+unfolding setAgain noPropositions wordCount
 returns c =
     let a = c .before .before .before .before .before .before .args in
     let n = c .before .before .before .before .number-again .result in
     let l = c .before .before .loop in
     let none : n .value - l .i ≡ 0 = omega arith in
     sym (put-end (a .text .now) (n .value - l .i) (l .words) (l .at) none) ∙ sym (l .inv .2)
-    ∙ ap (λ (x : Numbered). membersAgain (a .text .now) (x .value) empty (x .next)) (c .before .before .before .before .number-again .ensures)
+    ∙ ap (λ (x : Numbered). membersAgain (a .text .now) (x .value) noPropositions (x .next)) (c .before .before .before .before .number-again .ensures)
 
 pub next-set-spec : {M : Type 1} → statement M
 next-set-spec =

@@ -4,7 +4,7 @@ use Rattle.replay.proofs.Calls.{refuses, text-long, short-states, short
 use Rattle.replay.proofs.call.replay.Statement.{statement}
 use Rattle.replay.proofs.call.replay.Tie as tie
 use Rattle.rules.specs.State.{wordCount}
-use Rattle.rules.specs.Verdict.{stateNeed, workNeed, textMost, replayLists, replay, answerOf, statesAfter, workAfter}
+use Rattle.rules.specs.Verdict.{stateNeed, workNeed, textMost, replayLists, replay, answerOf, statesAfter, workAfter, reported}
 use Rattle.rules.specs.declared.Answer.the-variants.{ShortList, LongText}
 use borrow.Author.Needs.{needs}
 use lib.ListN.{length, replicate}
@@ -35,7 +35,7 @@ returns c =
     let kept : length (c .before .before .before .before .before .before .before .clear .last .0) ≡ s = c .before .before .before .before .before .before .before .clear .kept .0 in
     let short : s < stateNeed = omega (arith, c .if1 .taken) in
     let r = refuses s (replay (replayLists s w) (a .text .now)) (ShortList 1) (short-states (a .text .now) s w short) in
-    (r .0, (c .before .before .before .before .before .before .before .clear .ensures ∙ r .1, c .before .before .before .clear-work .ensures))
+    record { answer = ap reported (r .0); filled = c .before .before .before .before .before .before .before .clear .ensures ∙ r .1; zero = c .before .before .before .clear-work .ensures }
 
 same-length-3 : tie.Need-same-length-3
 same-length-3 c = search needs
@@ -54,7 +54,7 @@ returns-2 c =
     let long : stateNeed ≤ s = omega (arith, c .before .if1 .left) in
     let short : w < workNeed = omega (arith, c .if2 .taken) in
     let r = refuses s (replay (replayLists s w) (a .text .now)) (ShortList 3) (short-work (a .text .now) s w long short) in
-    (r .0, (c .before .before .before .before .before .before .before .before .clear .ensures ∙ r .1, c .before .before .before .before .clear-work .ensures))
+    record { answer = ap reported (r .0); filled = c .before .before .before .before .before .before .before .before .clear .ensures ∙ r .1; zero = c .before .before .before .before .clear-work .ensures }
 
 same-length-5 : tie.Need-same-length-5
 same-length-5 c = search needs
@@ -74,7 +74,7 @@ returns-3 c =
     let long-too : workNeed ≤ w = omega (arith, c .before .if2 .left) in
     let over : textMost < length (a .text .now) = omega (arith, c .if3 .taken) in
     let r = refuses s (replay (replayLists s w) (a .text .now)) LongText (lists-long (a .text .now) s w long long-too ∙ text-long (a .text .now) over) in
-    (r .0, (c .before .before .before .before .before .before .before .before .before .clear .ensures ∙ r .1, c .before .before .before .before .before .clear-work .ensures))
+    record { answer = ap reported (r .0); filled = c .before .before .before .before .before .before .before .before .before .clear .ensures ∙ r .1; zero = c .before .before .before .before .before .clear-work .ensures }
 
 replay-lent-requires : tie.Need-replay-lent-requires
 unfolding stateNeed wordCount workNeed textMost
@@ -105,13 +105,12 @@ returns-4 c =
     let kept-too : length (c .before .before .before .before .before .before .before .before .before .before .before .before .before .before .before .before .clear-work .last .0) ≡ w = c .before .before .before .before .before .before .before .before .before .before .before .before .before .before .before .before .clear-work .kept .0 in
     let long : stateNeed ≤ s = omega (arith, c .before .before .before .before .before .before .before .before .before .before .before .before .before .if1 .left) in
     let long-too : workNeed ≤ w = omega (arith, c .before .before .before .before .before .before .before .before .before .before .before .before .if2 .left) in
-    let same = lists-long (a .text .now) s w long long-too in (
-      c .before .before .before .before .before .before .before .before .replay-lent .ensures .0 ∙ ap answerOf (sym same),
-      (
-        c .before .before .before .before .before .before .before .before .replay-lent .ensures .1 ∙ (λ j. statesAfter (kept j) (sym same j)),
-        c .before .before .clear-work2 .ensures ∙ ap (λ (n : ℕ). replicate n 0) (c .before .before .before .before .before .before .before .before .replay-lent .kept .1 .1 .0 ∙ kept-too),
-      ),
-    )
+    let same = lists-long (a .text .now) s w long long-too in
+    record {
+      answer = ap reported (c .before .before .before .before .before .before .before .before .replay-lent .ensures .0 ∙ ap answerOf (sym same));
+      filled = c .before .before .before .before .before .before .before .before .replay-lent .ensures .1 ∙ (λ j. statesAfter (kept j) (sym same j));
+      zero = c .before .before .clear-work2 .ensures ∙ ap (λ (n : ℕ). replicate n 0) (c .before .before .before .before .before .before .before .before .replay-lent .kept .1 .1 .0 ∙ kept-too);
+    }
 
 pub replay-spec : {M : Type 1} → statement M
 replay-spec =

@@ -1,6 +1,6 @@
 -- `run`: the run from the start is the run from here (Reached). Assumes nothing.
 use Prim.Native.Nat.{ℕ, _-_, _<_, _≤_}
-use Rattle.index.specs.Spans.{numberOf}
+use Rattle.index.specs.Spans.{stateOf}
 use Rattle.replay.proofs.Reached.{plan-long, few-cues, cue-known, Reached, reached-none, due-known, reached-next, reached-stop, reached-all}
 use Rattle.replay.proofs.running.run.Statement.{statement}
 use Rattle.replay.proofs.running.run.Tie as tie
@@ -14,10 +14,10 @@ use mathlib.Core.Path.{sym, subst, _∙_}
 use native.Mathlib.Omega.{arith}
 
 abbrev Inv-loop : tie.InvT-loop
-Inv-loop text directory header states₀ at₀ s₀ l₀ states at s l = Reached text (caseOf text) states₀ at s states (numberOf l)
+Inv-loop text directory header states₀ at₀ s₀ l₀ states at s l = Reached text (caseOf text) states₀ at s states (stateOf l)
 
 abbrev μ-loop : tie.MeasureT-loop
-μ-loop text directory header states₀ at₀ s₀ l₀ states at s l = header .cues - numberOf l
+μ-loop text directory header states₀ at₀ s₀ l₀ states at s l = header .cues - stateOf l
 
 after-letter-requires : tie.Need-after-letter-requires Inv-loop μ-loop
 after-letter-requires c κs = search needs
@@ -58,7 +58,7 @@ take-cue-requires c κs =
     let a = c .before .before .before .before .before .before .before .before .before .before .before .before .before .before .before .args in
     let p = c .before .before .before .before .before .before .before .before .before .before .before .before .before .before .before .pre in
     let l = c .before .before .before .before .before .before .before .before .before .loop in
-    let i = numberOf (l .l) in
+    let i = stateOf (l .l) in
     let long = plan-long (a .text .now) (a .directory .now) (a .header) (p .0 .0) (a .plan .at) (p .0 .1) in
     let more : i < length (caseOf (a .text .now) .plan) = omega (arith, c .before .before .before .before .before .before .before .before .number .ensures, c .before .before .before .before .before .before .if1 .taken) in (
       (p .0 .0, a .plan .at, p .0 .1),
@@ -74,7 +74,7 @@ loop-again c =
     let a = c .before .before .before .before .before .before .before .before .before .before .before .before .before .before .before .before .before .before .before .args in
     let p = c .before .before .before .before .before .before .before .before .before .before .before .before .before .before .before .before .before .before .before .pre in
     let l = c .before .before .before .before .before .before .before .before .before .before .before .before .before .loop in
-    let i = numberOf (l .l) in
+    let i = stateOf (l .l) in
     let long = plan-long (a .text .now) (a .directory .now) (a .header) (p .0 .0) (a .plan .at) (p .0 .1) in
     let more : i < length (caseOf (a .text .now) .plan) = omega (arith, c .before .before .before .before .before .before .before .before .before .before .before .before .number .ensures, c .before .before .before .before .before .before .before .before .before .before .if1 .taken) in
     let cue = c .before .before .before .before .number-again in
@@ -95,7 +95,7 @@ returns c =
     let a = c .before .before .before .before .before .before .before .before .before .before .before .before .before .before .before .before .before .before .args in
     let p = c .before .before .before .before .before .before .before .before .before .before .before .before .before .before .before .before .before .before .pre in
     let l = c .before .before .before .before .before .before .before .before .before .before .before .before .loop in
-    let i = numberOf (l .l) in
+    let i = stateOf (l .l) in
     let long = plan-long (a .text .now) (a .directory .now) (a .header) (p .0 .0) (a .plan .at) (p .0 .1) in
     let more : i < length (caseOf (a .text .now) .plan) = omega (arith, c .before .before .before .before .before .before .before .before .before .before .before .number .ensures, c .before .before .before .before .before .before .before .before .before .if1 .taken) in
     let cue = c .before .before .before .number-again in
@@ -125,8 +125,8 @@ returns-2 c =
     let p = c .before .before .before .before .before .before .before .before .before .before .before .before .before .pre in
     let l = c .before .before .before .before .before .before .before .loop in
     let long = plan-long (a .text .now) (a .directory .now) (a .header) (p .0 .0) (a .plan .at) (p .0 .1) in
-    let over : length (caseOf (a .text .now) .plan) ≤ numberOf (l .l) = omega (arith, c .before .before .before .before .before .before .number .ensures, c .before .before .before .before .if1 .left) in
-    reached-all (a .text .now) (caseOf (a .text .now)) (a .states .now) (l .at) (l .s) (l .states) (numberOf (l .l)) (l .inv) (c .before .before .put-row2 .last .0) over (c .before .before .put-row2 .ensures)
+    let over : length (caseOf (a .text .now) .plan) ≤ stateOf (l .l) = omega (arith, c .before .before .before .before .before .before .number .ensures, c .before .before .before .before .if1 .left) in
+    reached-all (a .text .now) (caseOf (a .text .now)) (a .states .now) (l .at) (l .s) (l .states) (stateOf (l .l)) (l .inv) (c .before .before .put-row2 .last .0) over (c .before .before .put-row2 .ensures)
 
 pub run-spec : {M : Type 1} → statement M
 run-spec =
