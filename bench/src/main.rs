@@ -1,62 +1,76 @@
-//! Median times of the plain calls and, with the feature linked (see
-//! compare_check.rs for the command), of the linked ones in the same run, with the ratio.
+//! Median times of the two plain renderings' calls, the clear one's (plain) and the fast one's, and, with the feature
+//! linked (see compare_check.rs for the command), of the linked ones in the same run.
 //!
 //! bench [ROUNDS [CASE]]
 
 use harness::gen::{extremes, Weave};
 use harness::lists::{Lengths, Lists};
-use harness::plain::{self, Reply};
+use harness::plain::Reply;
+use harness::{fast, plain};
 use std::hint::black_box;
 use std::time::{Duration, Instant};
 
 /// A call on a text with lists of the length asked for.
 type Call = fn(&[u8], &mut Lists) -> Reply;
 
-const PLAIN: [Call; 2] = [
-    |text, lists| {
-        let (states, nodes, work) = lists.lend(Lengths::EXACT);
-        plain::check(text, states, nodes, work)
-    },
-    |text, lists| {
-        let (states, _, work) = lists.lend(Lengths::EXACT);
-        plain::replay(text, states, work)
-    },
-];
+/// The check or the replay call of one rendering.
+macro_rules! call {
+    ($rendering:ident check) => {
+        |text, lists| {
+            let (states, nodes, work) = lists.lend(Lengths::EXACT);
+            $rendering::check(text, states, nodes, work)
+        }
+    };
+    ($rendering:ident replay) => {
+        |text, lists| {
+            let (states, _, work) = lists.lend(Lengths::EXACT);
+            $rendering::replay(text, states, work)
+        }
+    };
+}
 
 #[cfg(feature = "linked")]
-const LINKED: [Option<Call>; 2] = [
-    Some(|text, lists| {
-        let (states, nodes, work) = lists.lend(Lengths::EXACT);
-        cuecheck::check(text, states, nodes, work)
-    }),
-    Some(|text, lists| {
-        let (states, _, work) = lists.lend(Lengths::EXACT);
-        cuecheck::replay(text, states, work)
-    }),
+const RENDERINGS: &[&str] = &["plain", "fast", "linked"];
+#[cfg(feature = "linked")]
+const CALLS: [&[Call]; 2] = [
+    &[call!(plain check), call!(fast check), call!(cuecheck check)],
+    &[call!(plain replay), call!(fast replay), call!(cuecheck replay)],
 ];
+
 #[cfg(not(feature = "linked"))]
-const LINKED: [Option<Call>; 2] = [None, None];
+const RENDERINGS: &[&str] = &["plain", "fast"];
+#[cfg(not(feature = "linked"))]
+const CALLS: [&[Call]; 2] = [&[call!(plain check), call!(fast check)], &[call!(plain replay), call!(fast replay)]];
+
+const LINKED: bool = cfg!(feature = "linked");
+const RATIO: &str = "; ratio is linked / the faster of plain and fast";
 
 fn main() {
     let rounds = std::env::args().nth(1).map_or(201, |n| n.parse().expect("a number of rounds"));
     let wanted = std::env::args().nth(2).unwrap_or_default();
-    println!("medians of {rounds} rounds in microseconds; ratio is linked / plain");
-    println!("{:<22}{:>7} {:>8} | {:<39} | replay", "case", "bytes", "answer", "check");
+    println!("medians of {rounds} rounds in microseconds{}", if LINKED { RATIO } else { "" });
+    let columns = columns(RENDERINGS.iter().map(|name| name.to_string()), "ratio".into());
+    println!("{:<20}{:>6} {:>6} | {:<width$} | replay", "", "", "", "check", width = columns.len());
+    println!("{:<20}{:>6} {:>6} | {columns} | {columns}", "case", "bytes", "answer");
     for (name, text) in cases().into_iter().filter(|(name, _)| name.starts_with(&wanted)) {
-        let answer = PLAIN[0](&text, &mut Lists::default());
-        let checks = times(&text, PLAIN[0], LINKED[0], rounds);
-        let replays = times(&text, PLAIN[1], LINKED[1], rounds);
-        println!("{name:<22}{:>7} {:>8} | {checks:<39} | {replays}", text.len(), answer.number);
+        let answer = CALLS[0][0](&text, &mut Lists::default()).number;
+        let [checks, replays] = CALLS.map(|calls| row(&medians(&text, calls, rounds)));
+        println!("{name:<20}{:>6} {answer:>6} | {checks} | {replays}", text.len());
     }
 }
 
 fn cases() -> Vec<(&'static str, Vec<u8>)> {
     vec![
+        ("four nodes", extremes::four_nodes().text()),
         ("60 cues, ordered", extremes::typical(60, 60, Weave::Ordered).text()),
         ("60 cues, woven", extremes::typical(61, 60, Weave::Woven).text()),
+        ("60 cues, mixed", extremes::mixed(60).text()),
         ("1000 cues, ordered", extremes::typical(1_000, 1_000, Weave::Ordered).text()),
         ("1000 cues, woven", extremes::typical(1_001, 1_000, Weave::Woven).text()),
+        ("1000 cues, mixed", extremes::mixed(1_000).text()),
         ("betweens", extremes::betweens().text()),
+        ("long betweens", extremes::long_betweens().text()),
+        ("befores and afters", extremes::befores_afters().text()),
         ("sets of 32", extremes::sets_of_32().text()),
         ("64 levels", extremes::levels_64().text()),
         ("32000 fields", extremes::fields_32000().text()),
@@ -64,21 +78,31 @@ fn cases() -> Vec<(&'static str, Vec<u8>)> {
     ]
 }
 
-/// The medians of both sides as one column. Rounds alternate, so that both sides meet the same
-/// weather.
-fn times(text: &[u8], plain: Call, linked: Option<Call>, rounds: usize) -> String {
+/// The renderings' columns of a call and, if one is linked, the ratio's.
+fn columns(renderings: impl Iterator<Item = String>, ratio: String) -> String {
+    let cells: String = renderings.map(|cell| format!("{cell:>9}")).collect();
+    if LINKED {
+        format!("{cells}{ratio:>7}")
+    } else {
+        cells
+    }
+}
+
+fn row(medians: &[f64]) -> String {
+    let ratio = medians.get(2).map_or(0.0, |linked| linked / medians[0].min(medians[1]));
+    columns(medians.iter().map(|median| format!("{median:.1}")), format!("{ratio:.2}"))
+}
+
+/// The median of each side. Rounds alternate, so that all sides meet the same weather.
+fn medians(text: &[u8], calls: &[Call], rounds: usize) -> Vec<f64> {
     let mut lists = Lists::default();
-    let mut taken = (Vec::new(), Vec::new());
+    let mut taken = vec![Vec::new(); calls.len()];
     for _ in 0..rounds {
-        taken.0.push(time(text, plain, &mut lists));
-        taken.1.extend(linked.map(|call| time(text, call, &mut lists)));
+        for (call, times) in calls.iter().zip(&mut taken) {
+            times.push(time(text, *call, &mut lists));
+        }
     }
-    let ours = median(&mut taken.0);
-    if taken.1.is_empty() {
-        return format!("plain {ours:>9.1}");
-    }
-    let theirs = median(&mut taken.1);
-    format!("plain {ours:>9.1} linked {theirs:>9.1} {:>6.2}", theirs / ours)
+    taken.iter_mut().map(|times| median(times)).collect()
 }
 
 fn time(text: &[u8], call: Call, lists: &mut Lists) -> Duration {

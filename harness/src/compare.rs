@@ -2,15 +2,27 @@
 
 use crate::gen::Inputs;
 use crate::lists::{Dirt, Lengths, Lists};
-use crate::plain::Reply;
+use crate::plain::{self, Reply};
+use std::collections::BTreeMap;
 
 /// One side: a call on a text and the lists lent in these lengths.
 pub type Call = fn(&[u8], &mut Lists, Lengths) -> Reply;
 
+pub const PLAIN_CHECK: Call = |text, lists, lengths| {
+    let (states, nodes, work) = lists.lend(lengths);
+    plain::check(text, states, nodes, work)
+};
+
+pub const PLAIN_REPLAY: Call = |text, lists, lengths| {
+    let (states, _, work) = lists.lend(lengths);
+    plain::replay(text, states, work)
+};
+
 /// Runs the comparison that the arguments ask for: count, seed, and perhaps `trace`, which
 /// prints the number of each input first, to find one that brings the program down. Ends the
-/// program with 1 at the first difference.
-pub fn run(plain: Call, linked: Call) {
+/// program with 1 at the first difference; else gives back how often each answer came up, by
+/// number.
+pub fn run(plain: Call, other: Call, name: &str) -> BTreeMap<u32, u64> {
     let arguments: Vec<String> = std::env::args().skip(1).collect();
     let number = |at: usize| arguments.get(at).and_then(|n| n.parse().ok());
     let (Some(count), Some(seed)) = (number(0), number(1)) else {
@@ -20,6 +32,7 @@ pub fn run(plain: Call, linked: Call) {
     let traced = arguments.get(2).is_some_and(|word| word == "trace");
     let inputs = Inputs::new(seed);
     let mut sides = (Lists::default(), Lists::default());
+    let mut answers = BTreeMap::new();
     for number in 0..count {
         if traced {
             eprintln!("input {number}");
@@ -29,31 +42,36 @@ pub fn run(plain: Call, linked: Call) {
         // Once with lists of the length asked for, once with any.
         for lengths in [Lengths::EXACT, Lengths::draw(&mut rng)] {
             let dirt = Dirt::draw(&mut rng);
-            if let Some(difference) = compare(plain, linked, &text, lengths, dirt, &mut sides) {
-                println!("seed {seed}, input {number}, {lengths:?}, lists full of {dirt:?}");
-                println!("{difference}");
-                println!("the text, {} bytes: {}", text.len(), text.escape_ascii());
-                println!("{} inputs, 1 difference", number + 1);
-                std::process::exit(1);
+            match compare(plain, other, &text, lengths, dirt, &mut sides) {
+                Ok(answer) => *answers.entry(answer.number).or_default() += 1,
+                Err(difference) => {
+                    println!("seed {seed}, input {number}, {lengths:?}, lists full of {dirt:?}");
+                    println!("first plain, then {name}: {difference}");
+                    println!("the text, {} bytes: {}", text.len(), text.escape_ascii());
+                    println!("{} inputs, 1 difference", number + 1);
+                    std::process::exit(1);
+                }
             }
         }
     }
     println!("{count} inputs, 0 differences");
+    answers
 }
 
+/// The answer of both sides, or where they differ.
 fn compare(
     plain: Call,
-    linked: Call,
+    other: Call,
     text: &[u8],
     lengths: Lengths,
     dirt: Dirt,
     (ours, theirs): &mut (Lists, Lists),
-) -> Option<String> {
+) -> Result<Reply, String> {
     ours.soil(dirt);
     theirs.soil(dirt);
-    let answers = (plain(text, ours, lengths), linked(text, theirs, lengths));
+    let answers = (plain(text, ours, lengths), other(text, theirs, lengths));
     if answers.0 != answers.1 {
-        return Some(format!("plain {:?}\nlinked {:?}", answers.0, answers.1));
+        return Err(format!("{:?}, {:?}", answers.0, answers.1));
     }
-    ours.first_difference(theirs)
+    ours.first_difference(theirs).map_or(Ok(answers.0), Err)
 }

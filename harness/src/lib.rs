@@ -1,6 +1,7 @@
-//! A plain rendering of document 01 and the tools that compare a linked library with it.
+//! Two plain renderings of document 01, a clear one and a fast one, and the tools that compare a linked library with them.
 
 pub mod compare;
+pub mod fast;
 pub mod gen;
 pub mod lists;
 pub mod plain;

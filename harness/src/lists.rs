@@ -108,10 +108,10 @@ impl Lists {
     }
 }
 
-fn differing<T: PartialEq + std::fmt::Debug>(name: &str, plain: &[T], linked: &[T]) -> Option<String> {
-    if plain == linked {
+fn differing<T: PartialEq + std::fmt::Debug>(name: &str, ours: &[T], theirs: &[T]) -> Option<String> {
+    if ours == theirs {
         return None;
     }
-    let at = plain.iter().zip(linked).position(|(a, b)| a != b)?;
-    Some(format!("{name}[{at}]: plain {:?}, linked {:?}", plain[at], linked[at]))
+    let at = ours.iter().zip(theirs).position(|(a, b)| a != b)?;
+    Some(format!("{name}[{at}]: {:?}, {:?}", ours[at], theirs[at]))
 }

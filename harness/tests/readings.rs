@@ -1,5 +1,6 @@
 //! The panel cases of document 01 and the settled readings, each as a text and its answer.
 
+use harness::fast;
 use harness::lists::{Dirt, Lengths, Lists};
 use harness::plain::{check, replay, step, Reply};
 
@@ -18,7 +19,9 @@ fn checked(text: &[u8]) -> String {
     let mut lists = Lists::default();
     lists.soil(Dirt::Counting);
     let (states, nodes, work) = lists.lend(Lengths::EXACT);
-    printed(check(text, states, nodes, work))
+    let answer = check(text, states, nodes, work);
+    assert_eq!(answer, fast::check(text, states, nodes, work));
+    printed(answer)
 }
 
 /// Case a with some lines replaced, counted from 1; an empty replacement drops the line.

@@ -1,11 +1,11 @@
 -- A test over the lists is that of the definitions: the places of the subtasks' nodes hold the subtasks' spans first, and every state that a
 -- test asks is one of the case's. Assumes nothing.
 use mathlib.Core.Path.{_≡_, refl, sym, ap, ap₂, subst, _∙_}
-use mathlib.Core.Bool.{Bool, true, false, cond, _&&_}
+use mathlib.Core.Bool.{Bool, true, false, cond}
 use mathlib.Core.List.{List, [], _∷_, _++_, append-nil, append-assoc}
 use mathlib.Core.List.{List·Memᴰ·head as here}
 use mathlib.Core.Option.{Option, some}
-use Prim.Native.Nat.{ℕ, zero, suc, _+_, _-_, _*_, _^_, _≤_, _<_}
+use Prim.Native.Nat.{ℕ, zero, suc, _+_, _-_, _^_, _≤_, _<_}
 use native.Mathlib.Nat.{lt-of-lt-of-le}
 use native.Mathlib.Omega.{arith}
 use borrow.Author.Tests.{ne-eqb}
@@ -14,15 +14,16 @@ use lib.ListN.{length, getD}
 use lib.Pow.{pow-mono}
 use Rattle.rules.specs.declared.Header.{Header}
 use Rattle.rules.specs.declared.Answer.{Answer}
-use Rattle.rules.specs.State.{bit, wordCount, every}
+use Rattle.rules.specs.State.{bit}
 use Rattle.rules.specs.Index.{Span, Part, partOf, only, pick, hull, spanOfPart, c, f, isBefore}
 use Rattle.rules.specs.Case.{Constraint, O, B, F, W}
 use Rattle.rules.specs.Constraint.{Holds, holdsFrom, keeps, brokenAt, firstBrokenOf}
 use Rattle.rules.proofs.Bits.{bit-above}
+use Rattle.rules.proofs.Tables.{every-same}
 use Rattle.rules.proofs.Judgement.Each.{Each, each-tail}
 use Rattle.rules.proofs.Judgement.Sound.{GoodConstraint}
 use Rattle.subsets.proofs.Members.{members-below}
-use Rattle.parts.specs.States.{inRow}
+use Rattle.rows.specs.Rows.{inRow}
 use Rattle.parts.specs.Spans.{RowInside, nodesIn, spansIn, SubtaskInside}
 use Rattle.parts.specs.Tests.{Timed, PartInside, Tested}
 use Rattle.parts.proofs.Letters.{pick-none}
@@ -54,11 +55,6 @@ only-front own l r i h = ap hull (pick-front (eqb i) l r (λ n b. ne-eqb i n (λ
 
 -- ---- states
 
-every-same : (n i : ℕ) (g h : ℕ → Bool) → ((l : ℕ) → i ≤ l → l < i + n → g l ≡ h l) → every n i g ≡ every n i h
-every-same zero i g h e = refl
-every-same (suc n) i g h e =
-    ap₂ (λ (x y : Bool). x && y) (e i (omega arith) (omega arith)) (every-same n (suc i) g h (λ l a b. e l (omega arith) (omega arith)))
-
 from-same : (g h : Holds) (p first past : ℕ) → ((l : ℕ) → l < past → g p l ≡ h p l) → holdsFrom g p first past ≡ holdsFrom h p first past
 unfolding holdsFrom
 from-same g h p first past e = every-same (past - first) first (λ l. g p l) (λ l. h p l) (λ l a b. e l (omega arith))
@@ -73,7 +69,6 @@ pub record Placed (cues : ℕ) (own : Span) (subs : List Span) (work words : Lis
   pub inside : (j : ℕ) → j < length subs → RowInside work (getD (nodesIn work) j 0)
   pub ownWithin : Within cues own
   pub subsWithin : Each (Within cues) subs
-  pub long : wordCount * (cues + 1) ≤ length words
   pub agree : (p l : ℕ) → l ≤ cues → inRow words p l ≡ holds p l
 
 module _ (h : Header) (cues : ℕ) (own : Span) (subs : List Span) (work words : List ℕ) (holds : Holds)
@@ -93,24 +88,21 @@ module _ (h : Header) (cues : ℕ) (own : Span) (subs : List Span) (work words :
   within : (u : ℕ) → u < 2 ^ length subs → Within cues (meant (partOf u))
   within u b = part-within cues own subs u (p .ownWithin) (p .subsWithin) (p .few) b
 
-  timed : (s : Span) → Within cues s → Timed words s
-  unfolding wordCount
+  timed : (s : Span) → Within cues s → Timed (cues + 1) s
   timed s w =
-      let a = start-few cues s w in
       let b = end-few cues s w in
-      let l = p .long in
-      record { after-first = start-some cues s w; before-start = omega arith; at-end = omega arith }
+      record { after-first = start-some cues s w; before-start = start-few cues s w; at-end = omega arith }
 
   subtask-inside : (j : ℕ) → j < length subs → SubtaskInside work j
   subtask-inside j b = let a = p .few in record { few = omega arith; row = p .inside j b }
 
-  part-inside : (u : ℕ) → u < 2 ^ length subs → PartInside work words own u
+  part-inside : (u : ℕ) → u < 2 ^ length subs → PartInside work (cues + 1) own u
   part-inside u b = record {
     subtasks = λ j m. subtask-inside j (members-below u (length subs) j b m);
-    timed = subst (Timed words) (sym (part-same u b)) (timed (meant (partOf u)) (within u b));
+    timed = subst (Timed (cues + 1)) (sym (part-same u b)) (timed (meant (partOf u)) (within u b));
   }
 
-  pub good-tested : (d : Constraint) → GoodConstraint h (length subs) d → Tested work words own d
+  pub good-tested : (d : Constraint) → GoodConstraint h (length subs) d → Tested work (cues + 1) own d
   good-tested (O i j) g = (subtask-inside i (g .0), subtask-inside j (g .1))
   good-tested (B q u) g = part-inside u (g .1)
   good-tested (F q u) g = part-inside u (g .1)

@@ -1,10 +1,9 @@
-pub mod Loading
+pub mod Finding
 pub mod Testing
 pub mod Held
 pub mod Within
 pub mod Judging
 pub mod Stores
-pub mod Finding
 pub mod Nodes
 pub mod Steps
 pub mod Numbers

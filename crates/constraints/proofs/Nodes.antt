@@ -4,81 +4,40 @@ use mathlib.Core.Path.{_≡_, refl, sym, ap, subst, _∙_}
 use mathlib.Core.Bool.{true, false, true≢false}
 use mathlib.Core.List.{List, [], _∷_, _++_, map, map-append, flatten, List·Memᴰ·not-nil}
 use mathlib.Core.List.{List·Memᴰ as Mem, List·Memᴰ·head as here, List·Memᴰ·tail as there}
-use mathlib.Core.Option.{some}
 use Prim.Native.Nat.{ℕ, _+_, _-_, _*_, _≤_, _<_}
 use native.Mathlib.Omega.{arith}
-use lib.ListN.{length, getD, take, drop, length-map, List·getD-append}
+use lib.ListN.{length, getD, take, drop, replicate, length-map, List·getD-append}
 use lib.Seq.{sets, getD-take, getD-drop}
-use Rattle.rules.specs.State.{State, wordCount, actionAt}
+use Rattle.rules.specs.declared.Header.{Header}
+use Rattle.rules.specs.State.{wordCount}
 use Rattle.rules.specs.Index.{Span}
-use Rattle.rules.specs.Table as T
-use Rattle.rules.specs.Case.{Method, methodAt, noMethod, NodeLine, Case, Read, oneMethod, Valued, initialOf, actionOf}
+use Rattle.rules.specs.Case.{methodAt, noMethod, NodeLine, Case}
 use Rattle.rules.specs.Tree.{Tree, leaf, empty, task, preorder, rootLine, span, subtaskSpans, mayClaim}
 use Rattle.rules.specs.Constraint.{holdsIn, constraintsOf}
 use Rattle.rules.specs.Verdict.{stateNeed, workNeed, statesOf}
 use Rattle.rules.proofs.Judgement.Each.{Each, each-at}
-use Rattle.rules.proofs.Judgement.Sound.{GoodHeader, GoodMethod, GoodNode, Sound, sound}
+use Rattle.rules.proofs.Judgement.Sound.{GoodMethod, GoodNode, Sound, sound, initial-worded}
 use Rattle.rules.proofs.Judgement.Preorder.{TreeOf}
 use Rattle.rules.proofs.Judgement.Walk.{walk-shows}
-use Rattle.reading.specs.Directory.{methodsFrom, LineIs, Finds}
-use Rattle.tree.specs.Layout.{marksFrom, planFrom, rowsFrom, rowsPast, subtasksFrom, size, rows, rowsIn}
-use Rattle.parts.specs.States.{inRow}
+use Rattle.tree.proofs.Directory.{finds-kept}
+use Rattle.tree.specs.Layout.{subtasksPast, rowsFrom, rowsPast, subtasksFrom, size, rows, rowsIn}
+use Rattle.rows.specs.Rows.{inRow}
+use Rattle.columns.specs.Columns.{stateWords, columnWords, columnCount, Columns}
+use Rattle.columns.proofs.Kept.{columns-none}
 use Rattle.parts.specs.Spans.{rowSpan, RowInside, siblings, nodesIn, spansIn}
 use Rattle.constraints.specs.Ready.{Ready, Leaves, namesMethod, Labels, nodeOfTree}
-use Rattle.rules.proofs.Worded.{set-worded}
 use Rattle.parts.proofs.Stretches.{states-hold, filled-size}
 use Rattle.constraints.proofs.Held.{Held, HeldAll, Holds, held, held-node, held-subtrees, root-row, rows-length, preorder-length, subtreesOf, subtrees-spans, countOf, siblings-spans, siblings-inside}
 use Rattle.constraints.proofs.Within.{Within, Proper, proper}
 use Rattle.constraints.proofs.Judging.{Placed}
 use Rattle.constraints.proofs.Stores.{siblings-length, leaves-stored, rows-stored, nodes-stored}
 
--- ---- what is left as it was
-
-module _ (before after : List ℕ) (l : Leaves before after) where
-  same-place : (i : ℕ) → i < marksFrom → getD after i 0 ≡ getD before i 0
-  same-place i h =
-      sym (getD-take marksFrom after i 0 h) ∙ ap (λ (x : List ℕ). getD x i 0) (l .directory) ∙ getD-take marksFrom before i 0 h
-
-  line-leaves : (text : List ℕ) (k : Case) (due : T.Role) {A : Type 0} (means : Valued → A) (x : A) (i : ℕ) → i < marksFrom
-      → LineIs text k due (getD before i 0) means x → LineIs text k due (getD after i 0) means x
-  line-leaves text k due means x i h w = record {
-    letter = w .letter;
-    values = w .values;
-    next = w .next;
-    reads = ap (λ (p : ℕ). T.readLine text due (k .head) 0 p) (same-place i h) ∙ w .reads;
-    meant = w .meant;
-  }
-
-  finds-leaves : (text : List ℕ) (k : Case) (initial plan nodes : ℕ) → GoodHeader (k .head) → Finds text k before initial plan nodes
-      → Finds text k after initial plan nodes
-  unfolding marksFrom methodsFrom line-leaves
-  finds-leaves text k initial plan nodes g f =
-      let few = g .few-actions in
-      let some = g .few-methods in
-      record {
-        initialLine = f .initialLine;
-        actionLine = λ a h. line-leaves text k T.action actionOf (actionAt (k .actions) a) a (omega arith) (f .actionLine a h);
-        methodLine = λ m h.
-            let w = f .methodLine m h in
-            (w .0, w .1, w .2, ap (λ (p : ℕ). oneMethodAt (w .0) p) (same-place (methodsFrom + m) (omega arith)) ∙ w .3);
-        planLine = f .planLine;
-        nodeLines = f .nodeLines;
-      }
-    where
-      oneMethodAt : ℕ → ℕ → Read Method
-      oneMethodAt n p = oneMethod text (k .head) n p
-
--- A state that an I line means has as many words as a state has.
-initial-whole : {text : List ℕ} {k : Case} {place : ℕ} {s : State} → LineIs text k T.initial place initialOf s → length s ≡ wordCount
-unfolding initialOf
-initial-whole w = ap length (sym (w .meant)) ∙ set-worded (w .values) 0
-
 -- ---- the whole tree
 
-module _ {k : Case} {t : Tree} {text : List ℕ} {planLine nodes : ℕ} {states work : List ℕ}
-    (r : Ready k t text planLine nodes states work) where
+module _ {k : Case} {t : Tree} {fields : List ℕ} {header : Header} {planLine nodes : ℕ} {states work : List ℕ}
+    (r : Ready k t fields header planLine nodes states work) where
   pub is-sound : Sound k
-  is-sound = sound text k (r .reads)
+  is-sound = sound (r .read .text) k (r .read .reads)
 
   pub tree-is : TreeOf k (mayClaim (k .plan)) t
   tree-is = walk-shows k (mayClaim (k .plan)) t (r .walks .0) (r .walks .1) .0
@@ -87,14 +46,14 @@ module _ {k : Case} {t : Tree} {text : List ℕ} {planLine nodes : ℕ} {states 
   size-is =
       sym (preorder-length t) ∙ sym (length-map (preorder t) rootLine) ∙ ap length (tree-is .preordered) ∙ is-sound .nodes-length
 
-  pub ready-leaves : (after : List ℕ) → Leaves work after → Ready k t text planLine nodes states after
+  pub ready-leaves : (after : List ℕ) → Leaves work after → Ready k t fields header planLine nodes states after
   ready-leaves after l = record {
-    reads = r .reads;
-    short = r .short;
+    read = r .read;
+    head = r .head;
     plans = r .plans;
     initial = r .initial;
     plan = r .plan;
-    finds = finds-leaves work after l text k (r .initial) (r .plan) nodes (is-sound .head-good) (r .finds);
+    finds = finds-kept k fields work after (r .initial) (r .plan) nodes (is-sound .head-good) (l .directory) (r .finds);
     room = subst (λ (n : ℕ). workNeed ≤ n) (sym (l .same-size)) (r .room);
     walks = r .walks;
     rowsHeld = ap (take (3 * size t)) (l .rows) ∙ r .rowsHeld;
@@ -138,17 +97,21 @@ module _ {k : Case} {t : Tree} {text : List ℕ} {planLine nodes : ℕ} {states 
   pub states-agree : (p l : ℕ) → l ≤ k .head .cues → inRow states p l ≡ holdsIn (statesOf k) p l
   states-agree p l h =
       ap (λ (w : List ℕ). inRow w p l) (r .statesHeld)
-      ∙ states-hold k (r .stateSize) p l (initial-whole (r .finds .initialLine))
+      ∙ states-hold k (r .stateSize) p l (initial-worded k (sound (r .read .text) k (r .read .reads)))
       (let e = is-sound .plan-length in omega arith)
 
-  pub states-long : wordCount * (k .head .cues + 1) ≤ length states
-  unfolding wordCount stateNeed
-  states-long =
+  -- No column is built yet.
+  pub columns-start : (columns built : List ℕ) → length columns ≡ columnCount * columnWords → built ≡ replicate wordCount 0
+      → Columns states (header .cues + 1) columns built
+  unfolding stateWords wordCount stateNeed
+  columns-start columns built room none =
       let few = is-sound .head-good .few-cues in
-      let room = r .stateRoom in
+      let cues : header .cues ≡ k .head .cues = ap (λ (h : Header). h .cues) (r .head) in
+      let long = r .stateRoom in
       let all = filled-size (r .stateSize) (flatten (statesOf k)) in
       let same = ap length (r .statesHeld) in
-      omega arith
+      subst (Columns states (header .cues + 1) columns) (sym none)
+      (columns-none states (header .cues + 1) columns (omega arith) (omega arith) room)
 
 -- ---- a node with a method
 
@@ -181,8 +144,8 @@ method-good k m s h = each-at (GoodMethod (k .head)) (k .methods) m noMethod (s 
 
 -- ---- once its subtasks' nodes are stored
 
-module _ {k : Case} {t : Tree} {text : List ℕ} {planLine nodes : ℕ} {states work : List ℕ}
-    (r : Ready k t text planLine nodes states work) (n : ℕ) (h : n < size t) (m : ℕ) (w : MethodNode k m (nodeOfTree t n)) where
+module _ {k : Case} {t : Tree} {fields : List ℕ} {header : Header} {planLine nodes : ℕ} {states work : List ℕ}
+    (r : Ready k t fields header planLine nodes states work) (n : ℕ) (h : n < size t) (m : ℕ) (w : MethodNode k m (nodeOfTree t n)) where
   abbrev x : Tree
   x = nodeOfTree t n
 
@@ -219,7 +182,7 @@ module _ {k : Case} {t : Tree} {text : List ℕ} {planLine nodes : ℕ} {states 
       ∙ root-row work x n (node-held r n h) .spanned
 
   pub placed : Placed (k .head .cues) (span x) (subtaskSpans x) after states (holdsIn (statesOf k))
-  unfolding spansIn planFrom workNeed
+  unfolding spansIn subtasksPast workNeed
   placed =
       let ns : List ℕ = siblings work (n + 1) (countOf (subtreesOf x)) in
       let rest : List ℕ = take (32 - length ns) (drop (subtasksFrom + length ns) work) in
@@ -237,6 +200,5 @@ module _ {k : Case} {t : Tree} {text : List ℕ} {planLine nodes : ℕ} {states 
             (inside-after (getD ns j 0) (each-at (RowInside work) ns j 0 subtrees-inside here));
         ownWithin = w .ownWithin;
         subsWithin = w .subsWithin;
-        long = states-long r;
         agree = states-agree r;
       }

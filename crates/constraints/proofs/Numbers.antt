@@ -5,23 +5,18 @@ use native.Mathlib.Omega.{arith}
 use Rattle.rules.specs.declared.Header.{Header}
 use Rattle.rules.specs.Case.{Case}
 use Rattle.rules.specs.Tree.{Tree}
-use Rattle.rules.specs.Verdict.{textMost}
-use Rattle.tree.proofs.Within.{plan-line-low}
+use Rattle.tree.proofs.Within.{plan-line-few}
 use Rattle.constraints.proofs.Nodes.{is-sound, size-is}
 use Rattle.constraints.proofs.Steps.{Going, all-nodes}
 
 -- A node's line fits.
-pub line-fits : {k : Case} {t : Tree} {text : List ℕ} {header : Header} {planLine nodes : ℕ} {states start work : List ℕ} {place n : ℕ}
-    → Going k t text header planLine nodes states start work place n → n < header .nodes → planLine + 1 + n < 1000000
-unfolding textMost
-line-fits {k = k} {text = text} g h =
+pub line-fits : {k : Case} {t : Tree} {fields : List ℕ} {header : Header} {planLine nodes : ℕ} {states start work : List ℕ} {place n : ℕ}
+    → Going k t fields header planLine nodes states start work place n → n < header .nodes → planLine + 1 + n < 1000000
+line-fits {k = k} g h =
     let r = g .ready in
     let s = is-sound r .head-good in
-    let a = s .few-actions in
-    let b = s .few-methods in
     let c = s .few-nodes in
-    let e = plan-line-low text k (r .reads) in
-    let l = r .short in
+    let e = plan-line-few k (r .read) in
     let d = r .plans in
     let f = all-nodes g in
     let z = size-is r in

@@ -2,9 +2,9 @@
 -- that from here on, after the nodes that kept theirs. Assumes nothing.
 use mathlib.Core.Path.{_≡_, refl, sym, ap, ap₂, subst, _∙_}
 use mathlib.Core.Bool.{true, false}
-use mathlib.Core.List.{List, []}
+use mathlib.Core.List.{List, [], _∷_, map}
 use mathlib.Core.Option.{Option, none, some}
-use Prim.Native.Nat.{ℕ, suc, _+_, _-_, _≤_, _<_}
+use Prim.Native.Nat.{ℕ, suc, _+_, _≤_, _<_}
 use native.Mathlib.Numerals.{add-one}
 use native.Mathlib.Omega.{arith}
 use lib.ListN.{length, getD, drop, List·getD-map, drop-of-length-le}
@@ -12,68 +12,28 @@ use lib.Seq.{sets, drop-cons}
 use Rattle.rules.specs.declared.Header.{Header}
 use Rattle.rules.specs.declared.Answer.{Answer}
 use Rattle.rules.specs.Index.{Span, spanOfPart}
-use Rattle.rules.specs.Table as T
-use Rattle.rules.specs.Case.{Constraint, Method, methodAt, NodeLine, L, Case, oneLine, many, asNode}
+use Rattle.rules.specs.Case.{Constraint, Method, methodAt, NodeLine, L, Case}
+use Rattle.rules.specs.Fields.{linesFields, nodeLine}
 use Rattle.rules.specs.Tree.{Tree, leaf, preorder, rootLine, span, subtaskSpans}
 use Rattle.rules.specs.Constraint.{holdsIn, constraintsOf, partsOf, firstBrokenOf, orElse, firstBroken}
 use Rattle.rules.specs.Verdict.{workNeed, statesOf}
 use Rattle.rules.proofs.Judgement.Each.{Each}
 use Rattle.rules.proofs.Judgement.Sound.{GoodConstraint}
-use Rattle.reading.specs.Directory.{methodsFrom}
-use Rattle.tree.specs.Layout.{planFrom, subtasksFrom, size, NodesFrom}
-use Rattle.reading.specs.declared.again.Again.{Again}
-use Rattle.reading.specs.Again.{AgainAt, MethodAgainAt}
-use Rattle.reading.specs.declared.again.MethodAgain.{MethodAgain}
-use Rattle.constraints.specs.declared.method.Loaded.{Loaded}
+use Rattle.fields.specs.Standing.{Stands}
+use Rattle.fields.specs.Directory.{methodsFrom, nodeSize}
+use Rattle.tree.specs.Layout.{subtasksPast, subtasksFrom, size}
 use Rattle.constraints.specs.declared.method.Kept.{Kept}
 use Rattle.constraints.specs.declared.method.Kept.the-variants.{All, Broken}
-use Rattle.parts.specs.States.{inRow}
+use Rattle.rows.specs.Rows.{inRow}
 use Rattle.parts.specs.Spans.{rowSpan, RowInside, siblings, spansIn}
 use Rattle.parts.specs.Tests.{Tested}
-use Rattle.constraints.specs.Loaded.{testsFrom, testsPast, testsIn, Letters, Holds, IfLoaded}
-use Rattle.constraints.specs.Methods.{keptAs, testsAt}
-use Rattle.constraints.specs.Ready.{Ready, Leaves, namesMethod, Labels, nodeOfTree, brokenOfNode, brokenOfTree}
+use Rattle.constraints.specs.Methods.{keptAs}
+use Rattle.constraints.specs.Ready.{Ready, Leaves, namesMethod, Labels, nodeOfTree, NodeReady, brokenOfNode, brokenOfTree}
 use Rattle.constraints.proofs.Held.{countOf, subtreesOf, subtrees-spans, spans-length, preorder-length}
 use Rattle.constraints.proofs.Judging.{good-tested, broken-same}
-use Rattle.constraints.proofs.Finding.{MethodIs, method-found, NodeIs, node-found}
-use Rattle.constraints.proofs.Stores.{siblings-length, sets-past, leaves-all, leaves-then}
-use Rattle.constraints.proofs.Loading.{tests-same, letters-same}
+use Rattle.constraints.proofs.Finding.{MethodHere, method-here, NodeHere, node-here}
+use Rattle.constraints.proofs.Stores.{leaves-all, leaves-then}
 use Rattle.constraints.proofs.Nodes.{is-sound, tree-is, size-is, ready-leaves, node-proper, MethodNode, method-node, no-constraints, method-good, few-subtrees, subtrees-inside, after-leaves, own-inside, own-span, placed}
-
--- ---- one method
-
-module _ {k : Case} {t : Tree} {text : List ℕ} {planLine nodes : ℕ} {states work : List ℕ}
-    (r : Ready k t text planLine nodes states work) {label : ℕ} (b : label < k .head .methods) where
-  pub method-inside : 1024 + label < length work
-  unfolding workNeed
-  method-inside =
-      let f = is-sound r .head-good .few-methods in
-      let g = r .room in omega arith
-
-  pub tests-room : testsPast ≤ length work
-  unfolding testsPast workNeed
-  tests-room = let f = r .room in omega arith
-
-  pub method-read : (y : MethodAgain) → MethodAgainAt text (getD work (1024 + label) 0) y → MethodIs text (k .head) (methodAt (k .methods) label) y
-  unfolding methodsFrom
-  method-read y again =
-      let f = r .finds .methodLine label b in
-      method-found text (k .head) (f .0) (getD work (methodsFrom + label) 0) (methodAt (k .methods) label) (f .1) (f .2) (f .3) y again
-
--- The method that its lines are read for is in the work space.
-pub now-loaded : {k : Case} {text : List ℕ} {label : ℕ} {y : MethodAgain} (new : List ℕ) → MethodIs text (k .head) (methodAt (k .methods) label) y
-    → testsIn new 0 (y .constraints) ≡ testsAt text (k .head) (y .subtasks) (y .constraints) (y .next .at) → Letters new (y .constraints)
-    → Holds k new (record { method = label; subtasks = y .subtasks; count = y .constraints })
-now-loaded new found tests letters = record { subtasks = found .counts; few = found .few; letters = letters; tests = tests ∙ found .tests }
-
--- It may be the one that was.
-pub still-loaded : {k : Case} {work : List ℕ} {label : ℕ} {x : Loaded} → label < k .head .methods → IfLoaded k work x → label ≡ x .method → Holds k work x
-still-loaded {k} b f e = f (subst (λ (i : ℕ). i < k .head .methods) e b)
-
--- A number past the methods' loads none.
-pub none-loaded : {k : Case} {t : Tree} {text : List ℕ} {planLine nodes : ℕ} {states work : List ℕ} {x : Loaded}
-    → Ready k t text planLine nodes states work → x .method ≡ 4294967295 → IfLoaded k work x
-none-loaded r e b = let f = is-sound r .head-good .few-methods in absurd (omega arith)
 
 -- ---- one node
 
@@ -88,26 +48,23 @@ pub leaf-kept : (k : Case) (t : Tree) (line n letter label : ℕ) → Labels let
 leaf-kept k t line n letter label l e = none-of k t line n (no-constraints k letter label (nodeOfTree t n) l e)
 
 -- Node n, whose line names a method, among what the phases before left.
-pub record Standing (k : Case) (t : Tree) (text : List ℕ) (planLine nodes : ℕ) (states work : List ℕ) (n label : ℕ) : Type 0 where
-  pub ready : Ready k t text planLine nodes states work
+pub record Standing (k : Case) (t : Tree) (fields : List ℕ) (header : Header) (planLine nodes : ℕ) (states work : List ℕ) (n label : ℕ) : Type 0 where
+  pub ready : Ready k t fields header planLine nodes states work
   pub below : n < size t
   pub node : MethodNode k label (nodeOfTree t n)
 
-abbrev pub standing : {k : Case} {t : Tree} {text : List ℕ} {planLine nodes : ℕ} {states work : List ℕ}
-    (r : Ready k t text planLine nodes states work) (n letter label : ℕ) → n < size t → Labels letter label (rootLine (nodeOfTree t n))
-    → namesMethod letter ≡ true → Standing k t text planLine nodes states work n label
-standing {k} {t} r n letter label h labels names =
-    record { ready = r; below = h; node = method-node k letter label (nodeOfTree t n) (node-proper r n h) labels names }
+abbrev pub standing : {k : Case} {t : Tree} {fields : List ℕ} {held : ℕ} {states work : List ℕ} {n letter label : ℕ}
+    (v : NodeReady k t fields held states work n letter label) → namesMethod letter ≡ true → Standing k t fields (v .header) (v .planLine) (v .nodes) states work n label
+standing {k} {t} {n = n} {letter = letter} {label = label} v names =
+    record {
+      ready = v .ready;
+      below = v .below;
+      node = method-node k letter label (nodeOfTree t n) (node-proper (v .ready) n (v .below)) (v .labels) names;
+    }
 
--- Stores between the directory and the rows leave it so.
-pub standing-leaves : {k : Case} {t : Tree} {text : List ℕ} {planLine nodes : ℕ} {states work : List ℕ} {n label : ℕ}
-    → Standing k t text planLine nodes states work n label → (new : List ℕ) → Leaves work new
-    → Standing k t text planLine nodes states new n label
-standing-leaves w new l = record { ready = ready-leaves (w .ready) new l; below = w .below; node = w .node }
-
-module _ {k : Case} {t : Tree} {text : List ℕ} {planLine nodes : ℕ} {states work : List ℕ} {n label : ℕ}
-    (w : Standing k t text planLine nodes states work n label) where
-  abbrev r : Ready k t text planLine nodes states work
+module _ {k : Case} {t : Tree} {fields : List ℕ} {header : Header} {planLine nodes : ℕ} {states work : List ℕ} {n label : ℕ}
+    (w : Standing k t fields header planLine nodes states work n label) where
+  abbrev r : Ready k t fields header planLine nodes states work
   r = w .ready
 
   abbrev h : n < size t
@@ -124,30 +81,51 @@ module _ {k : Case} {t : Tree} {text : List ℕ} {planLine nodes : ℕ} {states 
       let f = is-sound r .head-good .few-nodes in
       let e = size-is r in omega arith
 
-  module _ (x : Loaded) (held : Holds k work x) (named : x .method ≡ label) where
-    tests-are : testsIn work 0 (x .count) ≡ method .constraints
-    tests-are = held .tests ∙ ap (λ (i : ℕ). methodAt (k .methods) i .constraints) named
+  pub room-before : subtasksPast ≤ length work
+  unfolding subtasksPast workNeed
+  room-before = let f = r .room in omega arith
 
-    -- It has none.
-    pub none-follow : (line : ℕ) → x .count ≡ 0 → All ≡ keptAs (brokenOfNode k t line n)
-    none-follow line e = none-of k t line n (node-is .brings ∙ sym tests-are ∙ ap (testsIn work 0) e)
+  -- ---- its method's line
 
-    counted : x .subtasks ≡ countOf (subtreesOf (nodeOfTree t n))
-    counted = held .subtasks ∙ ap (λ (i : ℕ). length (methodAt (k .methods) i .subtasks)) named ∙ sym (node-is .count)
+  pub listed-inside : methodsFrom + label < length work
+  unfolding methodsFrom workNeed
+  listed-inside =
+      let f = is-sound r .head-good .few-methods in
+      let g = r .room in
+      let b = node-is .below in omega arith
 
-    pub few-second : x .subtasks ≤ 32
+  module _ (place : ℕ) (listed : place ≡ getD work (methodsFrom + label) 0) where
+    pub method-found : MethodHere fields place method
+    method-found = subst (λ (q : ℕ). MethodHere fields q method) (sym listed)
+        (method-here fields (getD work (methodsFrom + label) 0) method (r .finds .methodHere label (node-is .below)))
+
+    abbrev subtasks : ℕ
+    subtasks = getD fields (place + 2) 0
+
+    -- It has no constraints.
+    pub none-follow : (line : ℕ) → getD fields (place + 3 + subtasks) 0 ≡ 0 → All ≡ keptAs (brokenOfNode k t line n)
+    none-follow line e = none-of k t line n (node-is .brings ∙ no-length (method .constraints) (method-found .constraints .counted ∙ e))
+      where
+        no-length : (ds : List Constraint) → length ds ≡ 0 → ds ≡ []
+        no-length [] e = refl
+        no-length (d ∷ ds) e = absurd (omega arith)
+
+    -- ---- its subtasks' nodes
+
+    counted : subtasks ≡ countOf (subtreesOf (nodeOfTree t n))
+    counted = method-found .subtasks ∙ sym (node-is .count)
+
+    pub few-second : subtasks ≤ 32
     few-second = let e = counted in let f = few-subtrees r n h label node-is in omega arith
 
-    pub room-before : planFrom ≤ length work
-    unfolding planFrom workNeed
-    room-before = let f = r .room in omega arith
-
-    pub nodes-inside : Each (RowInside work) (siblings work (n + 1) (x .subtasks))
+    pub nodes-inside : Each (RowInside work) (siblings work (n + 1) subtasks)
     nodes-inside =
         subst (λ (c : ℕ). Each (RowInside work) (siblings work (n + 1) c)) (sym counted)
         (subtrees-inside r n h label node-is)
 
-    module _ (new : List ℕ) (stores : new ≡ sets work subtasksFrom (siblings work (n + 1) (x .subtasks))) where
+    -- ---- once they are stored
+
+    module _ (new : List ℕ) (stores : new ≡ sets work subtasksFrom (siblings work (n + 1) subtasks)) where
       is-after : new ≡ sets work subtasksFrom (siblings work (n + 1) (countOf (subtreesOf (nodeOfTree t n))))
       is-after = stores ∙ ap (λ (c : ℕ). sets work subtasksFrom (siblings work (n + 1) c)) counted
 
@@ -158,29 +136,8 @@ module _ {k : Case} {t : Tree} {text : List ℕ} {planLine nodes : ℕ} {states 
       new-inside =
           subst (λ (l : List ℕ). RowInside l n) (sym is-after) (own-inside r n h label node-is)
 
-      pub new-room : testsPast ≤ length new
-      new-room = subst (λ (c : ℕ). testsPast ≤ c) (sym (new-leaves .same-size)) (tests-room r (node-is .below))
-
-      words-same : (q : ℕ) → testsFrom ≤ q → getD new q 0 ≡ getD work q 0
-      unfolding testsFrom subtasksFrom
-      words-same q b =
-          let few = few-second in
-          let e = siblings-length work (n + 1) (x .subtasks) in
-          ap (λ (l : List ℕ). getD l q 0) stores ∙ sets-past work subtasksFrom (siblings work (n + 1) (x .subtasks)) q (omega arith)
-
-      pub new-holds : Holds k new x
-      new-holds = record {
-        subtasks = held .subtasks;
-        few = held .few;
-        letters = letters-same work new (x .count) (λ q a b. words-same q a) (held .letters);
-        tests = tests-same work new (x .count) (λ q a b. words-same q a) ∙ held .tests;
-      }
-
-      abbrev tests : List Constraint
-      tests = testsIn new 0 (x .count)
-
-      new-tests : tests ≡ method .constraints
-      new-tests = tests-same work new (x .count) (λ q a b. words-same q a) ∙ tests-are
+      pub new-room : subtasksPast ≤ length new
+      new-room = subst (λ (c : ℕ). subtasksPast ≤ c) (sym (new-leaves .same-size)) room-before
 
       good : Each (GoodConstraint (k .head) (length (subtaskSpans (nodeOfTree t n)))) (method .constraints)
       good =
@@ -194,26 +151,24 @@ module _ {k : Case} {t : Tree} {text : List ℕ} {planLine nodes : ℕ} {states 
         own-is =
             owns ∙ ap (λ (l : List ℕ). rowSpan l n) is-after ∙ own-span r n h label node-is
 
-        pub new-tested : Each (Tested new states own) tests
-        new-tested =
-            subst (λ (ds : List Constraint). Each (Tested new states own) ds) (sym new-tests)
-            (λ x i.
-            subst (λ (l : List ℕ). Tested l states own x) (sym is-after)
-            (subst (λ (s : Span). Tested (sets work subtasksFrom (siblings work (n + 1) (countOf (subtreesOf (nodeOfTree t n))))) states s x) (sym own-is)
+        pub new-tested : (held : ℕ) → held ≡ k .head .cues + 1 → Each (Tested new held own) (method .constraints)
+        new-tested held e x i =
+            subst (λ (c : ℕ). Tested new c own x) (sym e)
+            (subst (λ (l : List ℕ). Tested l (k .head .cues + 1) own x) (sym is-after)
+            (subst (λ (s : Span). Tested (sets work subtasksFrom (siblings work (n + 1) (countOf (subtreesOf (nodeOfTree t n))))) (k .head .cues + 1) s x) (sym own-is)
             (good-tested (k .head) (k .head .cues) (span (nodeOfTree t n)) (subtaskSpans (nodeOfTree t n))
             (sets work subtasksFrom (siblings work (n + 1) (countOf (subtreesOf (nodeOfTree t n))))) states (holdsIn (statesOf k))
             (placed r n h label node-is) x (good x i))))
 
         pub new-kept : (line : ℕ) (kept : Kept)
-            → kept ≡ keptAs (firstBrokenOf (inRow states) (spanOfPart own (spansIn new)) line 0 tests)
+            → kept ≡ keptAs (firstBrokenOf (inRow states) (spanOfPart own (spansIn new)) line 0 (method .constraints))
             → kept ≡ keptAs (brokenOfNode k t line n)
         unfolding brokenOfNode partsOf
         new-kept line kept e =
             let y = nodeOfTree t n in
-            let ds : tests ≡ constraintsOf k y = new-tests ∙ sym (node-is .brings) in
             e
-            ∙ ap (λ (l : List ℕ). keptAs (firstBrokenOf (inRow states) (spanOfPart own (spansIn l)) line 0 tests)) is-after
-            ∙ ap₂ (λ (s : Span) (cs : List Constraint). keptAs (firstBrokenOf (inRow states) (spanOfPart s (spansIn (sets work subtasksFrom (siblings work (n + 1) (countOf (subtreesOf y)))))) line 0 cs)) own-is ds
+            ∙ ap (λ (l : List ℕ). keptAs (firstBrokenOf (inRow states) (spanOfPart own (spansIn l)) line 0 (method .constraints))) is-after
+            ∙ ap₂ (λ (s : Span) (cs : List Constraint). keptAs (firstBrokenOf (inRow states) (spanOfPart s (spansIn (sets work subtasksFrom (siblings work (n + 1) (countOf (subtreesOf y)))))) line 0 cs)) own-is (sym (node-is .brings))
             ∙ ap keptAs (broken-same (k .head) (k .head .cues) (span y) (subtaskSpans y)
             (sets work subtasksFrom (siblings work (n + 1) (countOf (subtreesOf y)))) states (holdsIn (statesOf k))
             (placed r n h label node-is) line 0 (constraintsOf k y)
@@ -224,12 +179,11 @@ module _ {k : Case} {t : Tree} {text : List ℕ} {planLine nodes : ℕ} {states 
 unfoldable pub broken-from : Case → Tree → ℕ → Option Answer
 broken-from k t n = firstBroken k (holdsIn (statesOf k)) (k .planLine + 1 + n) (drop n (preorder t))
 
-pub record Going (k : Case) (t : Tree) (text : List ℕ) (header : Header) (planLine nodes : ℕ) (states start work : List ℕ) (place n : ℕ) : Type 0 where
-  pub heads : header ≡ k .head
-  pub ready : Ready k t text planLine nodes states work
+pub record Going (k : Case) (t : Tree) (fields : List ℕ) (header : Header) (planLine nodes : ℕ) (states start work : List ℕ) (place n : ℕ) : Type 0 where
+  pub ready : Ready k t fields header planLine nodes states work
   pub leaves : Leaves start work
   pub most : n ≤ size t
-  pub lines : NodesFrom text k n place
+  pub lines : Stands fields place (linesFields (map nodeLine (drop n (k .nodes))))
   pub same : brokenOfTree k t ≡ broken-from k t n
 
 orElse-none : (o later : Option Answer) → All ≡ keptAs o → orElse o later ≡ later
@@ -240,45 +194,53 @@ orElse-some : (o later : Option Answer) (a : Answer) → Broken a ≡ keptAs o �
 orElse-some none later a e = let z : _≡_ {A = ℕ} 0 1 = cc in absurd (omega arith)
 orElse-some (some b) later a e = let same : b ≡ a = cc in ap some same
 
-module _ {k : Case} {t : Tree} {text : List ℕ} {header : Header} {planLine nodes : ℕ} {states start : List ℕ} where
-  pub going-starts : header ≡ k .head → Ready k t text planLine nodes states start → Going k t text header planLine nodes states start start nodes 0
+module _ {k : Case} {t : Tree} {fields : List ℕ} {header : Header} {planLine nodes : ℕ} {states start : List ℕ} where
+  pub going-starts : Ready k t fields header planLine nodes states start → Going k t fields header planLine nodes states start start nodes 0
   unfolding brokenOfTree broken-from
-  going-starts e r =
-      let all : k .head .nodes ≡ k .head .nodes - 0 = omega arith in
+  going-starts r =
       let first : k .planLine + 1 ≡ k .planLine + 1 + 0 = omega arith in
       record {
-        heads = e;
         ready = r;
         leaves = leaves-all start;
         most = omega arith;
-        lines = record {
-          number = k .planLine + 1;
-          past = r .finds .nodeLines .0;
-          next = r .finds .nodeLines .1;
-          reads = ap (λ (c : ℕ). many (oneLine text (k .head) T.node 0 asNode) c (k .planLine + 1) nodes) (sym all) ∙ r .finds .nodeLines .2;
-        };
+        lines = r .finds .nodesHere;
         same = ap (λ (l : ℕ). firstBroken k (holdsIn (statesOf k)) l (preorder t)) first;
       }
 
-  module _ {work : List ℕ} {place n : ℕ} (g : Going k t text header planLine nodes states start work place n) where
+  module _ {work : List ℕ} {place n : ℕ} (g : Going k t fields header planLine nodes states start work place n) where
     pub all-nodes : size t ≡ header .nodes
-    all-nodes = size-is (g .ready) ∙ ap (λ (x : Header). x .nodes) (sym (g .heads))
+    all-nodes = size-is (g .ready) ∙ ap (λ (x : Header). x .nodes) (sym (g .ready .head))
 
     module _ (more : n < header .nodes) where
       pub below : n < size t
       below = let e = all-nodes in omega arith
 
-      pub going-line : (y : Again) → AgainAt text place y → NodeIs text k n (rootLine (nodeOfTree t n)) y
+      -- The line of this node, and where those after it stand.
+      pub going-line : NodeHere fields place (rootLine (nodeOfTree t n)) (drop (n + 1) (k .nodes))
       unfolding nodeOfTree rootLine
-      going-line y again =
+      going-line =
           let s = is-sound (g .ready) in
           let e = all-nodes in
           let z = size-is (g .ready) in
           let len = s .nodes-length in
-          subst (λ (x : NodeLine). NodeIs text k n x y)
+          let cut : drop n (k .nodes) ≡ getD (k .nodes) n (L 0 0) ∷ drop (n + 1) (k .nodes) =
+          drop-cons (k .nodes) n (L 0 0) (omega arith) ∙ ap (λ (i : ℕ). getD (k .nodes) n (L 0 0) ∷ drop i (k .nodes)) (sym (add-one n)) in
+          subst (λ (x : NodeLine). NodeHere fields place x (drop (n + 1) (k .nodes)))
           (ap (λ (l : List NodeLine). getD l n (L 0 0)) (sym (tree-is (g .ready) .preordered))
           ∙ List·getD-map rootLine (preorder t) n (leaf 0 0))
-          (node-found text k n place (g .lines) (L 0 0) (omega arith) (omega arith) y again)
+          (node-here fields place (drop (n + 1) (k .nodes)) (getD (k .nodes) n (L 0 0))
+          (subst (λ (xs : List NodeLine). Stands fields place (linesFields (map nodeLine xs))) cut (g .lines)))
+
+      pub node-ready : NodeReady k t fields (header .cues + 1) states work n (getD fields place 0) (getD fields (place + 1) 0)
+      node-ready = record {
+        header = header;
+        planLine = planLine;
+        nodes = nodes;
+        ready = g .ready;
+        counted = ap (λ (x : Header). x .cues + 1) (g .ready .head);
+        below = below;
+        labels = going-line .labels;
+      }
 
       this-node : broken-from k t n ≡ orElse (brokenOfNode k t (k .planLine + 1 + n) n) (broken-from k t (n + 1))
       unfolding brokenOfNode broken-from firstBroken nodeOfTree
@@ -297,17 +259,16 @@ module _ {k : Case} {t : Tree} {text : List ℕ} {header : Header} {planLine nod
           sym (ap keptAs (g .same ∙ this-node
           ∙ orElse-some (brokenOfNode k t (k .planLine + 1 + n) n) (broken-from k t (n + 1)) answer (b ∙ ap (λ (l : ℕ). keptAs (brokenOfNode k t l n)) at)))
 
-      pub going-on : (line : ℕ) (new : List ℕ) (next : ℕ) → line ≡ planLine + 1 + n → All ≡ keptAs (brokenOfNode k t line n) → Leaves work new
-          → NodesFrom text k (n + 1) next → Going k t text header planLine nodes states start new next (n + 1)
-      going-on line new next e b l f =
+      pub going-on : (line : ℕ) (new : List ℕ) (size : ℕ) → line ≡ planLine + 1 + n → All ≡ keptAs (brokenOfNode k t line n) → Leaves work new
+          → size ≡ nodeSize (getD fields place 0) → Going k t fields header planLine nodes states start new (place + size) (n + 1)
+      going-on line new size e b l f =
           let at : line ≡ k .planLine + 1 + n = e ∙ ap (λ (p : ℕ). p + 1 + n) (g .ready .plans) in
           let h = below in
           record {
-            heads = g .heads;
             ready = ready-leaves (g .ready) new l;
             leaves = leaves-then (g .leaves) l;
             most = omega arith;
-            lines = f;
+            lines = subst (λ (s : ℕ). Stands fields (place + s) (linesFields (map nodeLine (drop (n + 1) (k .nodes))))) (sym f) (going-line .next);
             same = g .same ∙ this-node
                 ∙ orElse-none (brokenOfNode k t (k .planLine + 1 + n) n) (broken-from k t (n + 1)) (b ∙ ap (λ (m : ℕ). keptAs (brokenOfNode k t m n)) at);
           }

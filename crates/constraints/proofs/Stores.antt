@@ -1,11 +1,11 @@
 -- Stores between the directory and the rows leave both; the subtasks' nodes stand first in their places. Assumes nothing.
 use mathlib.Core.Path.{_≡_, refl, ap, _∙_, fun-ext}
 use mathlib.Core.List.{List, [], _∷_, _++_, append-assoc}
-use Prim.Native.Nat.{ℕ, zero, suc, _+_, _-_, _*_, _≤_, _<_}
+use Prim.Native.Nat.{ℕ, zero, suc, _+_, _-_, _*_, _≤_}
 use native.Mathlib.Omega.{arith}
-use lib.ListN.{length, getD, take, drop, set, length-set}
-use lib.Seq.{sets, length-sets, sets-eq, getD-set-same, getD-set-other, take-set-le, take-set-lt, drop-set-lt, take-append-add, drop-at, length-take-le}
-use Rattle.tree.specs.Layout.{marksFrom, subtasksFrom, planFrom, rowsFrom, rowsPast}
+use lib.ListN.{length, getD, take, drop, set}
+use lib.Seq.{sets, length-sets, sets-eq, getD-set-other, take-set-le, take-set-lt, drop-set-lt, take-append-add, drop-at, length-take-le}
+use Rattle.tree.specs.Layout.{marksFrom, subtasksFrom, subtasksPast, rowsFrom, rowsPast}
 use Rattle.parts.specs.Spans.{rowSpan, nodeAfter, siblings, nodesIn}
 use Rattle.constraints.specs.Ready.{Leaves}
 
@@ -16,26 +16,6 @@ siblings-length work n (suc count) = ap suc (siblings-length work (nodeAfter wor
 pub sets-past : (l : List ℕ) (i : ℕ) (vs : List ℕ) (j : ℕ) → i + length vs ≤ j → getD (sets l i vs) j 0 ≡ getD l j 0
 sets-past l i [] j h = refl
 sets-past l i (v ∷ vs) j h = sets-past (set l i v) (suc i) vs j (omega arith) ∙ getD-set-other l i j v 0 (λ e. omega arith)
-
-pub sets-before : (l : List ℕ) (i : ℕ) (vs : List ℕ) (j : ℕ) → j < i → getD (sets l i vs) j 0 ≡ getD l j 0
-sets-before l i [] j h = refl
-sets-before l i (v ∷ vs) j h = sets-before (set l i v) (suc i) vs j (omega arith) ∙ getD-set-other l i j v 0 (λ e. omega arith)
-
-pub sets-at : (l : List ℕ) (i : ℕ) (vs : List ℕ) (j : ℕ) → j < length vs → i + length vs ≤ length l → getD (sets l i vs) (i + j) 0 ≡ getD vs j 0
-sets-at l i [] j h room = absurd (omega arith)
-sets-at l i (v ∷ vs) zero h room =
-    let e : i + 0 ≡ i = omega arith in
-    ap (λ (q : ℕ). getD (sets (set l i v) (suc i) vs) q 0) e ∙ sets-before (set l i v) (suc i) vs i (omega arith) ∙ getD-set-same l i v 0 (omega arith)
-sets-at l i (v ∷ vs) (suc j) h room =
-    let e : i + suc j ≡ suc i + j = omega arith in
-    ap (λ (q : ℕ). getD (sets (set l i v) (suc i) vs) q 0) e ∙ sets-at (set l i v) (suc i) vs j (omega arith) (omega (arith, length-set l i v))
-
-pub four-stores : (w : List ℕ) (i a b c d : ℕ) → set (set (set (set w i a) (i + 1) b) (i + 2) c) (i + 3) d ≡ sets w i (a ∷ b ∷ c ∷ d ∷ [])
-four-stores w i a b c d =
-    let e : i + 1 ≡ suc i = omega arith in
-    let f : i + 2 ≡ suc (suc i) = omega arith in
-    let g : i + 3 ≡ suc (suc (suc i)) = omega arith in
-    λ j. set (set (set (set w i a) (e j) b) (f j) c) (g j) d
 
 take-sets : (n : ℕ) (l : List ℕ) (i : ℕ) (vs : List ℕ) → n ≤ i → take n (sets l i vs) ≡ take n l
 take-sets n l i [] h = refl
@@ -85,14 +65,14 @@ module _ (work ns : List ℕ) (few : length ns ≤ 32) where
       let b = sets-past work subtasksFrom ns (rowsFrom + 3 * n + 1) (omega arith) in
       λ j. record { start = a j; end = b j })
 
-  pub nodes-stored : planFrom ≤ length work → nodesIn stored ≡ ns ++ take (32 - length ns) (drop (subtasksFrom + length ns) work)
-  unfolding nodesIn subtasksFrom planFrom
+  pub nodes-stored : subtasksPast ≤ length work → nodesIn stored ≡ ns ++ take (32 - length ns) (drop (subtasksFrom + length ns) work)
+  unfolding nodesIn subtasksFrom subtasksPast
   nodes-stored room =
       let before : length (take subtasksFrom work) ≡ subtasksFrom = length-take-le subtasksFrom work (omega arith) in
       let after : List ℕ = drop (subtasksFrom + length ns) work in
-      let all : planFrom ≡ length (take subtasksFrom work) + 32 = omega arith in
+      let all : subtasksPast ≡ length (take subtasksFrom work) + 32 = omega arith in
       let some : 32 ≡ length ns + (32 - length ns) = omega arith in
-      ap (λ (l : List ℕ). drop subtasksFrom (take planFrom l)) (sets-eq ns work subtasksFrom (omega arith) ∙ append-assoc (take subtasksFrom work) ns after)
+      ap (λ (l : List ℕ). drop subtasksFrom (take subtasksPast l)) (sets-eq ns work subtasksFrom (omega arith) ∙ append-assoc (take subtasksFrom work) ns after)
       ∙ ap (λ (m : ℕ). drop subtasksFrom (take m (take subtasksFrom work ++ (ns ++ after)))) all
       ∙ ap (drop subtasksFrom) (take-append-add (take subtasksFrom work) (ns ++ after) 32)
       ∙ drop-at (take subtasksFrom work) (take 32 (ns ++ after)) subtasksFrom before

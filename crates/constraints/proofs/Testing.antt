@@ -2,80 +2,100 @@
 -- Assumes nothing.
 use mathlib.Core.Path.{_≡_, refl, sym, ap, subst, _∙_}
 use mathlib.Core.Bool.{Bool, true, false}
-use mathlib.Core.List.{List, _∷_}
+use mathlib.Core.List.{List, [], _∷_, map}
 use mathlib.Core.List.{List·Memᴰ·head as here}
 use mathlib.Core.Option.{Option, some}
-use Prim.Native.Nat.{ℕ, suc, _+_, _-_, _≤_, _<_}
+use Prim.Native.Nat.{ℕ, _+_, _≤_, _<_}
 use native.Mathlib.Omega.{arith}
+use lib.ListN.{length}
 use Rattle.rules.specs.declared.Answer.{Answer}
 use Rattle.rules.specs.Index.{Span, Part, spanOfPart}
 use Rattle.rules.specs.Case.{Constraint}
+use Rattle.rules.specs.Fields.{linesFields, constraintLine}
 use Rattle.rules.specs.Constraint.{Holds, keeps, brokenAt, firstBrokenOf}
 use Rattle.rules.proofs.Judgement.Each.{Each, each-tail}
+use Rattle.fields.specs.Standing.{Stands}
+use Rattle.constraints.specs.declared.method.Line.{Line}
 use Rattle.constraints.specs.declared.method.Kept.the-variants.{All, Broken}
-use Rattle.parts.specs.States.{inRow}
+use Rattle.rows.specs.Rows.{inRow}
 use Rattle.parts.specs.Spans.{spansIn}
 use Rattle.parts.specs.Tests.{Tested}
-use Rattle.constraints.specs.Methods.{keptAs}
-use Rattle.constraints.specs.Loaded.{testAt, testsIn}
+use Rattle.constraints.specs.Methods.{keptAs, ConstraintsHere, meant, Says}
 
 abbrev decide : Holds → (Part → Span) → ℕ → ℕ → Constraint → List Constraint → Bool → Option Answer
 decide holds at line number d ds b = elim b [ true ↦ firstBrokenOf holds at line (number + 1) ds | false ↦ some (brokenAt line number d) ]
 
--- What the tests of one node go by: the node's line and span, and the lists.
-pub record Testing (count line : ℕ) (own : Span) (words work : List ℕ) (number : ℕ) : Type 0 where
-  pub most : number ≤ count
-  pub inside : Each (Tested work words own) (testsIn work number (count - number))
-  pub same : firstBrokenOf (inRow words) (spanOfPart own (spansIn work)) line 0 (testsIn work 0 count)
-      ≡ firstBrokenOf (inRow words) (spanOfPart own (spansIn work)) line number (testsIn work number (count - number))
+-- The tests of one node, by its line and span and the lists: of all the constraints, those that are left stand at a place.
+pub record Testing (fields : List ℕ) (at count line : ℕ) (own : Span) (held : ℕ) (words work : List ℕ) (number : ℕ) (all : List Constraint) : Type 0 where
+  pub left : List Constraint
+  pub stand : Stands fields at (linesFields (map constraintLine left))
+  pub most : number + length left ≡ count
+  pub inside : Each (Tested work held own) all → Each (Tested work held own) left
+  pub same : firstBrokenOf (inRow words) (spanOfPart own (spansIn work)) line 0 all
+      ≡ firstBrokenOf (inRow words) (spanOfPart own (spansIn work)) line number left
 
-pub testing-starts : {count : ℕ} (line : ℕ) {own : Span} {words work : List ℕ} → Each (Tested work words own) (testsIn work 0 count)
-    → Testing count line own words work 0
-testing-starts {count} line {own} {words} {work} f =
-    let c : count ≡ count - 0 = omega arith in
-    record {
-      most = omega arith;
-      inside = subst (λ (k : ℕ). Each (Tested work words own) (testsIn work 0 k)) c f;
-      same = ap (λ (k : ℕ). firstBrokenOf (inRow words) (spanOfPart own (spansIn work)) line 0 (testsIn work 0 k)) c;
-    }
+pub testing-starts : {fields : List ℕ} {at count : ℕ} (line : ℕ) (own : Span) (held : ℕ) (words work : List ℕ) {all : List Constraint}
+    → ConstraintsHere fields at count all → Testing fields at count line own held words work 0 all
+testing-starts line own held words work {all} h =
+    let e = h .counted in
+    record { left = all; stand = h .here; most = omega arith; inside = λ f. f; same = refl }
 
-module _ {count line : ℕ} {own : Span} {words work : List ℕ} {number : ℕ} (p : Testing count line own words work number) where
+module _ {fields : List ℕ} {at count line : ℕ} {own : Span} {held : ℕ} {words work : List ℕ} {number : ℕ} {all : List Constraint}
+    (p : Testing fields at count line own held words work number all) where
   abbrev firstFrom : ℕ → List Constraint → Option Answer
   firstFrom i ds = firstBrokenOf (inRow words) (spanOfPart own (spansIn work)) line i ds
 
-  -- The constraints after this one.
-  abbrev later : List Constraint
-  later = testsIn work (number + 1) (count - (number + 1))
+  pub testing-ends : count ≤ number → All ≡ keptAs (firstFrom 0 all)
+  testing-ends m = sym (ap keptAs (p .same ∙ go (p .left) (p .most)))
+    where
+      go : (ds : List Constraint) → number + length ds ≡ count → firstFrom number ds ≡ firstFrom number []
+      go [] e = refl
+      go (d ∷ ds) e = absurd (omega arith)
 
-  pub testing-ends : count ≤ number → All ≡ keptAs (firstFrom 0 (testsIn work 0 count))
-  testing-ends m =
-      let none-left : count - number ≡ 0 = omega arith in
-      sym (ap keptAs (p .same ∙ ap (λ (k : ℕ). firstFrom number (testsIn work number k)) none-left))
+  -- The constraint that is due, and those after it.
+  pub record Due : Type 0 where
+    pub this : Constraint
+    pub later : List Constraint
+    pub lefts : p .left ≡ this ∷ later
+    pub stands : Stands fields at (linesFields (map constraintLine (this ∷ later)))
 
-  module _ (more : number < count) where
-    this : testsIn work number (count - number) ≡ testAt work number ∷ later
-    this = let one : count - number ≡ suc (count - (number + 1)) = omega arith in ap (testsIn work number) one
+  pub due : number < count → Due
+  due more = go (p .left) refl
+    where
+      go : (ds : List Constraint) → p .left ≡ ds → Due
+      go [] e = let l = ap length e in let m = p .most in absurd (omega arith)
+      go (d ∷ ds) e = record {
+        this = d;
+        later = ds;
+        lefts = e;
+        stands = subst (λ (l : List Constraint). Stands fields at (linesFields (map constraintLine l))) e (p .stand);
+      }
 
-    opened : Each (Tested work words own) (testAt work number ∷ later)
-    opened = subst (λ (ds : List Constraint). Each (Tested work words own) ds) this (p .inside)
+  -- The code has its line.
+  module _ (x : Due) {y : Line} (says : Says fields y (x .this) (x .later)) where
+    opened : Each (Tested work held own) all → Each (Tested work held own) (x .this ∷ x .later)
+    opened f = subst (λ (ds : List Constraint). Each (Tested work held own) ds) (x .lefts) (p .inside f)
 
-    pub tested-here : Tested work words own (testAt work number)
-    tested-here = opened (testAt work number) (here refl)
+    pub tested-here : Each (Tested work held own) all → Tested work held own (meant y)
+    tested-here f = subst (Tested work held own) (sym (says .means)) (opened f (x .this) (here refl))
 
-    goes : {r b : Bool} → r ≡ keeps (inRow words) (spanOfPart own (spansIn work)) (testAt work number) → r ≡ b
-        → firstFrom 0 (testsIn work 0 count) ≡ decide (inRow words) (spanOfPart own (spansIn work)) line number (testAt work number) later b
+    goes : {r b : Bool} → r ≡ keeps (inRow words) (spanOfPart own (spansIn work)) (meant y) → r ≡ b
+        → firstFrom 0 all ≡ decide (inRow words) (spanOfPart own (spansIn work)) line number (x .this) (x .later) b
     goes k e =
-        p .same ∙ ap (firstFrom number) this
-        ∙ ap (decide (inRow words) (spanOfPart own (spansIn work)) line number (testAt work number) later) (sym k ∙ e)
+        p .same ∙ ap (firstFrom number) (x .lefts)
+        ∙ ap (decide (inRow words) (spanOfPart own (spansIn work)) line number (x .this) (x .later))
+        (ap (keeps (inRow words) (spanOfPart own (spansIn work))) (sym (says .means)) ∙ sym k ∙ e)
 
-    pub testing-breaks : {r : Bool} {answer : Answer} → r ≡ keeps (inRow words) (spanOfPart own (spansIn work)) (testAt work number) → r ≡ false
-        → answer ≡ brokenAt line number (testAt work number) → Broken answer ≡ keptAs (firstFrom 0 (testsIn work 0 count))
-    testing-breaks k b e = ap Broken e ∙ sym (ap keptAs (goes k b))
+    pub testing-breaks : {r : Bool} {answer : Answer} → r ≡ keeps (inRow words) (spanOfPart own (spansIn work)) (meant y) → r ≡ false
+        → answer ≡ brokenAt line number (meant y) → Broken answer ≡ keptAs (firstFrom 0 all)
+    testing-breaks k b e = ap Broken (e ∙ ap (brokenAt line number) (says .means)) ∙ sym (ap keptAs (goes k b))
 
-    pub testing-goes-on : {r : Bool} → r ≡ keeps (inRow words) (spanOfPart own (spansIn work)) (testAt work number) → r ≡ true
-        → Testing count line own words work (number + 1)
+    pub testing-goes-on : {r : Bool} → r ≡ keeps (inRow words) (spanOfPart own (spansIn work)) (meant y) → r ≡ true
+        → Testing fields (y .next) count line own held words work (number + 1) all
     testing-goes-on k b = record {
-      most = omega arith;
-      inside = each-tail (Tested work words own) (testAt work number) later opened;
+      left = x .later;
+      stand = says .later;
+      most = let e = ap length (x .lefts) in let m = p .most in omega arith;
+      inside = λ f. each-tail (Tested work held own) (x .this) (x .later) (opened f);
       same = goes k b;
     }

@@ -1,42 +1,32 @@
--- The constraints of a method, read again from its lines, and the answer that they give. Assumes nothing.
-use mathlib.Core.List.{List, [], _∷_}
+-- The constraints of a method among the fields, and the answer that they give. Assumes nothing.
+use mathlib.Core.Path.{_≡_}
+use mathlib.Core.List.{List, map}
 use mathlib.Core.Option.{Option, none, some}
-use Prim.Native.Nat.{ℕ, zero, suc}
-use Rattle.rules.specs.declared.Header.{Header}
+use Prim.Native.Nat.{ℕ}
+use lib.ListN.{length}
 use Rattle.rules.specs.declared.Answer.{Answer}
-use Rattle.rules.specs.Table as T
-use Rattle.rules.specs.Table.{LineRead, line, readLine}
-use Rattle.rules.specs.Case.{Constraint, asConstraint}
-use Rattle.reading.specs.declared.again.MethodAgain.{MethodAgain}
+use Rattle.rules.specs.Case.{Constraint, constraintOf}
+use Rattle.rules.specs.Fields.{linesFields, constraintLine}
+use Rattle.fields.specs.Standing.{Stands}
+use Rattle.constraints.specs.declared.method.Line.{Line}
 use Rattle.constraints.specs.declared.method.Kept.{Kept}
 use Rattle.constraints.specs.declared.method.Kept.the-variants.{All, Broken}
-use Rattle.reading.specs.TheCase.{caseOf}
 
 -- The first broken constraint, if there is one.
 abbrev pub keptAs : Option Answer → Kept
 keptAs none = All
 keptAs (some answer) = Broken answer
 
-abbrev pub followTest : LineRead → (ℕ → List Constraint) → List Constraint
-followTest (line l vs next) rest = asConstraint (l, vs) ∷ rest next
-followTest (LineRead.unreadable field) rest = []
-followTest (LineRead.outside field) rest = []
+-- A method's constraints, so many, stand line by line from a place on.
+pub record ConstraintsHere (fields : List ℕ) (at count : ℕ) (cs : List Constraint) : Type 0 where
+  pub here : Stands fields at (linesFields (map constraintLine cs))
+  pub counted : length cs ≡ count
 
--- So many constraints of a method with s subtasks, from a place on: up to the first that doesn't read.
-abbrev pub testsAt : List ℕ → Header → ℕ → ℕ → ℕ → List Constraint
-testsAt text h s zero place = []
-testsAt text h s (suc count) place = followTest (readLine text T.constraint h s place) (λ next. testsAt text h s count next)
+-- The constraint of a line's letter and numbers.
+abbrev pub meant : Line → Constraint
+meant x = constraintOf (x .letter) (x .first) (x .second) (x .third)
 
--- They all read.
-abbrev pub thenRead : LineRead → (ℕ → Type 0) → Type 0
-thenRead (line l vs next) rest = rest next
-thenRead (LineRead.unreadable field) rest = ⊥
-thenRead (LineRead.outside field) rest = ⊥
-
-abbrev pub TestsRead : List ℕ → Header → ℕ → ℕ → ℕ → Type 0
-TestsRead text h s zero place = Unit {0}
-TestsRead text h s (suc count) place = thenRead (readLine text T.constraint h s place) (λ next. TestsRead text h s count next)
-
--- The constraints that follow the line of a method of the text's case.
-abbrev pub testsOf : List ℕ → MethodAgain → List Constraint
-testsOf text m = testsAt text (caseOf text .head) (m .subtasks) (m .constraints) (m .next .at)
+-- What a line says, and where the line after it stands.
+pub record Says (fields : List ℕ) (x : Line) (d : Constraint) (ds : List Constraint) : Type 0 where
+  pub means : meant x ≡ d
+  pub later : Stands fields (x .next) (linesFields (map constraintLine ds))

@@ -1,29 +1,24 @@
-// One method's constraints: read again from the lines after its M line into the work space, and tested from there.
+// One method's constraints, tested where their lines stand among the fields.
 ghost use mathlib.Core.Path.{_≡_};
-ghost use mathlib.Core.List.{[], _∷_};
-ghost use Prim.Native.Nat.{ℕ, _+_, _*_, _<_, _≤_};
+ghost use mathlib.Core.List.{List, _∷_, map};
+ghost use Prim.Native.Nat.{ℕ, _≤_};
 ghost use lib.ListN.{length};
-ghost use lib.Seq.{sets};
 ghost use Rattle.rules.specs.Index.{spanOfPart};
-ghost use Rattle.rules.specs.Constraint.{brokenAt, firstBrokenOf};
-ghost use Rattle.rules.proofs.Judgement.Each.{Each};
+ghost use Rattle.rules.specs.Case.{Constraint, constraintOf};
+ghost use Rattle.rules.specs.Fields.{linesFields, constraintLine};
+ghost use Rattle.rules.specs.Constraint.{keeps, brokenAt, firstBrokenOf};
+ghost use Rattle.rules.specs.Refusals.{Each};
 ghost use Rattle.index.specs.Spans.{spanOf};
-ghost use Rattle.parts.specs.States.{inRow};
+ghost use Rattle.fields.specs.Standing.{Stands};
+ghost use Rattle.tree.specs.Layout.{subtasksPast};
+ghost use Rattle.rows.specs.Rows.{inRow};
+ghost use Rattle.columns.specs.Columns.{Columns};
 ghost use Rattle.parts.specs.Spans.{spansIn};
 ghost use Rattle.parts.specs.Tests.{Tested};
-ghost use Rattle.rules.specs.Case.{constraintOf};
-ghost use Rattle.reading.specs.TheCase.{caseOf};
-ghost use Rattle.constraints.specs.Ready.{Leaves};
-ghost use Rattle.constraints.specs.Loaded.{testsFrom, testsPast, testsIn, Letters};
-ghost use Rattle.constraints.specs.Methods.{keptAs, TestsRead, testsOf};
+ghost use Rattle.constraints.specs.Methods.{keptAs, ConstraintsHere, meant, Says};
 use index::Span;
 use parts::keeps;
-use reading::MethodAgain;
-use reading::read_again;
 use rules::Answer;
-
-// Where the constraints of the loaded method start in the work space: four words for each, of at most 64.
-const TESTS: usize = 5104;
 
 // Whether all constraints hold, or the answer for the first broken one.
 pub enum Kept {
@@ -31,11 +26,13 @@ pub enum Kept {
     Broken { answer: Answer },
 }
 
-// The method whose constraints are in the work space: its number, and how many subtasks and constraints it has.
-pub struct Loaded {
-    pub method: u32,
-    pub subtasks: u32,
-    pub count: u32,
+// A constraint's line: its letter, its numbers, and the place after it.
+struct Line {
+    letter: u8,
+    first: u32,
+    second: u32,
+    third: u32,
+    next: usize,
 }
 
 // "first broken O, B, F, W": 10, 11, 12, 13.
@@ -66,61 +63,93 @@ fn broken(letter: u8, line: u32, number: u32) -> Answer
     }
 }
 
-// One constraint's letter and numbers, into its four words of the work space.
-fn put_test(work: &mut [u32], number: u32, letter: u8, first: u32, second: u32, third: u32)
-    requires { ⌜ (number < 64) × (testsPast ≤ length (now work)) ⌝ }
-    ensures words { λ _. ⌜ now (work .exit) ≡ sets (now (work .entry)) (testsFrom + 4 * number) (letter ∷ first ∷ second ∷ third ∷ []) ⌝ }
-    ensures byte { λ _. ⌜ letter < 256 ⌝ }
+// The line of a constraint: its letter, its numbers, and where the line after it stands. Only W has a third number, and no field need follow
+// the numbers of the others.
+fn line_at(fields: &[u32], at: usize) -> Line
+    requires { ⌜ ((d : Constraint) × (ds : List Constraint) × Stands (now fields) at (linesFields (map constraintLine (d ∷ ds)))) ⌝ }
+    ensures { λ r. ⌜ ((d : Constraint) (ds : List Constraint) → Stands (now (fields .entry)) at (linesFields (map constraintLine (d ∷ ds))) → Says (now (fields .entry)) r d ds) ⌝ }
 {
-    let at = TESTS + 4 * number as usize;
-    work[at] = letter as u32;
-    work[at + 1] = first;
-    work[at + 2] = second;
-    work[at + 3] = third;
-}
-
-// A method's constraint lines, each read once, into the work space.
-pub fn load_tests(text: &[u8], m: MethodAgain, work: &mut [u32])
-    requires { ⌜ (m .constraints ≤ 64) × (testsPast ≤ length (now work)) ⌝ }
-    requires { ⌜ TestsRead (now text) (caseOf (now text) .head) (m .subtasks) (m .constraints) (m .next .at) ⌝ }
-    ensures leaves { λ _. ⌜ Leaves (now (work .entry)) (now (work .exit)) ⌝ }
-    ensures tests { λ _. ⌜ testsIn (now (work .exit)) 0 (m .constraints) ≡ testsOf (now (text .entry)) m ⌝ }
-    ensures letters { λ _. ⌜ Letters (now (work .exit)) (m .constraints) ⌝ }
-{
-    let mut at = m.next;
-    let mut number: u32 = 0;
-    while number < m.constraints {
-        let a = read_again(text, at);
-        put_test(work, number, a.letter, a.first, a.second, a.third);
-        at = a.next;
-        number += 1;
+    let letter = fields[at] as u8;
+    let first = fields[at + 1];
+    let second = fields[at + 2];
+    if letter == b'W' {
+        let third = fields[at + 3];
+        return Line {
+            letter,
+            first,
+            second,
+            third,
+            next: at + 4,
+        };
+    }
+    Line {
+        letter,
+        first,
+        second,
+        third: 0,
+        next: at + 3,
     }
 }
 
-// The first broken one of the loaded constraints, "each method's in text order", for a node with this line and span.
-pub fn first_broken_of(count: u32, line: u32, own: Span, states: &[u64], work: &[u32]) -> Kept
-    requires { ⌜ (count ≤ 64) × (testsPast ≤ length (now work)) ⌝ }
-    requires { ⌜ Letters (now work) count ⌝ }
-    requires { ⌜ Each (Tested (now work) (now states) (spanOf own)) (testsIn (now work) 0 count) ⌝ }
-    ensures { λ r. ⌜ r ≡ keptAs (firstBrokenOf (inRow (now (states .entry))) (spanOfPart (spanOf own) (spansIn (now (work .entry)))) line 0 (testsIn (now (work .entry)) 0 count)) ⌝ }
+// Whether a task with this span keeps the constraint of a line.
+fn keeps_line(
+    work: &[u32],
+    columns: &mut [u64],
+    built: &mut [u64],
+    states: &[u64],
+    held: usize,
+    own: Span,
+    d: Line,
+) -> bool
+    requires { ⌜ subtasksPast ≤ length (now work) ⌝ }
+    requires { ⌜ Columns (now states) held (now columns) (now built) ⌝ }
+    requires { ⌜ Tested (now work) held (spanOf own) (meant d) ⌝ }
+    ensures { λ r. ⌜ r ≡ keeps (inRow (now (states .entry))) (spanOfPart (spanOf own) (spansIn (now (work .entry)))) (meant d) ⌝ }
+    ensures { λ _. ⌜ Columns (now (states .entry)) held (now (columns .exit)) (now (built .exit)) ⌝ }
 {
+    keeps(
+        work,
+        columns,
+        built,
+        states,
+        held,
+        own,
+        d.letter,
+        d.first,
+        d.second,
+        d.third,
+    )
+}
+
+// The first broken one of so many constraints, "each method's in text order", for a node with this line and span.
+pub fn first_broken_of(
+    fields: &[u32],
+    from: usize,
+    count: u32,
+    line: u32,
+    own: Span,
+    held: usize,
+    states: &[u64],
+    work: &[u32],
+    columns: &mut [u64],
+    built: &mut [u64],
+) -> Kept
+    requires { ⌜ subtasksPast ≤ length (now work) ⌝ }
+    requires { ⌜ Columns (now states) held (now columns) (now built) ⌝ }
+    requires { ⌜ ((cs : List Constraint) × ConstraintsHere (now fields) from count cs × Each (Tested (now work) held (spanOf own)) cs) ⌝ }
+    ensures { λ r. ⌜ ((cs : List Constraint) → ConstraintsHere (now (fields .entry)) from count cs → r ≡ keptAs (firstBrokenOf (inRow (now (states .entry))) (spanOfPart (spanOf own) (spansIn (now (work .entry)))) line 0 cs)) ⌝ }
+    ensures { λ _. ⌜ Columns (now (states .entry)) held (now (columns .exit)) (now (built .exit)) ⌝ }
+{
+    let mut at = from;
     let mut number: u32 = 0;
     while number < count {
-        let at = TESTS + 4 * number as usize;
-        let letter = work[at] as u8;
-        if !keeps(
-            work,
-            states,
-            own,
-            letter,
-            work[at + 1],
-            work[at + 2],
-            work[at + 3],
-        ) {
+        let d = line_at(fields, at);
+        if !keeps_line(work, columns, built, states, held, own, d) {
             return Kept::Broken {
-                answer: broken(letter, line, number),
+                answer: broken(d.letter, line, number),
             };
         }
+        at = d.next;
         number += 1;
     }
     Kept::All

@@ -1,146 +1,124 @@
 // The constraints of the claimed tree's nodes, "nodes in order".
 ghost use mathlib.Core.Path.{_≡_};
-ghost use mathlib.Core.List.{List};
-ghost use Prim.Native.Nat.{ℕ, _<_};
-ghost use Rattle.rules.specs.Tree.{rootLine};
-ghost use Rattle.tree.specs.Layout.{size};
+ghost use Prim.Native.Nat.{_+_, _*_, _<_};
+ghost use lib.ListN.{length, getD, replicate};
+ghost use Rattle.rules.specs.State.{wordCount};
+ghost use Rattle.rules.specs.Case.{Case};
+ghost use Rattle.rules.specs.Tree.{Tree};
+ghost use Rattle.fields.specs.Directory.{methodsFrom};
+ghost use Rattle.columns.specs.Columns.{columnWords, columnCount, Columns};
 ghost use Rattle.constraints.specs.Methods.{keptAs};
-ghost use Rattle.constraints.specs.Loaded.{Holds, IfLoaded};
-ghost use Rattle.reading.specs.TheCase.{caseOf};
-ghost use Rattle.constraints.specs.Ready.{treeIn, Ready, Leaves, namesMethod, Labels, nodeOfTree, brokenOfNode, brokenOfTree};
+ghost use Rattle.constraints.specs.Ready.{Ready, Leaves, namesMethod, NodeReady, brokenOfNode, brokenOfTree};
 use crate::method::Kept;
-use crate::method::Loaded;
 use crate::method::first_broken_of;
-use crate::method::load_tests;
+use fields::METHODS_FROM;
+use fields::node_size;
 use parts::span_at;
 use parts::subtask_nodes;
-use reading::METHODS_FROM;
-use reading::read_again;
-use reading::read_method_again;
 use rules::Header;
-use text::Cursor;
 
-// The number of no method.
-const NONE: u32 = 4294967295;
+// The letters D and E, as the fields have them.
+const D: u32 = b'D' as u32;
+
+const E: u32 = b'E' as u32;
 
 // Whether a node line's letter names a method: "D,m (method m, not empty); E,m,g (empty method m in gap g, 0 to k)".
-fn names_method(letter: u8) -> bool
+fn names_method(letter: u32) -> bool
     ensures { λ r. ⌜ r ≡ namesMethod letter ⌝ }
 {
-    if letter == b'D' { true } else { letter == b'E' }
+    if letter == D { true } else { letter == E }
 }
 
 // A node of the claimed tree: its number, that of its line, and the line's letter and first number.
 struct Named {
     n: u32,
     line: u32,
-    letter: u8,
+    letter: u32,
     label: u32,
 }
 
-// What a node's turn leaves: its first broken constraint, and the method that is loaded now.
-struct Turn {
-    kept: Kept,
-    loaded: Loaded,
-}
-
-// No method's constraints are in the work space yet.
-fn none_loaded() -> Loaded
-    ensures { λ r. ⌜ r .method ≡ 4294967295 ⌝ }
+// Where the line of a method stands among the fields.
+fn method_place(directory: &[u32], method: u32) -> u32
+    requires { ⌜ methodsFrom + method < length (now directory) ⌝ }
+    ensures { λ r. ⌜ r ≡ getD (now (directory .entry)) (methodsFrom + method) 0 ⌝ }
 {
-    Loaded {
-        method: NONE,
-        subtasks: 0,
-        count: 0,
-    }
-}
-
-// A method in the work space: the one that is loaded, or its lines are read.
-fn load(text: &[u8], method: u32, loaded: Loaded, work: &mut [u32]) -> Loaded
-    requires { ⌜ ((planLine nodes : ℕ) × (states : List ℕ) × Ready (caseOf (now text)) (treeIn (now text)) (now text) planLine nodes states (now work)) ⌝ }
-    requires { ⌜ method < caseOf (now text) .head .methods ⌝ }
-    requires { ⌜ IfLoaded (caseOf (now text)) (now work) loaded ⌝ }
-    ensures method { λ r. ⌜ r .method ≡ method ⌝ }
-    ensures holds { λ r. ⌜ Holds (caseOf (now (text .entry))) (now (work .exit)) r ⌝ }
-    ensures leaves { λ _. ⌜ Leaves (now (work .entry)) (now (work .exit)) ⌝ }
-{
-    if method == loaded.method {
-        return loaded;
-    }
     let at = METHODS_FROM + method as usize;
-    let place = work[at] as usize;
-    let m = read_method_again(text, Cursor { at: place });
-    load_tests(text, m, work);
-    Loaded {
-        method,
-        subtasks: m.subtasks,
-        count: m.constraints,
-    }
+    directory[at]
 }
 
-// The first broken constraint of a node. An empty task has constraints too, at its own span.
-fn node_kept(text: &[u8], x: Named, loaded: Loaded, states: &[u64], work: &mut [u32]) -> Turn
-    requires { ⌜ ((planLine nodes : ℕ) × Ready (caseOf (now text)) (treeIn (now text)) (now text) planLine nodes (now states) (now work)) ⌝ }
-    requires { ⌜ x .n < size (treeIn (now text)) ⌝ }
-    requires { ⌜ Labels (x .letter) (x .label) (rootLine (nodeOfTree (treeIn (now text)) (x .n))) ⌝ }
-    requires { ⌜ IfLoaded (caseOf (now text)) (now work) loaded ⌝ }
-    ensures { λ r. ⌜ r .kept ≡ keptAs (brokenOfNode (caseOf (now (text .entry))) (treeIn (now (text .entry))) (x .line) (x .n)) ⌝ }
-    ensures { λ r. ⌜ IfLoaded (caseOf (now (text .entry))) (now (work .exit)) (r .loaded) ⌝ }
-    ensures { λ r. ⌜ Leaves (now (work .entry)) (now (work .exit)) ⌝ }
-{
-    if !names_method(x.letter) {
-        return Turn {
-            kept: Kept::All,
-            loaded,
-        };
-    }
-    let m = load(text, x.label, loaded, work);
-    if m.count == 0 {
-        return Turn {
-            kept: Kept::All,
-            loaded: m,
-        };
-    }
-    subtask_nodes(work, x.n, m.subtasks);
-    let own = span_at(work, x.n);
-    Turn {
-        kept: first_broken_of(m.count, x.line, own, states, work),
-        loaded: m,
-    }
-}
-
-// The first broken constraint of the claimed tree, "nodes in order, each method's in text order".
-pub fn first_broken(
-    text: &[u8],
-    header: Header,
-    plan_line: u32,
-    nodes: Cursor,
+// The first broken constraint of a node, of so many states. An empty task has constraints too, at its own span.
+fn node_kept(
+    fields: &[u32],
+    x: Named,
+    held: usize,
     states: &[u64],
     work: &mut [u32],
+    columns: &mut [u64],
+    built: &mut [u64],
 ) -> Kept
-    requires { ⌜ Ready (caseOf (now text)) (treeIn (now text)) (now text) «plan_line» (nodes .at) (now states) (now work) ⌝ }
-    requires { ⌜ header ≡ caseOf (now text) .head ⌝ }
-    ensures { λ r. ⌜ r ≡ keptAs (brokenOfTree (caseOf (now (text .entry))) (treeIn (now (text .entry)))) ⌝ }
-    ensures { λ r. ⌜ Leaves (now (work .entry)) (now (work .exit)) ⌝ }
+    requires { ⌜ ((k : Case) × (t : Tree) × NodeReady k t (now fields) held (now states) (now work) (x .n) (x .letter) (x .label)) ⌝ }
+    requires { ⌜ Columns (now states) held (now columns) (now built) ⌝ }
+    ensures { λ r. ⌜ ((k : Case) (t : Tree) → NodeReady k t (now (fields .entry)) held (now (states .entry)) (now (work .entry)) (x .n) (x .letter) (x .label) → r ≡ keptAs (brokenOfNode k t (x .line) (x .n))) ⌝ }
+    ensures { λ _. ⌜ Leaves (now (work .entry)) (now (work .exit)) ⌝ }
+    ensures { λ _. ⌜ Columns (now (states .entry)) held (now (columns .exit)) (now (built .exit)) ⌝ }
 {
+    if !names_method(x.letter) {
+        return Kept::All;
+    }
+    let place = method_place(work, x.label) as usize;
+    let subtasks = fields[place + 2];
+    let counted = place + 3 + subtasks as usize;
+    let count = fields[counted];
+    if count == 0 {
+        return Kept::All;
+    }
+    subtask_nodes(work, x.n, subtasks);
+    first_broken_of(
+        fields,
+        counted + 1,
+        count,
+        x.line,
+        span_at(work, x.n),
+        held,
+        states,
+        work,
+        columns,
+        built,
+    )
+}
+
+// The first broken constraint of the claimed tree, "nodes in order, each method's in text order". The caller lends the columns, none built.
+pub fn first_broken(
+    fields: &[u32],
+    header: Header,
+    plan_line: u32,
+    nodes: usize,
+    states: &[u64],
+    work: &mut [u32],
+    columns: &mut [u64],
+    built: &mut [u64],
+) -> Kept
+    requires { ⌜ ((k : Case) × (t : Tree) × Ready k t (now fields) header «plan_line» nodes (now states) (now work)) ⌝ }
+    requires { ⌜ (length (now columns) ≡ columnCount * columnWords) × (now built ≡ replicate wordCount 0) ⌝ }
+    ensures { λ r. ⌜ ((k : Case) (t : Tree) → Ready k t (now (fields .entry)) header «plan_line» nodes (now (states .entry)) (now (work .entry)) → r ≡ keptAs (brokenOfTree k t)) ⌝ }
+    ensures { λ _. ⌜ Leaves (now (work .entry)) (now (work .exit)) ⌝ }
+{
+    let held = header.cues as usize + 1;
     let mut at = nodes;
-    let mut loaded = none_loaded();
     let mut n: u32 = 0;
     while n < header.nodes {
-        let a = read_again(text, at);
+        let letter = fields[at];
         let x = Named {
             n,
             line: plan_line + 1 + n,
-            letter: a.letter,
-            label: a.first,
+            letter,
+            label: fields[at + 1],
         };
-        let turn = node_kept(text, x, loaded, states, work);
-        let kept = turn.kept;
+        let kept = node_kept(fields, x, held, states, work, columns, built);
         match kept {
             Kept::Broken { answer } => return Kept::Broken { answer },
             Kept::All => {
-                at = a.next;
-                loaded = turn.loaded;
+                at += node_size(letter);
                 n += 1;
             }
         }

@@ -9,28 +9,23 @@ use Rattle.rules.specs.declared.Header.{Header}
 use Rattle.rules.specs.declared.Answer.{Answer}
 use Rattle.rules.specs.declared.Answer.the-variants.{Accepted}
 use Rattle.rules.specs.Result.{found, refused}
+use Rattle.rules.specs.Case.{Case}
 use Rattle.rules.specs.Tree.{Tree, leaf, preorder, rootLine, span}
-use Rattle.rules.specs.Constraint.{holdsIn, firstBroken}
 use Rattle.rules.specs.Index.{Span}
-use Rattle.rules.specs.Verdict.{Found, workNeed, statesOf, answerOf, statesAfter, nodeRecord}
+use Rattle.rules.specs.Verdict.{Found, workNeed, statesAfter, nodeRecord}
 use Rattle.rules.proofs.Judgement.Rows.{fromTree}
-use Rattle.reading.specs.TheCase.{caseOf}
-use Rattle.tree.specs.Layout as Lay
 use Rattle.parts.specs.Spans.{rowSpan}
-use Rattle.constraints.specs.Ready.{Ready, Leaves, brokenOfTree}
-use Rattle.constraints.specs.Ready as Con
+use Rattle.constraints.specs.Ready.{Ready, Leaves, nodeOfTree, brokenOfTree}
 use Rattle.constraints.specs.Methods.{keptAs}
 use Rattle.constraints.specs.declared.method.Kept.{Kept}
 use Rattle.constraints.specs.declared.method.Kept.the-variants.{All, Broken}
 use Rattle.constraints.proofs.Held.{preorder-length, root-row}
 use Rattle.constraints.proofs.Nodes.{tree-is, ready-leaves, node-held}
-use Rattle.records.specs.Records.{recordAt, upTo, recordOf, RecordsHeld, recordsOf}
-use Rattle.records.specs.Reading.{NodesRead, nodeLines}
+use Rattle.records.specs.Records.{recordAt, upTo, recordOf, RecordsHeld, NodesStand, recordsOf}
 use Rattle.judge.specs.declared.Opened.{Opened}
-use Rattle.judge.specs.Phases as P
+use Rattle.judge.specs.Phases.{Answers, Claimed}
 use Rattle.judge.proofs.Phases.{open-sound}
 use Rattle.judge.proofs.Verdicts.{constraints-refused, tree-right}
-use Rattle.judge.proofs.NodeLines.{nodes-read, lines-are}
 
 -- The records of node lines, each with the span of its tree.
 records-of : (xs : List Tree) (f : ℕ → Span) (i : ℕ) → ((j : ℕ) → j < length xs → f (i + j) ≡ span (getD xs j (leaf 0 0)))
@@ -43,101 +38,75 @@ records-of (x ∷ xs) f i h =
     λ z. nodeRecord (rootLine x) (here z)
     ∷ records-of xs f (i + 1) (λ j l. let next : i + 1 + j ≡ i + suc j = omega arith in ap f next ∙ h (suc j) (omega arith)) z
 
-module _ (text : List ℕ) (o : Opened) (states work : List ℕ) (x : P.Claimed text o states work) where
-  w : P.Walked text o states work
-  w = x .walked
+module _ {k : Case} {fields : List ℕ} {o : Opened} {states work : List ℕ} (x : Claimed k fields o states work) where
+  abbrev tree : Tree
+  tree = x .walked .tree
 
-  con-tree : Con.treeIn text ≡ w .tree
-  unfolding Con.treeIn Lay.treeOf w
-  con-tree = ap Lay.treeOf (w .walks)
+  pub constraints-ready : Ready k tree fields (o .header) (o .«plan_line») (o .nodes) states work
+  constraints-ready =
+      let w = x .walked in
+      record {
+        read = w .opens .read;
+        head = w .opens .head;
+        plans = w .opens .planned;
+        initial = w .initial;
+        plan = o .plan;
+        finds = w .opens .finds;
+        room = w .opens .workRoom;
+        walks = (w .claimed, w .walks);
+        rowsHeld = w .rowed;
+        stateSize = length states;
+        stateRoom = w .run .stateRoom;
+        statesHeld = w .run .statesHeld;
+      }
 
-  pub constraints-ready : Ready (caseOf text) (Con.treeIn text) text (o .«plan_line») (o .nodes .at) states work × (o .header ≡ caseOf text .head)
-  unfolding w
-  constraints-ready = (
-    subst (λ (t : Tree). Ready (caseOf text) t text (o .«plan_line») (o .nodes .at) states work) (sym con-tree)
-        (record {
-          reads = w .opens .reads;
-          short = w .opens .short;
-          plans = w .opens .planned;
-          initial = w .initial;
-          plan = o .plan .at;
-          finds = w .opens .finds;
-          room = w .opens .workRoom;
-          walks = (w .claimed, w .walks);
-          rowsHeld = w .rowed;
-          stateSize = length states;
-          stateRoom = w .run .stateRoom;
-          statesHeld = w .run .statesHeld;
-        }),
-    w .opens .head,
-  )
-
-  module _ (r : Kept) (said : r ≡ keptAs (brokenOfTree (caseOf text) (Con.treeIn text))) where
-    broken : brokenOfTree (caseOf text) (Con.treeIn text) ≡ firstBroken (caseOf text) (holdsIn (statesOf (caseOf text))) (caseOf text .planLine + 1) (preorder (w .tree))
+  module _ {r : Kept} (said : r ≡ keptAs (brokenOfTree k tree)) where
+    pub kept-not : (a : Answer) → r ≡ Broken a → fromTree k ≡ refused a
     unfolding brokenOfTree
-    broken = λ j. brokenOfTree (caseOf text) (con-tree j)
-
-    pub kept-not : (a : Answer) → r ≡ Broken a → fromTree (caseOf text) ≡ refused a
-    unfolding w
-    kept-not a e = go (brokenOfTree (caseOf text) (Con.treeIn text)) refl
+    kept-not a e =
+        constraints-refused k tree (x .walked .claimed) (x .walked .walks) (x .claims) a (go (brokenOfTree k tree) (sym e ∙ said))
       where
-        go : (y : Option Answer) → brokenOfTree (caseOf text) (Con.treeIn text) ≡ y → fromTree (caseOf text) ≡ refused a
-        go none q = let v : Broken a ≡ All = sym e ∙ said ∙ ap keptAs q in let z : _≡_ {A = ℕ} 0 1 = cc in absurd (omega arith)
-        go (some b) q =
-            let v : Broken a ≡ Broken b = sym e ∙ said ∙ ap keptAs q in
-            let same : b ≡ a = cc in
-            constraints-refused (caseOf text) (w .tree) (w .claimed) (w .walks) (x .claims) a
-            (sym broken ∙ q ∙ ap (λ (y : Answer). some y) same)
+        go : (y : Option Answer) → Broken a ≡ keptAs y → y ≡ some a
+        go none q = let z : _≡_ {A = ℕ} 0 1 = cc in absurd (omega arith)
+        go (some b) q = let same : b ≡ a = cc in ap (λ (y : Answer). some y) same
 
-    kept-all : r ≡ All → fromTree (caseOf text) ≡ found (caseOf text, w .tree)
-    unfolding w
-    kept-all e = go (brokenOfTree (caseOf text) (Con.treeIn text)) refl
+    kept-all : r ≡ All → fromTree k ≡ found (k, tree)
+    unfolding brokenOfTree
+    kept-all e = tree-right k tree (x .walked .claimed) (x .walked .walks) (x .claims) (go (brokenOfTree k tree) (sym e ∙ said))
       where
-        go : (y : Option Answer) → brokenOfTree (caseOf text) (Con.treeIn text) ≡ y → fromTree (caseOf text) ≡ found (caseOf text, w .tree)
-        go none q = tree-right (caseOf text) (w .tree) (w .claimed) (w .walks) (x .claims) (sym broken ∙ q)
-        go (some b) q = let v : All ≡ Broken b = sym e ∙ said ∙ ap keptAs q in let z : _≡_ {A = ℕ} 0 1 = cc in absurd (omega arith)
+        go : (y : Option Answer) → All ≡ keptAs y → y ≡ none
+        go none q = refl
+        go (some b) q = let z : _≡_ {A = ℕ} 0 1 = cc in absurd (omega arith)
 
     -- ---- The records
 
-    module _ (v : List ℕ) (leaves : Leaves work v) where
+    pub nodes-ask : NodesStand fields (o .nodes) (o .header .nodes) (k .nodes)
+    nodes-ask =
+        let w = x .walked .opens in
+        record { here = w .finds .nodesHere; counted = open-sound w .nodes-length ∙ ap (λ (h : Header). h .nodes) (sym (w .head)) }
+
+    module _ {v : List ℕ} (leaves : Leaves work v) where
       pub records-ask : (o .header .nodes ≤ 3000) × (16384 ≤ length v)
-      unfolding workNeed w
+      unfolding workNeed
       records-ask =
-          let good = open-sound text o (w .initial) work (w .opens) .head-good in
-          let few : caseOf text .head .nodes ≤ 3000 = good .few-nodes in
-          let room = w .opens .workRoom in
+          let w = x .walked .opens in
+          let room = w .workRoom in
           let same = leaves .same-size in
-          (subst (λ (h : Header). h .nodes ≤ 3000) (sym (w .opens .head)) few, omega arith)
+          (subst (λ (h : Header). h .nodes ≤ 3000) (sym (w .head)) (open-sound w .head-good .few-nodes), omega arith)
 
-      pub nodes-ask : NodesRead text (o .header) (o .nodes .at)
-      unfolding w
-      nodes-ask =
-          let f = w .opens .finds in
-          subst (λ (h : Header). NodesRead text h (o .nodes .at)) (sym (w .opens .head))
-          (nodes-read text (caseOf text) (o .nodes .at) (f .nodeLines .0) (f .nodeLines .1) (f .nodeLines .2))
-
-      pub records-done : r ≡ All → (u : List ℕ)
-          → upTo (recordAt u) (o .header .nodes) ≡ recordsOf (rowSpan v) 0 (nodeLines text (o .header) (o .nodes .at))
-          → (Accepted (o .header .cues) (o .header .nodes) ≡ answerOf (fromTree (caseOf text)))
-          × (states ≡ statesAfter (length states) (fromTree (caseOf text))) × RecordsHeld (fromTree (caseOf text)) u
-      unfolding statesAfter RecordsHeld Con.nodeOfTree w
+      pub records-done : r ≡ All → (u : List ℕ) → upTo (recordAt u) (o .header .nodes) ≡ recordsOf (rowSpan v) 0 (k .nodes)
+          → Answers (fromTree k) (length states) (Accepted (o .header .cues) (o .header .nodes)) states u
+      unfolding statesAfter RecordsHeld nodeOfTree
       records-done e u written =
-          let k = caseOf text in
-          let t = Con.treeIn text in
-          let ready = ready-leaves (constraints-ready .0) v leaves in
-          let accepts = kept-all e in
-          let f = w .opens .finds in
-          let lines : nodeLines text (k .head) (o .nodes .at) ≡ map rootLine (preorder t) =
-          lines-are text k (o .nodes .at) (f .nodeLines .0) (f .nodeLines .1) (f .nodeLines .2) ∙ sym (tree-is ready .preordered) in
-          let records : recordsOf (rowSpan v) 0 (map rootLine (preorder t)) ≡ map recordOf (preorder t) =
-          records-of (preorder t) (rowSpan v) 0
+          let ready = ready-leaves constraints-ready v leaves in
+          let head = x .walked .opens .head in
+          let records : recordsOf (rowSpan v) 0 (map rootLine (preorder tree)) ≡ map recordOf (preorder tree) =
+          records-of (preorder tree) (rowSpan v) 0
           (λ j l.
-          let many = preorder-length t in
-          let here : 0 + j ≡ j = omega arith in ap (rowSpan v) here ∙ root-row v (Con.nodeOfTree t j) j (node-held ready j (omega arith)) .spanned) in
-          let held : upTo (recordAt u) (k .head .nodes) ≡ map recordOf (preorder t) =
-          subst (λ (h : Header). upTo (recordAt u) (h .nodes) ≡ recordsOf (rowSpan v) 0 (nodeLines text h (o .nodes .at))) (w .opens .head) written
-          ∙ ap (recordsOf (rowSpan v) 0) lines ∙ records in (
-            ap (λ (h : Header). Accepted (h .cues) (h .nodes)) (w .opens .head) ∙ sym (ap answerOf accepts),
-            w .run .statesHeld ∙ sym (ap (λ (y : Found Tree). statesAfter (length states) y) accepts),
-            subst (λ (y : Found Tree). RecordsHeld y u) (sym accepts) (held ∙ ap (λ (y : Tree). map recordOf (preorder y)) con-tree),
-          )
+          let many = preorder-length tree in
+          let here : 0 + j ≡ j = omega arith in ap (rowSpan v) here ∙ root-row v (nodeOfTree tree j) j (node-held ready j (omega arith)) .spanned) in
+          let held : upTo (recordAt u) (k .head .nodes) ≡ map recordOf (preorder tree) =
+          ap (λ (h : Header). upTo (recordAt u) (h .nodes)) (sym head) ∙ written
+          ∙ ap (recordsOf (rowSpan v) 0) (sym (tree-is ready .preordered)) ∙ records in
+          subst (λ (f : Found Tree). Answers f (length states) (Accepted (o .header .cues) (o .header .nodes)) states u) (sym (kept-all e))
+          (record { answer = ap (λ (h : Header). Accepted (h .cues) (h .nodes)) head; statesHeld = x .walked .run .statesHeld; recordsHeld = held })

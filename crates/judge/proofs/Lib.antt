@@ -1,5 +1,4 @@
 pub mod Verdicts
 pub mod Frames
-pub mod NodeLines
 pub mod Phases
 pub mod Constrained

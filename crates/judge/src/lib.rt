@@ -1,33 +1,41 @@
 // The core of the check call, over plain lists: the rows of 01's table in their order. What it leaves in the work space are the columns of
 // the node records, which the call then gathers into the node list.
 ghost use mathlib.Core.Path.{_≡_};
+ghost use Prim.Native.Nat.{_<_};
 ghost use lib.ListN.{length, replicate};
+ghost use Rattle.rules.specs.Case.{Case};
 ghost use Rattle.rules.specs.Verdict.{check, checkLists, answerOf, statesAfter};
 ghost use Rattle.rules.proofs.Judgement.Rows.{fromText, fromRun, fromTree};
 ghost use Rattle.records.specs.Records.{RecordsHeld};
-ghost use Rattle.reading.specs.TheCase.{caseOf};
-ghost use Rattle.judge.specs.Phases.{Cleared, HasRead, Ran as HasRun, Walked, Claimed};
+ghost use Rattle.fields.specs.Directory.{Roomy};
+ghost use Rattle.judge.specs.Phases.{Answers, Cleared, HasRead, Ran as HasRun, Walked, Claimed};
+use columns::BUILT;
+use columns::COLUMNS;
 use constraints::Kept;
+use fields::FIELDS;
 use reading::CaseRead;
-use reading::DIRECTORY;
-use replay::Ran;
 use rules::Answer;
 use rules::Header;
 use rules::NODES;
 use rules::STATES;
 use rules::TEXT;
 use rules::WORK;
+use running::Ran;
 use state::WORDS;
-use text::Cursor;
+use tree::MARKS;
+use tree::SUBTASKS;
 use tree::TreeWalk;
 use tree::Unclaimed;
 
-// A case that was read: its header, the number of its P line, and where its lines start.
+// Room for the fields of a text of fewer than twice as many bytes: less to clear than what any text may need.
+const SMALL: usize = 2048;
+
+// A case that was read: its header, the number of its P line, and where its P line and its first node line stand among the fields.
 pub struct Opened {
     pub header: Header,
     pub plan_line: u32,
-    pub plan: Cursor,
-    pub nodes: Cursor,
+    pub plan: usize,
+    pub nodes: usize,
 }
 
 // A refusal: the state list is zero throughout; the node list is the caller's.
@@ -40,18 +48,28 @@ fn refuse(states: &mut [u64], answer: Answer) -> Answer
 }
 
 // Rows 10 to 13, of a tree whose positions are all claimed; then the records.
-fn judge_constraints(text: &[u8], o: Opened, states: &mut [u64], work: &mut [u32]) -> Answer
-    requires { ⌜ Claimed (now text) o (now states) (now work) ⌝ }
-    ensures answer { λ r. ⌜ r ≡ answerOf (fromTree (caseOf (now (text .entry)))) ⌝ }
-    ensures states { λ r. ⌜ now (states .exit) ≡ statesAfter (length (now (states .entry))) (fromTree (caseOf (now (text .entry)))) ⌝ }
-    ensures work { λ r. ⌜ RecordsHeld (fromTree (caseOf (now (text .entry)))) (now (work .exit)) ⌝ }
+fn judge_constraints(fields: &[u32], o: Opened, states: &mut [u64], work: &mut [u32]) -> Answer
+    requires { ⌜ ((k : Case) × Claimed k (now fields) o (now states) (now work)) ⌝ }
+    ensures { λ r. ⌜ ((k : Case) → Claimed k (now (fields .entry)) o (now (states .entry)) (now (work .entry)) → Answers (fromTree k) (length (now (states .entry))) r (now (states .exit)) (now (work .exit))) ⌝ }
 {
     let header = o.header;
+    let line = o.plan_line;
     let nodes = o.nodes;
-    let kept = constraints::first_broken(text, header, o.plan_line, nodes, states, work);
+    let mut columns = [0u64; COLUMNS];
+    let mut built = [0u64; BUILT];
+    let kept = constraints::first_broken(
+        fields,
+        header,
+        line,
+        nodes,
+        states,
+        work,
+        &mut columns,
+        &mut built,
+    );
     match kept {
         Kept::All => {
-            records::write_records(text, header, nodes, work);
+            records::write_records(fields, header, nodes, work);
             Answer::Accepted {
                 cues: header.cues,
                 nodes: header.nodes,
@@ -62,15 +80,13 @@ fn judge_constraints(text: &[u8], o: Opened, states: &mut [u64], work: &mut [u32
 }
 
 // Row 9, of a tree that is right; then the rest.
-fn judge_claims(text: &[u8], o: Opened, states: &mut [u64], work: &mut [u32]) -> Answer
-    requires { ⌜ Walked (now text) o (now states) (now work) ⌝ }
-    ensures answer { λ r. ⌜ r ≡ answerOf (fromTree (caseOf (now (text .entry)))) ⌝ }
-    ensures states { λ r. ⌜ now (states .exit) ≡ statesAfter (length (now (states .entry))) (fromTree (caseOf (now (text .entry)))) ⌝ }
-    ensures work { λ r. ⌜ RecordsHeld (fromTree (caseOf (now (text .entry)))) (now (work .exit)) ⌝ }
+fn judge_claims(fields: &[u32], o: Opened, states: &mut [u64], work: &mut [u32]) -> Answer
+    requires { ⌜ ((k : Case) × Walked k (now fields) o (now states) (now work)) ⌝ }
+    ensures { λ r. ⌜ ((k : Case) → Walked k (now (fields .entry)) o (now (states .entry)) (now (work .entry)) → Answers (fromTree k) (length (now (states .entry))) r (now (states .exit)) (now (work .exit))) ⌝ }
 {
     let header = o.header;
     match tree::least_unclaimed(work, header.cues) {
-        Unclaimed::None => judge_constraints(text, o, states, work),
+        Unclaimed::None => judge_constraints(fields, o, states, work),
         Unclaimed::At { position } => refuse(
             states,
             Answer::Unclaimed {
@@ -81,41 +97,36 @@ fn judge_claims(text: &[u8], o: Opened, states: &mut [u64], work: &mut [u32]) ->
     }
 }
 
-// Rows 6 to 8, of a plan that runs; then the rest.
-fn judge_nodes(text: &[u8], o: Opened, states: &mut [u64], work: &mut [u32]) -> Answer
-    requires { ⌜ HasRun (now text) o (now states) (now work) ⌝ }
-    ensures answer { λ r. ⌜ r ≡ answerOf (fromTree (caseOf (now (text .entry)))) ⌝ }
-    ensures states { λ r. ⌜ now (states .exit) ≡ statesAfter (length (now (states .entry))) (fromTree (caseOf (now (text .entry)))) ⌝ }
-    ensures work { λ r. ⌜ RecordsHeld (fromTree (caseOf (now (text .entry)))) (now (work .exit)) ⌝ }
+// Rows 6 to 8, of a plan that runs; then the rest. The walk starts from marks that are zero.
+fn judge_nodes(fields: &[u32], o: Opened, states: &mut [u64], work: &mut [u32]) -> Answer
+    requires { ⌜ ((k : Case) × HasRun k (now fields) o (now states) (now work)) ⌝ }
+    ensures { λ r. ⌜ ((k : Case) → HasRun k (now (fields .entry)) o (now (states .entry)) (now (work .entry)) → Answers (fromTree k) (length (now (states .entry))) r (now (states .exit)) (now (work .exit))) ⌝ }
 {
     let header = o.header;
     let plan = o.plan;
     let nodes = o.nodes;
-    tree::store_plan(text, plan, header.cues, work);
-    match tree::walk_tree(text, header, o.plan_line, nodes, work) {
-        TreeWalk::Right => judge_claims(text, o, states, work),
+    rows::clear_work(&mut work[MARKS..SUBTASKS]);
+    match tree::walk_tree(fields, header, o.plan_line, plan, nodes, work) {
+        TreeWalk::Right => judge_claims(fields, o, states, work),
         TreeWalk::Refused { answer } => refuse(states, answer),
     }
 }
 
 // Row 5, of a case that was read; then the rest.
 fn judge_run(
-    text: &[u8],
+    fields: &[u32],
     o: Opened,
-    initial: Cursor,
+    initial: usize,
     states: &mut [u64],
     work: &mut [u32],
 ) -> Answer
-    requires { ⌜ HasRead (now text) o (initial .at) (now states) (now work) ⌝ }
-    ensures answer { λ r. ⌜ r ≡ answerOf (fromRun fromTree (caseOf (now (text .entry)))) ⌝ }
-    ensures states { λ r. ⌜ now (states .exit) ≡ statesAfter (length (now (states .entry))) (fromRun fromTree (caseOf (now (text .entry)))) ⌝ }
-    ensures work { λ r. ⌜ RecordsHeld (fromRun fromTree (caseOf (now (text .entry)))) (now (work .exit)) ⌝ }
+    requires { ⌜ ((k : Case) × HasRead k (now fields) o initial (now states) (now work)) ⌝ }
+    ensures { λ r. ⌜ ((k : Case) → HasRead k (now (fields .entry)) o initial (now (states .entry)) (now (work .entry)) → Answers (fromRun fromTree k) (length (now (states .entry))) r (now (states .exit)) (now (work .exit))) ⌝ }
 {
     let header = o.header;
     let plan = o.plan;
-    let first = replay::read_initial(text, initial);
-    match replay::run(text, work, header, plan, first, states) {
-        Ran::All => judge_nodes(text, o, states, work),
+    match running::run(fields, work, header, initial, plan, states) {
+        Ran::All => judge_nodes(fields, o, states, work),
         Ran::Stopped { cue } => refuse(
             states,
             Answer::Inapplicable {
@@ -126,14 +137,12 @@ fn judge_run(
     }
 }
 
-// Rows 3 and 4, with lists that are long enough and a text that is not too long; then the rest.
-fn judge_lent(text: &[u8], states: &mut [u64], work: &mut [u32]) -> Answer
-    requires { ⌜ Cleared (now text) (now states) (now work) ⌝ }
-    ensures answer { λ r. ⌜ r ≡ answerOf (fromText fromTree (now (text .entry))) ⌝ }
-    ensures states { λ r. ⌜ now (states .exit) ≡ statesAfter (length (now (states .entry))) (fromText fromTree (now (text .entry))) ⌝ }
-    ensures work { λ r. ⌜ RecordsHeld (fromText fromTree (now (text .entry))) (now (work .exit)) ⌝ }
+// Rows 3 and 4, with lists that are long enough and a text that is not too long; then the rest. Refused, the state list is still zero.
+fn judge_text(text: &[u8], states: &mut [u64], work: &mut [u32], fields: &mut [u32]) -> Answer
+    requires { ⌜ Cleared (now text) (now states) (now work) × Roomy (now text) (now fields) ⌝ }
+    ensures { λ r. ⌜ Answers (fromText fromTree (now (text .entry))) (length (now (states .entry))) r (now (states .exit)) (now (work .exit)) ⌝ }
 {
-    match reading::read_case(text, &mut work[..DIRECTORY]) {
+    match reading::read_case(text, fields, work) {
         CaseRead::Case {
             header,
             plan_line,
@@ -147,21 +156,47 @@ fn judge_lent(text: &[u8], states: &mut [u64], work: &mut [u32]) -> Answer
                 plan,
                 nodes,
             };
-            judge_run(text, o, initial, states, work)
+            judge_run(fields, o, initial, states, work)
         }
-        CaseRead::Refused { answer } => refuse(states, answer),
+        CaseRead::Refused { answer } => answer,
     }
 }
 
-// All rows: "1 state, 2 node, 3 work; first such", the text's length, and the rest. The lists are zero before anything is checked:
-// the walk starts from marks that are zero.
+// The same with room for the fields of a short text; and with room for those of any.
+fn judge_short(text: &[u8], states: &mut [u64], work: &mut [u32]) -> Answer
+    requires { ⌜ Cleared (now text) (now states) (now work) × (length (now text) < 4096) ⌝ }
+    ensures { λ r. ⌜ Answers (fromText fromTree (now (text .entry))) (length (now (states .entry))) r (now (states .exit)) (now (work .exit)) ⌝ }
+{
+    let mut fields = [0u32; SMALL];
+    judge_text(text, states, work, &mut fields)
+}
+
+fn judge_any(text: &[u8], states: &mut [u64], work: &mut [u32]) -> Answer
+    requires { ⌜ Cleared (now text) (now states) (now work) ⌝ }
+    ensures { λ r. ⌜ Answers (fromText fromTree (now (text .entry))) (length (now (states .entry))) r (now (states .exit)) (now (work .exit)) ⌝ }
+{
+    let mut fields = [0u32; FIELDS];
+    judge_text(text, states, work, &mut fields)
+}
+
+// The same, with as much room for the fields as a text of this length may need.
+fn judge_lent(text: &[u8], states: &mut [u64], work: &mut [u32]) -> Answer
+    requires { ⌜ Cleared (now text) (now states) (now work) ⌝ }
+    ensures { λ r. ⌜ Answers (fromText fromTree (now (text .entry))) (length (now (states .entry))) r (now (states .exit)) (now (work .exit)) ⌝ }
+{
+    if text.len() < 2 * SMALL {
+        return judge_short(text, states, work);
+    }
+    judge_any(text, states, work)
+}
+
+// All rows: "1 state, 2 node, 3 work; first such", the text's length, and the rest. The state list is zero before anything is checked.
 pub fn judge(text: &[u8], states: &mut [u64], work: &mut [u32], node_room: usize) -> Answer
     ensures { λ r. ⌜ r ≡ answerOf (check (checkLists (length (now (states .entry))) «node_room» (length (now (work .entry)))) (now (text .entry))) ⌝ }
     ensures { λ r. ⌜ now (states .exit) ≡ statesAfter (length (now (states .entry))) (check (checkLists (length (now (states .entry))) «node_room» (length (now (work .entry)))) (now (text .entry))) ⌝ }
     ensures { λ r. ⌜ RecordsHeld (check (checkLists (length (now (states .entry))) «node_room» (length (now (work .entry)))) (now (text .entry))) (now (work .exit)) ⌝ }
 {
     rows::clear(states);
-    rows::clear_work(work);
     if states.len() < STATES * WORDS {
         return Answer::ShortList { list: 1 };
     }

@@ -2,6 +2,6 @@ pub mod Shapes
 pub mod Ranges
 pub mod Items
 pub mod Lines
+pub mod Within
 pub mod Progress
 pub mod Rows
-pub mod Fields

@@ -1,53 +1,33 @@
 -- One step of reading a line: what the code read for an item settles what the definitions read from there on; and the numbers read so far
 -- are those that the array holds, which is zero past them. Assumes nothing.
-use mathlib.Core.Path.{_≡_, refl, sym, ap, _∙_, fun-ext}
+use mathlib.Core.Path.{_≡_, refl, sym, ap, subst, transport, _∙_, fun-ext}
 use mathlib.Core.Bool.{Bool, true, false, _&&_, not}
 use mathlib.Core.List.{List, [], _∷_, _++_}
 use Prim.Native.Nat.{ℕ, zero, suc, _+_, _-_, _/_, _%_, _^_, _≤_, _<_}
-use native.Mathlib.Nat.{div-lt-iff-lt-mul, pow-suc, zero-add}
+use native.Mathlib.Nat.{div-lt-iff-lt-mul, pow-suc}
 use native.Mathlib.Decide.{decLt}
 use native.Mathlib.Omega.{arith}
 use borrow.Author.Tests.{ne-eqb, eq-eqb}
-use lib.Dec.{eqb, leb, ltb, lit<}
-use lib.ListN.{length, getD, take, set, length-take, List·getD-eq-default}
-use lib.Seq.{getD-take, getD-set-other, take-suc-set}
+use lib.Dec.{eqb, ltb, lit<}
+use lib.ListN.{length, getD, take, set, length-take, length-append, List·getD-eq-default}
+use lib.Seq.{sets, getD-take, getD-set-other, take-suc-set}
 use Rattle.rules.specs.declared.Header.{Header}
 use Rattle.rules.specs.Text.{Ending, ended, surplus, numberAt}
 use Rattle.rules.specs.Table as T
-use Rattle.rules.specs.Table.{Kind, Item, one, inRange, scalar, listed, numberOf, item, followTaken, readMembers, readList, readItem, followItem, withValue, readItems, withMember, leastAfter}
+use Rattle.rules.specs.Table.{Kind, Item, one, inRange, Value, scalar, listed, numberOf, item, followTaken, readMembers, readList, readItem, followItem, withValue, readItems}
+use Rattle.rules.specs.Fields.{itemFields, itemsFields}
 use Rattle.text.specs.declared.Cursor.{Cursor}
 use Rattle.text.specs.declared.Ending.{Ending as LineEnd}
 use Rattle.text.specs.declared.Ending.the-variants.{Line, Surplus}
-use Rattle.text.specs.Cursor.{asEnding}
+use Rattle.text.specs.Cursor.{cursor, asEnding}
+use Rattle.fields.proofs.Standing.{sets-append}
 use Rattle.lines.specs.declared.item.Outcome.{Outcome}
 use Rattle.lines.specs.declared.item.Outcome.the-variants.{Done, Bad, Range}
+use Rattle.lines.specs.declared.line.Finish.{Finish}
 use Rattle.lines.specs.declared.line.Finish.the-variants.{Done as LineDone, Bad as LineBad, Range as LineRange}
-use Rattle.lines.specs.declared.line.LineRead.{LineRead}
 use Rattle.lines.specs.Shapes.{itemOf, itemsIn}
-use Rattle.lines.specs.Reading.{asOutcome, refusedLine, stored}
-
--- ---- Going on after an item
-
-abbrev pub onItem : Outcome → (ℕ → ℕ → Cursor → LineRead) → LineRead
-onItem (Done v field d) on = on v field d
-onItem (Bad field) on = refusedLine (LineBad field)
-onItem (Range field) on = refusedLine (LineRange field)
-
-stored-value : (i : ℕ) (before : List ℕ) (v : T.Value) (r : T.LineRead) → stored i before (withValue v r) ≡ stored (suc i) (set before i (numberOf v)) r
-stored-value i before v (T.line l vs next) = refl
-stored-value i before v (T.LineRead.unreadable field) = refl
-stored-value i before v (T.LineRead.outside field) = refl
-
-follow-item : (i : ℕ) (before : List ℕ) (y : T.ItemRead) (rest : ℕ → ℕ → ℕ → T.LineRead)
-    → stored i before (followItem y (λ v after next. withValue v (rest (numberOf v) after next)))
-    ≡ onItem (asOutcome y) (λ m after d. stored (suc i) (set before i m) (rest m after (d .at)))
-unfolding asOutcome
-follow-item i before (item (scalar v) field next) rest = stored-value i before (scalar v) (rest v field next)
-follow-item i before (item (listed vs) field next) rest =
-    stored-value i before (listed vs) (rest (length vs) field next)
-    ∙ ap (λ (m : ℕ). stored (suc i) (set before i m) (rest m field next)) (sym (zero-add (length vs)))
-follow-item i before (T.ItemRead.unreadable field) rest = refl
-follow-item i before (T.ItemRead.outside field) rest = refl
+use Rattle.lines.specs.Reading.{finishOf, ItemLeft, ItemsLeft}
+use Rattle.lines.proofs.Items.{Counted, counted-members}
 
 -- ---- The numbers before an item, as a list and as the array
 
@@ -101,132 +81,170 @@ taken-same i values b j = go (decLt j i)
 pub rest-next : (m rest : ℕ) → rest < 256 ^ suc m → rest / 256 < 256 ^ m
 rest-next m rest h = div-lt-iff-lt-mul (lit< tt) .1 (rw (← pow-suc 256 m) h)
 
-items-some : (m rest : ℕ) → (rest ≡ 0 → ⊥) → itemsIn (suc m) rest ≡ itemOf (rest % 256) ∷ itemsIn m (rest / 256)
+pub items-some : (m rest : ℕ) → (rest ≡ 0 → ⊥) → itemsIn (suc m) rest ≡ itemOf (rest % 256) ∷ itemsIn m (rest / 256)
 items-some m rest h = ap (λ (b : Bool). elim b as (λ x. List Item) [ true ↦ [] | false ↦ itemOf (rest % 256) ∷ itemsIn m (rest / 256) ]) (ne-eqb rest 0 h)
 
 pub items-none : (k rest : ℕ) → rest ≡ 0 → itemsIn k rest ≡ []
 items-none zero rest e = refl
 items-none (suc m) rest e = ap (λ (b : Bool). elim b as (λ x. List Item) [ true ↦ [] | false ↦ itemOf (rest % 256) ∷ itemsIn m (rest / 256) ]) (eq-eqb rest 0 e)
 
--- After the last item the array is whole, wherever it ends.
-pub stored-end : (i j l field : ℕ) (values : List ℕ) (e : Ending) → stored i values (T.finishLine l field e) ≡ stored j values (T.finishLine l field e)
-stored-end i j l field values (ended next) = refl
-stored-end i j l field values surplus = refl
+-- ---- The line's end
 
--- What the code read at a line's end.
-abbrev pub finishedBy : ℕ → ℕ → List ℕ → LineEnd → LineRead
-finishedBy l field values (Line d) = record { finish = LineDone d; letter = l; values = values }
-finishedBy l field values Surplus = refusedLine (LineBad field)
+abbrev pub finishBy : ℕ → ℕ → LineEnd → Finish
+finishBy n field (Line d) = LineDone n d
+finishBy n field Surplus = LineBad field
 
-pub finish-read : (i l field : ℕ) (values : List ℕ) (e : Ending) (r : LineEnd) → r ≡ asEnding e → finishedBy l field values r ≡ stored i values (T.finishLine l field e)
-finish-read i l field values e r q = ap (finishedBy l field values) q ∙ go e
+pub finish-read : (n field : ℕ) (e : Ending) (r : LineEnd) → r ≡ asEnding e → finishBy n field r ≡ finishOf n field e
+finish-read n field e r q = ap (finishBy n field) q ∙ go e
   where
-    go : (x : Ending) → finishedBy l field values (asEnding x) ≡ stored i values (T.finishLine l field x)
+    go : (x : Ending) → finishBy n field (asEnding x) ≡ finishOf n field x
     go (ended next) = refl
     go surplus = refl
 
+pub items-end : (n l field : ℕ) (at : ℕ) (w : List ℕ) (e : Ending) (r : Finish) → r ≡ finishOf n field e → ItemsLeft [] n at w (T.finishLine l field e) r w
+items-end n l field at w (ended next) r q =
+    let z : n ≡ n + 0 = omega arith in (q ∙ ap (λ (k : ℕ). LineDone k (cursor next)) z, refl)
+items-end n l field at w surplus r q = q
+
+-- ---- How many fields an item has
+
+abbrev pub Sized : Item → ℕ → T.ItemRead → Type 0
+Sized i field (item v after next) = after ≡ field + length (itemFields i v)
+Sized i field (T.ItemRead.unreadable f) = Unit {0}
+Sized i field (T.ItemRead.outside f) = Unit {0}
+
+sized-list : (count field : ℕ) (y : T.ItemRead) → Counted count (field + 1) y → Sized T.set field y
+sized-list count field (item (scalar v) after next) c = absurd c
+sized-list count field (item (listed vs) after next) c = omega (arith, c .0, c .1)
+sized-list count field (T.ItemRead.unreadable f) c = tt
+sized-list count field (T.ItemRead.outside f) c = tt
+
+sized-subtasks : (field : ℕ) (y : T.ItemRead) → Sized T.set field y → Sized T.subtaskList field y
+sized-subtasks field (item v after next) h = h
+sized-subtasks field (T.ItemRead.unreadable f) h = h
+sized-subtasks field (T.ItemRead.outside f) h = h
+
+sized-cues : (count field : ℕ) (y : T.ItemRead) → Counted count field y → Sized T.cues field y
+sized-cues count field (item (scalar v) after next) c = absurd c
+sized-cues count field (item (listed vs) after next) c = omega (arith, c .0, c .1)
+sized-cues count field (T.ItemRead.unreadable f) c = tt
+sized-cues count field (T.ItemRead.outside f) c = tt
+
+sized-taken : (i : Item) (field : ℕ) (y : T.Taken) (rest : ℕ → ℕ → T.ItemRead) → ((v next : ℕ) → Sized i field (rest v next)) → Sized i field (followTaken y field rest)
+sized-taken i field (T.taken v next) rest h = h v next
+sized-taken i field T.bad rest h = tt
+sized-taken i field T.out rest h = tt
+
+pub sized-item : (text : List ℕ) (h : Header) (n : ℕ) (before : List ℕ) (i : Item) (field place : ℕ) → Sized i field (readItem text h n before i field place)
+unfolding readItem readList
+sized-item text h n before (one kind) field place =
+    sized-taken (one kind) field (T.within (inRange h n before kind) (numberAt text place)) (λ v next. item (scalar v) (field + 1) next) (λ v next. refl)
+sized-item text h n before T.set field place =
+    let ok = inRange h n before T.proposition in
+    sized-taken T.set field (T.within (inRange h n before T.memberCount) (numberAt text place)) (λ c next. readMembers text ok true c 0 (field + 1) next)
+    (λ c next. sized-list c field (readMembers text ok true c 0 (field + 1) next) (counted-members text ok true c 0 (field + 1) next))
+sized-item text h n before T.subtaskList field place =
+    let ok = inRange h n before T.task in
+    sized-taken T.subtaskList field (T.within (inRange h n before (T.upTo 32)) (numberAt text place)) (λ c next. readMembers text ok false c 0 (field + 1) next)
+    (λ c next. sized-subtasks field (readMembers text ok false c 0 (field + 1) next)
+    (sized-list c field (readMembers text ok false c 0 (field + 1) next) (counted-members text ok false c 0 (field + 1) next)))
+sized-item text h n before T.cues field place =
+    let ok = inRange h n before T.anAction in
+    sized-cues (h .cues) field (readMembers text ok false (h .cues) 0 field place) (counted-members text ok false (h .cues) 0 field place)
+
 -- ---- One item of a line
 
-module _ (text : List ℕ) (h : Header) (n l : ℕ) where
-  pub items-next : (i : ℕ) (values : List ℕ) (k m rest field place : ℕ) (o : Outcome) → i < length values → Blank i values → k ≡ suc m → (rest ≡ 0 → ⊥)
-      → o ≡ asOutcome (readItem text h n values (itemOf (rest % 256)) field place)
-      → stored i values (readItems text h n l (itemsIn k rest) (take i values) field place)
-      ≡ onItem o (λ v after d. stored (suc i) (set values i v) (readItems text h n l (itemsIn m (rest / 256)) (take (suc i) (set values i v)) after (d .at)))
-  items-next i values k m rest field place o inside blank e some q =
-      ap (λ (c : ℕ). stored i values (readItems text h n l (itemsIn c rest) (take i values) field place)) e
-      ∙ ap (λ (is : List Item). stored i values (readItems text h n l is (take i values) field place)) (items-some m rest some)
-      ∙ ap (λ (y : T.ItemRead). stored i values (followItem y (λ v after next. withValue v (readItems text h n l (itemsIn m (rest / 256)) (take i values ++ (numberOf v ∷ [])) after next))))
-      (item-same h n (take i values) values (taken-same i values blank) text (itemOf (rest % 256)) field place)
-      ∙ follow-item i values (readItem text h n values (itemOf (rest % 256)) field place)
-      (λ v after next. readItems text h n l (itemsIn m (rest / 256)) (take i values ++ (v ∷ [])) after next)
-      ∙ ap (λ (x : Outcome). onItem x (λ v after d. stored (suc i) (set values i v) (readItems text h n l (itemsIn m (rest / 256)) (take i values ++ (v ∷ [])) after (d .at)))) (sym q)
-      ∙ on-same o
+apart : {A : Type 0} → _≡_ {A = ℕ} 0 1 → A
+apart z = absurd (omega arith)
+
+unfoldable pub outcome-value : Outcome → ℕ
+outcome-value (Done v field d) = v
+outcome-value (Bad field) = field
+outcome-value (Range field) = field
+
+unfoldable pub outcome-field : Outcome → ℕ
+outcome-field (Done v field d) = field
+outcome-field (Bad field) = field
+outcome-field (Range field) = field
+
+unfoldable pub outcome-place : Outcome → ℕ
+outcome-place (Done v field d) = d .at
+outcome-place (Bad field) = 0
+outcome-place (Range field) = 0
+
+-- Stated of another outcome that is equal.
+pub item-told : (i : Item) (at : ℕ) (w : List ℕ) (y : T.ItemRead) {o o′ : Outcome} (u : List ℕ) → o ≡ o′ → ItemLeft i at w y o u → ItemLeft i at w y o′ u
+item-told i at w y u e h = subst (λ (x : Outcome). ItemLeft i at w y x u) e h
+
+-- An item's fields are stored, and then those of the items after it.
+value-left : (i : Item) (is : List Item) (from field after : ℕ) (w : List ℕ) (v : Value) (y : T.LineRead) (r : Finish) (u : List ℕ) → 1 ≤ field
+    → after ≡ field + length (itemFields i v)
+    → ItemsLeft is (after - 1) (from + (after - 1)) (sets w (from + (field - 1)) (itemFields i v)) y r u
+    → ItemsLeft (i ∷ is) (field - 1) (from + (field - 1)) w (withValue v y) r u
+value-left i is from field after w v (T.line l vs next) r u some e h =
+    let n : after - 1 + length (itemsFields is vs) ≡ field - 1 + length (itemFields i v ++ itemsFields is vs)
+    = omega (arith, length-append (itemFields i v) (itemsFields is vs)) in
+    let p : from + (after - 1) ≡ from + (field - 1) + length (itemFields i v) = omega arith in (
+      h .0 ∙ ap (λ (k : ℕ). LineDone k (cursor next)) n,
+      h .1 ∙ ap (λ (k : ℕ). sets (sets w (from + (field - 1)) (itemFields i v)) k (itemsFields is vs)) p
+          ∙ sym (sets-append (itemFields i v) (itemsFields is vs) w (from + (field - 1))),
+    )
+value-left i is from field after w v (T.LineRead.unreadable f) r u some e h = h
+value-left i is from field after w v (T.LineRead.outside f) r u some e h = h
+
+module _ (text : List ℕ) (h : Header) (n l from : ℕ) (i : ℕ) (values : List ℕ) (inside : i < length values) (blank : Blank i values) (field place : ℕ) (one′ : 1 ≤ field)
+    (w now : List ℕ) (x : Item) (is : List Item) where
+  abbrev reading : T.ItemRead
+  reading = readItem text h n values x field place
+
+  after-item : Value → ℕ → ℕ → T.LineRead
+  after-item v after next = withValue v (readItems text h n l is (take i values ++ (numberOf v ∷ [])) after next)
+
+  by-values : (r : Finish) (u : List ℕ) → ItemsLeft (x ∷ is) (field - 1) (from + (field - 1)) w (followItem reading after-item) r u
+      → ItemsLeft (x ∷ is) (field - 1) (from + (field - 1)) w (readItems text h n l (x ∷ is) (take i values) field place) r u
+  unfolding after-item
+  by-values r u g =
+      subst (λ (y : T.ItemRead). ItemsLeft (x ∷ is) (field - 1) (from + (field - 1)) w (followItem y after-item) r u)
+      (sym (item-same h n (take i values) values (taken-same i values blank) text x field place)) g
+
+  -- What the items after it leave is what the line's items from this one on leave.
+  pub items-more : (v after : ℕ) (d : Cursor) → ItemLeft x (from + (field - 1)) w reading (Done v after d) now → (r : Finish) (u : List ℕ)
+      → ItemsLeft is (after - 1) (from + (after - 1)) now (readItems text h n l is (take (suc i) (set values i v)) after (d .at)) r u
+      → ItemsLeft (x ∷ is) (field - 1) (from + (field - 1)) w (readItems text h n l (x ∷ is) (take i values) field place) r u
+  unfolding after-item outcome-value outcome-field outcome-place
+  items-more v after d q r u g = by-values r u (go reading (sized-item text h n values x field place) q)
     where
-      on-same : (x : Outcome)
-          → onItem x (λ v after d. stored (suc i) (set values i v) (readItems text h n l (itemsIn m (rest / 256)) (take i values ++ (v ∷ [])) after (d .at)))
-          ≡ onItem x (λ v after d. stored (suc i) (set values i v) (readItems text h n l (itemsIn m (rest / 256)) (take (suc i) (set values i v)) after (d .at)))
-      on-same (Done v after d) =
-          ap (λ (b : List ℕ). stored (suc i) (set values i v) (readItems text h n l (itemsIn m (rest / 256)) b after (d .at))) (sym (take-suc-set values i v inside))
-      on-same (Bad f) = refl
-      on-same (Range f) = refl
+      go : (y : T.ItemRead) → Sized x field y → ItemLeft x (from + (field - 1)) w y (Done v after d) now
+          → ItemsLeft (x ∷ is) (field - 1) (from + (field - 1)) w (followItem y after-item) r u
+      go (item val f nx) s e =
+          let ev : v ≡ numberOf val = ap outcome-value (e .0) in
+          let ef : after ≡ f = ap outcome-field (e .0) in
+          let ed : d .at ≡ nx = ap outcome-place (e .0) in
+          let taken : take (suc i) (set values i v) ≡ take i values ++ (numberOf val ∷ [])
+          = take-suc-set values i v inside ∙ ap (λ (k : ℕ). take i values ++ (k ∷ [])) ev in
+          value-left x is from field f w val (readItems text h n l is (take i values ++ (numberOf val ∷ [])) f nx) r u one′ s
+          (transport (λ j. ItemsLeft is (ef j - 1) (from + (ef j - 1)) (e .1 j) (readItems text h n l is (taken j) (ef j) (ed j)) r u) g)
+      go (T.ItemRead.unreadable f) s e = apart (cc)
+      go (T.ItemRead.outside f) s e = apart (cc)
 
--- ---- The number of the field after an item
+  pub items-bad : (wrong : ℕ) → ItemLeft x (from + (field - 1)) w reading (Bad wrong) now → (u : List ℕ)
+      → ItemsLeft (x ∷ is) (field - 1) (from + (field - 1)) w (readItems text h n l (x ∷ is) (take i values) field place) (LineBad wrong) u
+  unfolding outcome-value
+  items-bad wrong q u = by-values (LineBad wrong) u (go reading q)
+    where
+      go : (y : T.ItemRead) → ItemLeft x (from + (field - 1)) w y (Bad wrong) now
+          → ItemsLeft (x ∷ is) (field - 1) (from + (field - 1)) w (followItem y after-item) (LineBad wrong) u
+      go (item val f nx) e = let z = e .0 in apart (cc)
+      go (T.ItemRead.unreadable f) e = ap LineBad (ap outcome-value e)
+      go (T.ItemRead.outside f) e = apart (cc)
 
--- A list counts a field for each member.
-abbrev CountsMembers : ℕ → T.ItemRead → Type 0
-CountsMembers field (item (scalar v) after next) = ⊥
-CountsMembers field (item (listed vs) after next) = after ≡ field + length vs
-CountsMembers field (T.ItemRead.unreadable f) = Unit {0}
-CountsMembers field (T.ItemRead.outside f) = Unit {0}
-
-counts-member : (field v : ℕ) (r : T.ItemRead) → CountsMembers (field + 1) r → CountsMembers field (withMember v r)
-counts-member field v (item (scalar w) after next) h = h
-counts-member field v (item (listed vs) after next) h = omega arith
-counts-member field v (T.ItemRead.unreadable f) h = tt
-counts-member field v (T.ItemRead.outside f) h = tt
-
-counts-taken : (field : ℕ) (y : T.Taken) (rest : ℕ → ℕ → T.ItemRead) → ((v next : ℕ) → CountsMembers field (rest v next)) → CountsMembers field (followTaken y field rest)
-counts-taken field (T.taken v next) rest h = h v next
-counts-taken field T.bad rest h = tt
-counts-taken field T.out rest h = tt
-
-counts-members : (text : List ℕ) (ok : ℕ → Bool) (ascending : Bool) (count low field place : ℕ) → CountsMembers field (readMembers text ok ascending count low field place)
-counts-members text ok ascending zero low field place = omega arith
-counts-members text ok ascending (suc count) low field place =
-    counts-taken field (T.within (λ v. leb low v && ok v) (numberAt text place))
-    (λ v next. withMember v (readMembers text ok ascending count (leastAfter ascending v) (field + 1) next))
-    (λ v next. counts-member field v (readMembers text ok ascending count (leastAfter ascending v) (field + 1) next)
-    (counts-members text ok ascending count (leastAfter ascending v) (field + 1) next))
-
--- An item takes at most one field more than its number says.
-abbrev Counts : ℕ → T.ItemRead → Type 0
-Counts field (item v after next) = after ≤ field + numberOf v + 1
-Counts field (T.ItemRead.unreadable f) = Unit {0}
-Counts field (T.ItemRead.outside f) = Unit {0}
-
-counts-list : (field : ℕ) (r : T.ItemRead) → CountsMembers (field + 1) r → Counts field r
-counts-list field (item (scalar v) after next) h = absurd h
-counts-list field (item (listed vs) after next) h = omega arith
-counts-list field (T.ItemRead.unreadable f) h = tt
-counts-list field (T.ItemRead.outside f) h = tt
-
-counts-cues : (field : ℕ) (r : T.ItemRead) → CountsMembers field r → Counts field r
-counts-cues field (item (scalar v) after next) h = absurd h
-counts-cues field (item (listed vs) after next) h = omega arith
-counts-cues field (T.ItemRead.unreadable f) h = tt
-counts-cues field (T.ItemRead.outside f) h = tt
-
-counts-follow : (field : ℕ) (y : T.Taken) (rest : ℕ → ℕ → T.ItemRead) → ((v next : ℕ) → Counts field (rest v next)) → Counts field (followTaken y field rest)
-counts-follow field (T.taken v next) rest h = h v next
-counts-follow field T.bad rest h = tt
-counts-follow field T.out rest h = tt
-
-counts-item : (text : List ℕ) (h : Header) (n : ℕ) (before : List ℕ) (i : Item) (field place : ℕ) → Counts field (readItem text h n before i field place)
-unfolding readItem readList
-counts-item text h n before (one kind) field place =
-    counts-follow field (T.within (inRange h n before kind) (numberAt text place)) (λ v next. item (scalar v) (field + 1) next) (λ v next. omega arith)
-counts-item text h n before T.set field place =
-    counts-follow field (T.within (inRange h n before T.memberCount) (numberAt text place))
-    (λ c next. readMembers text (inRange h n before T.proposition) true c 0 (field + 1) next)
-    (λ c next. counts-list field (readMembers text (inRange h n before T.proposition) true c 0 (field + 1) next) (counts-members text (inRange h n before T.proposition) true c 0 (field + 1) next))
-counts-item text h n before T.subtaskList field place =
-    counts-follow field (T.within (inRange h n before (T.upTo 32)) (numberAt text place))
-    (λ c next. readMembers text (inRange h n before T.task) false c 0 (field + 1) next)
-    (λ c next. counts-list field (readMembers text (inRange h n before T.task) false c 0 (field + 1) next) (counts-members text (inRange h n before T.task) false c 0 (field + 1) next))
-counts-item text h n before T.cues field place =
-    counts-cues field (readMembers text (inRange h n before T.anAction) false (h .cues) 0 field place)
-    (counts-members text (inRange h n before T.anAction) false (h .cues) 0 field place)
-
-counts-outcome : (field : ℕ) (y : T.ItemRead) (v after : ℕ) (d : Cursor) → Counts field y → Done v after d ≡ asOutcome y → after ≤ field + v + 1
-unfolding asOutcome
-counts-outcome field (item (scalar w) f next) v after d h e =
-    let same : w ≡ v = cc in let last : after ≡ f = cc in omega arith
-counts-outcome field (item (listed vs) f next) v after d h e =
-    let same : 0 + length vs ≡ v = cc in let last : after ≡ f = cc in omega arith
-counts-outcome field (T.ItemRead.unreadable f) v after d h e = let z : _≡_ {A = ℕ} 0 1 = cc in absurd (omega arith)
-counts-outcome field (T.ItemRead.outside f) v after d h e = let z : _≡_ {A = ℕ} 0 1 = cc in absurd (omega arith)
-
-pub field-after : (text : List ℕ) (h : Header) (n : ℕ) (before : List ℕ) (i : Item) (field place v after : ℕ) (d : Cursor)
-    → Done v after d ≡ asOutcome (readItem text h n before i field place) → after ≤ field + v + 1
-field-after text h n before i field place v after d e =
-    counts-outcome field (readItem text h n before i field place) v after d (counts-item text h n before i field place) e
+  pub items-out : (wrong : ℕ) → ItemLeft x (from + (field - 1)) w reading (Range wrong) now → (u : List ℕ)
+      → ItemsLeft (x ∷ is) (field - 1) (from + (field - 1)) w (readItems text h n l (x ∷ is) (take i values) field place) (LineRange wrong) u
+  unfolding outcome-value
+  items-out wrong q u = by-values (LineRange wrong) u (go reading q)
+    where
+      go : (y : T.ItemRead) → ItemLeft x (from + (field - 1)) w y (Range wrong) now
+          → ItemsLeft (x ∷ is) (field - 1) (from + (field - 1)) w (followItem y after-item) (LineRange wrong) u
+      go (item val f nx) e = let z = e .0 in apart (cc)
+      go (T.ItemRead.unreadable f) e = apart (cc)
+      go (T.ItemRead.outside f) e = ap LineRange (ap outcome-value e)

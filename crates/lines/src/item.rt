@@ -1,14 +1,14 @@
 // The items of a line: a number, or a list with its members.
 ghost use mathlib.Core.Path.{_≡_};
-ghost use mathlib.Core.Bool.{_&&_};
+ghost use mathlib.Core.Bool.{true, _&&_};
 ghost use Prim.Native.Nat.{_<_, _^_};
 ghost use lib.Dec.{leb, eqb};
-ghost use Rattle.rules.specs.Text.{numberAt};
-ghost use Rattle.rules.specs.Table.{one, within, leastAfter, readMembers, readList};
+ghost use Rattle.rules.specs.Text.{numberAt, feedFollows};
+ghost use Rattle.rules.specs.Table.{one, set, within, leastAfter, readMembers, readList};
 ghost use Rattle.lines.specs.Shapes.{kindOf, itemOf};
-ghost use Rattle.lines.specs.Reading.{inKind, readItemIn, asTaken, asOutcome, collected};
+ghost use Rattle.lines.specs.Reading.{inKind, readItemIn, asTaken, Room, MembersLeft, ItemLeft};
 use crate::range;
-use crate::range::Context;
+use crate::range::KNOWN;
 use crate::range::VALUES;
 use text::Cursor;
 use text::Field;
@@ -39,8 +39,8 @@ enum Taken {
 }
 
 // Whether v is at least `low`, and in the range of its kind.
-fn admits(low: u64, kind: u64, x: Context, before: &[u32; VALUES], v: u32) -> bool
-    ensures { λ r. ⌜ r ≡ leb low v && inKind x (now (before .entry)) kind v ⌝ }
+fn admits(low: u64, kind: u64, x: &[u32; KNOWN], before: &[u32; VALUES], v: u32) -> bool
+    ensures { λ r. ⌜ r ≡ leb low v && inKind (now (x .entry)) (now (before .entry)) kind v ⌝ }
 {
     if low <= v as u64 {
         range::in_range(kind, x, before, v)
@@ -52,12 +52,13 @@ fn admits(low: u64, kind: u64, x: Context, before: &[u32; VALUES], v: u32) -> bo
 fn take_number(
     text: &[u8],
     c: Cursor,
-    x: Context,
+    x: &[u32; KNOWN],
     before: &[u32; VALUES],
     kind: u64,
     low: u64,
 ) -> Taken
-    ensures { λ r. ⌜ r ≡ asTaken (within (λ v. leb low v && inKind x (now (before .entry)) kind v) (numberAt (now (text .entry)) (c .at))) ⌝ }
+    requires { ⌜ feedFollows (now text) (c .at) ≡ true ⌝ }
+    ensures { λ r. ⌜ r ≡ asTaken (within (λ v. leb low v && inKind (now (x .entry)) (now (before .entry)) kind v) (numberAt (now (text .entry)) (c .at))) ⌝ }
 {
     match c.number(text) {
         Field::Number { value, next } => {
@@ -82,18 +83,21 @@ fn least_after(kind: u64, v: u32) -> u64
     if kind == PROPOSITION { v as u64 + 1 } else { 0 }
 }
 
-// `count` members of one kind.
+// `count` members of one kind, each stored as it is read, from `from` on.
 fn members(
     text: &[u8],
     c: Cursor,
-    x: Context,
+    x: &[u32; KNOWN],
     before: &[u32; VALUES],
     kind: u64,
     count: u32,
     field: usize,
+    fields: &mut [u32],
+    from: usize,
 ) -> Outcome
     requires { ⌜ field < 2 ^ 41 ⌝ }
-    ensures { λ r. ⌜ r ≡ collected 0 (readMembers (now (text .entry)) (inKind x (now (before .entry)) kind) (eqb kind 11) count 0 field (c .at)) ⌝ }
+    requires { ⌜ Room (now text) (now fields) from (c .at) ⌝ }
+    ensures { λ r. ⌜ MembersLeft 0 from (now (fields .entry)) (readMembers (now (text .entry)) (inKind (now (x .entry)) (now (before .entry)) kind) (eqb kind 11) count 0 field (c .at)) r (now (fields .exit)) ⌝ }
 {
     let mut at = c;
     let mut low: u64 = 0;
@@ -101,6 +105,7 @@ fn members(
     while i < count {
         match take_number(text, at, x, before, kind, low) {
             Taken::Number { value, next } => {
+                fields[from + i as usize] = value;
                 low = least_after(kind, value);
                 at = next;
                 i += 1;
@@ -128,17 +133,33 @@ fn members(
 fn list(
     text: &[u8],
     c: Cursor,
-    x: Context,
+    x: &[u32; KNOWN],
     before: &[u32; VALUES],
     counts: u64,
     kind: u64,
     field: usize,
+    fields: &mut [u32],
+    from: usize,
 ) -> Outcome
     requires { ⌜ field < 2 ^ 40 ⌝ }
-    ensures { λ r. ⌜ r ≡ asOutcome (readList (now (text .entry)) (inKind x (now (before .entry)) counts) (inKind x (now (before .entry)) kind) (eqb kind 11) field (c .at)) ⌝ }
+    requires { ⌜ Room (now text) (now fields) from (c .at) ⌝ }
+    ensures { λ r. ⌜ ItemLeft set from (now (fields .entry)) (readList (now (text .entry)) (inKind (now (x .entry)) (now (before .entry)) counts) (inKind (now (x .entry)) (now (before .entry)) kind) (eqb kind 11) field (c .at)) r (now (fields .exit)) ⌝ }
 {
     match take_number(text, c, x, before, counts, 0) {
-        Taken::Number { value, next } => members(text, next, x, before, kind, value, field + 1),
+        Taken::Number { value, next } => {
+            fields[from] = value;
+            members(
+                text,
+                next,
+                x,
+                before,
+                kind,
+                value,
+                field + 1,
+                fields,
+                from + 1,
+            )
+        }
         Taken::Bad => Outcome::Bad { field },
         Taken::Out => Outcome::Range { field },
     }
@@ -147,44 +168,51 @@ fn list(
 fn single(
     text: &[u8],
     c: Cursor,
-    x: Context,
+    x: &[u32; KNOWN],
     before: &[u32; VALUES],
     kind: u64,
     field: usize,
+    fields: &mut [u32],
+    from: usize,
 ) -> Outcome
     requires { ⌜ field < 2 ^ 40 ⌝ }
-    ensures { λ r. ⌜ r ≡ asOutcome (readItemIn (now (text .entry)) x (now (before .entry)) (one (kindOf kind)) field (c .at)) ⌝ }
+    requires { ⌜ Room (now text) (now fields) from (c .at) ⌝ }
+    ensures { λ r. ⌜ ItemLeft (one (kindOf kind)) from (now (fields .entry)) (readItemIn (now (text .entry)) (now (x .entry)) (now (before .entry)) (one (kindOf kind)) field (c .at)) r (now (fields .exit)) ⌝ }
 {
     match take_number(text, c, x, before, kind, 0) {
-        Taken::Number { value, next } => Outcome::Done {
-            value,
-            field: field + 1,
-            next,
-        },
+        Taken::Number { value, next } => {
+            fields[from] = value;
+            Outcome::Done {
+                value,
+                field: field + 1,
+                next,
+            }
+        }
         Taken::Bad => Outcome::Bad { field },
         Taken::Out => Outcome::Range { field },
     }
 }
 
-// The item that a shape's byte stands for, after the numbers before it in its line. Its first field is number `field`.
+// The item that a shape's byte stands for, after the numbers before it in its line. Its first field is number `field`, and its fields are
+// stored from `from` on.
 pub fn read_item(
     text: &[u8],
     c: Cursor,
-    x: Context,
+    x: &[u32; KNOWN],
     before: &[u32; VALUES],
     item: u64,
     field: usize,
+    fields: &mut [u32],
+    from: usize,
 ) -> Outcome
     requires { ⌜ field < 2 ^ 40 ⌝ }
-    ensures { λ r. ⌜ r ≡ asOutcome (readItemIn (now (text .entry)) x (now (before .entry)) (itemOf item) field (c .at)) ⌝ }
+    requires { ⌜ Room (now text) (now fields) from (c .at) ⌝ }
+    ensures { λ r. ⌜ ItemLeft (itemOf item) from (now (fields .entry)) (readItemIn (now (text .entry)) (now (x .entry)) (now (before .entry)) (itemOf item) field (c .at)) r (now (fields .exit)) ⌝ }
 {
     match item {
-        20 => list(text, c, x, before, 18, PROPOSITION, field),
-        21 => list(text, c, x, before, 17, 19, field),
-        22 => {
-            let h = x.header;
-            members(text, c, x, before, 15, h.cues, field)
-        }
-        _ => single(text, c, x, before, item, field),
+        20 => list(text, c, x, before, 18, PROPOSITION, field, fields, from),
+        21 => list(text, c, x, before, 17, 19, field, fields, from),
+        22 => members(text, c, x, before, 15, x[5], field, fields, from),
+        _ => single(text, c, x, before, item, field, fields, from),
     }
 }

@@ -5,8 +5,6 @@ mod range;
 mod table;
 
 pub use line::Finish;
-pub use line::LineRead;
 pub use line::Role;
 pub use line::read_line;
-pub use range::Context;
-pub use range::VALUES;
+pub use range::KNOWN;

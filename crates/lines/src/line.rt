@@ -1,15 +1,18 @@
 // A whole line, by the row of its letter.
 ghost use mathlib.Core.Path.{_≡_};
-ghost use Prim.Native.Nat.{ℕ, _<_, _^_};
+ghost use mathlib.Core.Bool.{true};
+ghost use Prim.Native.Nat.{ℕ, _+_, _-_, _<_, _≤_, _^_};
 ghost use mathlib.Core.List.{[]};
 ghost use lib.Dec.{ltb};
+ghost use lib.ListN.{getD};
 ghost use Rattle.rules.specs.Text.{endingAt, feedFollows};
-ghost use Rattle.rules.specs.Table.{roleNumber, finishLine, readItems, readLine};
+ghost use Rattle.rules.specs.Case.{headerIn};
+ghost use Rattle.rules.specs.Table.{roleNumber, readItems, readLine};
 ghost use Rattle.lines.specs.Shapes.{itemsOf};
-ghost use Rattle.lines.specs.Reading.{roleOf, refusedLine, stored, noValues, asLine};
+ghost use Rattle.lines.specs.Reading.{roleOf, Ready, Room, finishOf, ItemsLeft, LineLeft};
 use crate::item;
 use crate::item::Outcome;
-use crate::range::Context;
+use crate::range::KNOWN;
 use crate::range::VALUES;
 use crate::table;
 use text::Cursor;
@@ -29,19 +32,12 @@ pub enum Role {
 
 // How reading a line ended. A field's number is counted from 1, and 0 is the line itself.
 pub enum Finish {
-    // The line is read, and the next one starts here.
-    Done { next: Cursor },
+    // The line is read: how many fields it has, and where the next one starts.
+    Done { fields: usize, next: Cursor },
     // The line has no line feed; or the field is the wrong letter, missing, surplus or no plain number.
     Bad { field: usize },
     // The field is outside its range.
     Range { field: usize },
-}
-
-// A line's letter, and the number of each item or how many members it has: all zero for a refusal.
-pub struct LineRead {
-    pub finish: Finish,
-    pub letter: u8,
-    pub values: [u32; VALUES],
 }
 
 // The byte of a shape that says which line is due.
@@ -59,34 +55,33 @@ fn role_number(role: Role) -> u64
     }
 }
 
-fn refused(finish: Finish) -> LineRead
-    ensures { λ r. ⌜ r ≡ refusedLine finish ⌝ }
-{
-    LineRead {
-        finish,
-        letter: 0,
-        values: [0u32; VALUES],
-    }
-}
-
 // The line's end, after its items: anything else is surplus field number `field`.
-fn finished(text: &[u8], c: Cursor, letter: u8, values: [u32; VALUES], field: usize) -> LineRead
-    ensures { λ r. ⌜ r ≡ stored 7 values (finishLine letter field (endingAt (now (text .entry)) (c .at))) ⌝ }
+fn finished(text: &[u8], c: Cursor, field: usize) -> Finish
+    requires { ⌜ (1 ≤ field) × (feedFollows (now text) (c .at) ≡ true) ⌝ }
+    ensures { λ r. ⌜ r ≡ finishOf (field - 1) field (endingAt (now (text .entry)) (c .at)) ⌝ }
 {
     match c.line_end(text) {
-        Ending::Line { next } => LineRead {
-            finish: Finish::Done { next },
-            letter,
-            values,
+        Ending::Line { next } => Finish::Done {
+            fields: field - 1,
+            next,
         },
-        Ending::Surplus => refused(Finish::Bad { field }),
+        Ending::Surplus => Finish::Bad { field },
     }
 }
 
-// The items of a shape's bytes, lowest first, and the line's end.
-fn items(text: &[u8], c: Cursor, x: Context, letter: u8, shape: u64) -> LineRead
+// The items of a shape's bytes, lowest first, and the line's end. The line's fields are stored from `from` on, the letter first.
+fn items(
+    text: &[u8],
+    c: Cursor,
+    x: &[u32; KNOWN],
+    letter: u8,
+    shape: u64,
+    fields: &mut [u32],
+    from: usize,
+) -> Finish
     requires { ⌜ shape < 256 ^ 7 ⌝ }
-    ensures { λ r. ⌜ r ≡ stored 0 noValues (readItems (now (text .entry)) (x .header) (x .subtasks) letter (itemsOf shape) [] 2 (c .at)) ⌝ }
+    requires { ⌜ Room (now text) (now fields) (from + 1) (c .at) ⌝ }
+    ensures { λ r. ⌜ ItemsLeft (itemsOf shape) 1 (from + 1) (now (fields .entry)) (readItems (now (text .entry)) (headerIn (now (x .entry))) (getD (now (x .entry)) 7 0) letter (itemsOf shape) [] 2 (c .at)) r (now (fields .exit)) ⌝ }
 {
     let mut at = c;
     let mut values = [0u32; VALUES];
@@ -94,7 +89,8 @@ fn items(text: &[u8], c: Cursor, x: Context, letter: u8, shape: u64) -> LineRead
     let mut rest = shape;
     let mut i: usize = 0;
     while rest != 0 {
-        match item::read_item(text, at, x, &values, rest % 256, field) {
+        let put = from + (field - 1);
+        match item::read_item(text, at, x, &values, rest % 256, field, fields, put) {
             Outcome::Done {
                 value,
                 field: after,
@@ -106,31 +102,42 @@ fn items(text: &[u8], c: Cursor, x: Context, letter: u8, shape: u64) -> LineRead
                 rest = rest / 256;
                 i += 1;
             }
-            Outcome::Bad { field: wrong } => return refused(Finish::Bad { field: wrong }),
-            Outcome::Range { field: wrong } => return refused(Finish::Range { field: wrong }),
+            Outcome::Bad { field: wrong } => return Finish::Bad { field: wrong },
+            Outcome::Range { field: wrong } => return Finish::Range { field: wrong },
         }
     }
-    finished(text, at, letter, values, field)
+    finished(text, at, field)
 }
 
-// The line that starts at the cursor, where one of role `due` is due. `past` is the place past the text's last line feed.
-pub fn read_line(text: &[u8], past: usize, c: Cursor, due: Role, x: Context) -> LineRead
+// The line that starts at the cursor, where one of role `due` is due: its fields are stored from `from` on. `past` is the place past the
+// text's last line feed.
+pub fn read_line(
+    text: &[u8],
+    past: usize,
+    c: Cursor,
+    due: Role,
+    x: &[u32; KNOWN],
+    fields: &mut [u32],
+    from: usize,
+) -> Finish
     requires { ⌜ ((p : ℕ) → feedFollows (now text) p ≡ ltb p past) ⌝ }
-    ensures { λ r. ⌜ r ≡ asLine (readLine (now (text .entry)) (roleOf due) (x .header) (x .subtasks) (c .at)) ⌝ }
+    requires { ⌜ Ready (now text) (now fields) from (c .at) ⌝ }
+    ensures { λ r. ⌜ LineLeft from (now (fields .entry)) (readLine (now (text .entry)) (roleOf due) (headerIn (now (x .entry))) (getD (now (x .entry)) 7 0) (c .at)) r (now (fields .exit)) ⌝ }
 {
     let at = c.at;
     if past <= at {
-        return refused(Finish::Bad { field: 0 });
+        return Finish::Bad { field: 0 };
     }
-    match c.letter(text) {
-        Letter::Byte { byte, next } => {
-            let shape = table::shape(byte);
-            if shape % 256 == role_number(due) {
-                items(text, next, x, byte, shape / 256)
-            } else {
-                refused(Finish::Bad { field: 1 })
+    let shape = table::shape(text[at]);
+    if shape % 256 == role_number(due) {
+        match c.letter(text) {
+            Letter::Byte { byte, next } => {
+                fields[from] = byte as u32;
+                items(text, next, x, byte, shape / 256, fields, from)
             }
+            Letter::Wrong => Finish::Bad { field: 1 },
         }
-        Letter::Wrong => refused(Finish::Bad { field: 1 }),
+    } else {
+        Finish::Bad { field: 1 }
     }
 }

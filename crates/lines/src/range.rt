@@ -5,16 +5,13 @@ ghost use Prim.Native.Nat.{_+_};
 ghost use lib.Dec.{leb, ltb, eqb};
 ghost use Rattle.rules.specs.Table.{isCompound};
 ghost use Rattle.lines.specs.Reading.{inKind};
-use rules::Header;
 
 // How many numbers of a line are kept: seven items at most follow a letter, and eight are copied as whole halves.
 pub const VALUES: usize = 8;
 
-// What is known before a line: the header's numbers, and the subtask count of the method whose constraints are read.
-pub struct Context {
-    pub header: Header,
-    pub subtasks: u32,
-}
+// What is known before a line, lent as numbers: the header's in their order, and then the subtask count of the method whose constraints are
+// read.
+pub const KNOWN: usize = 8;
 
 fn between(low: u32, v: u32, high: u32) -> bool
     ensures { λ r. ⌜ r ≡ leb low v && leb v high ⌝ }
@@ -51,10 +48,9 @@ fn is_other(j: u32, count: u32, i: u32) -> bool
 }
 
 // Whether v is in the range of the kind of number that a shape's byte stands for, after the numbers before it in its line.
-pub fn in_range(kind: u64, x: Context, before: &[u32; VALUES], v: u32) -> bool
-    ensures { λ r. ⌜ r ≡ inKind x (now (before .entry)) kind v ⌝ }
+pub fn in_range(kind: u64, x: &[u32; KNOWN], before: &[u32; VALUES], v: u32) -> bool
+    ensures { λ r. ⌜ r ≡ inKind (now (x .entry)) (now (before .entry)) kind v ⌝ }
 {
-    let h = x.header;
     match kind {
         1 => v <= 256,
         2 => v <= 1024,
@@ -62,18 +58,18 @@ pub fn in_range(kind: u64, x: Context, before: &[u32; VALUES], v: u32) -> bool
         4 => is_compound(before[1], before[2], v),
         5 => v <= 1000,
         6 => between(1, v, 3000),
-        7 => is_compound(h.actions, h.compounds, v),
+        7 => is_compound(x[1], x[2], v),
         8 => v <= 64,
-        9 => v < x.subtasks,
-        10 => is_other(v, x.subtasks, before[0]),
-        11 => v < h.propositions,
-        12 => subsets::fits(v, x.subtasks),
-        13 => v < h.methods,
-        14 => v <= h.cues,
-        15 => v < h.actions,
-        16 => between(1, v, h.cues),
+        9 => v < x[7],
+        10 => is_other(v, x[7], before[0]),
+        11 => v < x[0],
+        12 => subsets::fits(v, x[7]),
+        13 => v < x[3],
+        14 => v <= x[5],
+        15 => v < x[1],
+        16 => between(1, v, x[5]),
         17 => v <= 32,
-        18 => v <= h.propositions,
-        _ => is_task(h.actions, h.compounds, v),
+        18 => v <= x[0],
+        _ => is_task(x[1], x[2], v),
     }
 }

@@ -13,10 +13,10 @@ use Rattle.rules.specs.Index.{Span, Part, partOf, only, pick, hull, spanOfPart,
 use Rattle.rules.specs.Case.{Constraint, O, B, F, W}
 use Rattle.rules.specs.Constraint.{holdsFrom, keeps}
 use Rattle.rules.proofs.Spans.{hull-one}
-use Rattle.tree.specs.Layout.{planFrom}
-use Rattle.parts.specs.States.{inRow}
+use Rattle.tree.specs.Layout.{subtasksPast}
+use Rattle.rows.specs.Rows.{inRow}
 use Rattle.parts.specs.Spans.{rowSpan, nodesIn, subtaskSpan, spansIn, SubtaskInside}
-use Rattle.parts.specs.Tests.{Tested}
+use Rattle.parts.specs.Tests.{PartInside, Tested}
 use Rattle.rules.specs.Case.{constraintOf}
 use Rattle.parts.proofs.Parts.{length-nodes}
 
@@ -48,9 +48,19 @@ module _ (l x y z : ℕ) where
   unfolding constraintOf
   numbered-W n m o = ap (byO l x y z) (ne-eqb l 79 n) ∙ ap (byB l x y z) (ne-eqb l 66 m) ∙ ap (byF x y z) (ne-eqb l 70 o)
 
--- What the test reads, once the letter is known.
-pub tested-as : (work words : List ℕ) (own : Span) {d e : Constraint} → d ≡ e → Tested work words own d → Tested work words own e
-tested-as work words own q t = subst (Tested work words own) q t
+  -- What the test reads, once the letter is known.
+  module _ (work : List ℕ) (n : ℕ) (own : Span) (t : Tested work n own (constraintOf l x y z)) where
+    pub tested-O : l ≡ 79 → SubtaskInside work x × SubtaskInside work y
+    tested-O e = subst (Tested work n own) (numbered-O e) t
+
+    pub tested-B : l ≢ 79 → l ≡ 66 → PartInside work n own y
+    tested-B m e = subst (Tested work n own) (numbered-B m e) t
+
+    pub tested-F : l ≢ 79 → l ≢ 66 → l ≡ 70 → PartInside work n own y
+    tested-F m o e = subst (Tested work n own) (numbered-F m o e) t
+
+    pub tested-W : l ≢ 79 → l ≢ 66 → l ≢ 70 → PartInside work n own x × PartInside work n own z
+    tested-W m o e = subst (Tested work n own) (numbered-W m o e) t
 
 -- ---- one subtask
 
@@ -76,7 +86,7 @@ unfolding spanOfPart only
 only-span own subs i d h =
     ap (λ (n : ℕ). hull (pick (eqb n) 0 subs)) (sym (zero-add i)) ∙ ap hull (pick-only i 0 subs d h) ∙ hull-one (getD subs i d)
 
-pub subtask-part : (work : List ℕ) (own : Span) (j : ℕ) → planFrom ≤ length work → SubtaskInside work j
+pub subtask-part : (work : List ℕ) (own : Span) (j : ℕ) → subtasksPast ≤ length work → SubtaskInside work j
     → subtaskSpan work j ≡ spanOfPart own (spansIn work) (only j)
 unfolding spansIn subtaskSpan
 subtask-part work own j room t =
@@ -91,11 +101,11 @@ module _ (work words : List ℕ) (own : Span) where
   abbrev at : Part → Span
   at part = spanOfPart own (spansIn work) part
 
-  pub keeps-order : {d : Constraint} (i j : ℕ) {r : Bool} {s t : Span} → planFrom ≤ length work → d ≡ O i j → Tested work words own d
-      → s ≡ subtaskSpan work i → t ≡ subtaskSpan work j → r ≡ isBefore s t → r ≡ keeps (inRow words) at d
+  pub keeps-order : {d : Constraint} (i j : ℕ) {r : Bool} {s t : Span} → subtasksPast ≤ length work → d ≡ O i j
+      → SubtaskInside work i × SubtaskInside work j → s ≡ subtaskSpan work i → t ≡ subtaskSpan work j → r ≡ isBefore s t
+      → r ≡ keeps (inRow words) at d
   unfolding keeps
-  keeps-order i j {r} {s} {t} room e w p q b =
-      let v : Tested work words own (O i j) = tested-as work words own e w in
+  keeps-order i j room e v p q b =
       b ∙ ap₂ isBefore (p ∙ subtask-part work own i room (v .0)) (q ∙ subtask-part work own j room (v .1)) ∙ ap (keeps (inRow words) at) (sym e)
 
   pub keeps-before : {d : Constraint} (p u : ℕ) {r : Bool} {s : Span} → d ≡ B p u → s ≡ at (partOf u) → r ≡ inRow words p (c s - 1)

@@ -11,22 +11,23 @@ use lib.Seq.{sets, getD-take, getD-drop, getD-set-other, length-slice}
 use Rattle.rules.specs.Index.{Span, partOf, pick, hull, spanOfPart}
 use Rattle.rules.specs.State.{bit}
 use Rattle.rules.proofs.Spans.{hull-join, hull-one}
-use Rattle.rules.proofs.Judgement.Each.{Each, each-tail}
+use Rattle.rules.specs.Refusals.{Each}
+use Rattle.rules.proofs.Judgement.Each.{each-tail}
 use Rattle.subsets.specs.Members.{membersOf}
 use Rattle.subsets.proofs.Chosen.{head-tail}
 use Rattle.subsets.proofs.Members.{members-cons, pick-members}
-use Rattle.tree.specs.Layout.{subtasksFrom, planFrom, rowsFrom}
+use Rattle.tree.specs.Layout.{subtasksFrom, subtasksPast, rowsFrom}
 use Rattle.parts.specs.Spans.{rowSpan, nodeAfter, RowInside, siblings, nodesIn, subtaskSpan, spansIn, SubtaskInside}
 
 -- ---- the places of the subtasks' nodes
 
 pub node-at : (work : List ℕ) (j : ℕ) → j < 32 → getD (nodesIn work) j 0 ≡ getD work (subtasksFrom + j) 0
-unfolding nodesIn subtasksFrom planFrom
-node-at work j h = getD-drop subtasksFrom (take planFrom work) j 0 ∙ getD-take planFrom work (subtasksFrom + j) 0 (omega arith)
+unfolding nodesIn subtasksFrom subtasksPast
+node-at work j h = getD-drop subtasksFrom (take subtasksPast work) j 0 ∙ getD-take subtasksPast work (subtasksFrom + j) 0 (omega arith)
 
-pub length-nodes : (work : List ℕ) → planFrom ≤ length work → length (nodesIn work) ≡ 32
-unfolding nodesIn subtasksFrom planFrom
-length-nodes work h = length-slice subtasksFrom planFrom work h
+pub length-nodes : (work : List ℕ) → subtasksPast ≤ length work → length (nodesIn work) ≡ 32
+unfolding nodesIn subtasksFrom subtasksPast
+length-nodes work h = length-slice subtasksFrom subtasksPast work h
 
 -- ---- a set, lowest member first
 
@@ -38,7 +39,7 @@ unfolding partOf spanOfPart
 part-some own subs zero n = absurd (n refl)
 part-some own subs (suc u) n = refl
 
-set-span : (work : List ℕ) (own : Span) (u : ℕ) → planFrom ≤ length work → u < 2 ^ 32 → u ≢ 0
+set-span : (work : List ℕ) (own : Span) (u : ℕ) → subtasksPast ≤ length work → u < 2 ^ 32 → u ≢ 0
     → spanOfPart own (spansIn work) (partOf u) ≡ membersSpan work (membersOf u)
 unfolding spansIn subtaskSpan
 set-span work own u room small n =
@@ -48,8 +49,7 @@ set-span work own u room small n =
     ∙ ap (λ (g : ℕ → Span). map g (membersOf u)) (fun-ext (λ j. List·getD-map (rowSpan work) (nodesIn work) j 0)))
 
 -- The members joined so far, and those that remain.
-pub record Joining (work : List ℕ) (u : ℕ) (joined : Span) (rest left : ℕ) : Type 0 where
-  pub remain : length (membersOf rest) ≡ left
+pub record Joining (work : List ℕ) (u : ℕ) (joined : Span) (rest : ℕ) : Type 0 where
   pub inside : Each (SubtaskInside work) (membersOf rest)
   pub same : membersSpan work (membersOf u) ≡ hull (joined ∷ map (subtaskSpan work) (membersOf rest))
 
@@ -62,29 +62,30 @@ lowest-inside work u small n f =
     subst (λ (l : List ℕ). Each (SubtaskInside work) l) (members-cons u n small) f (headD (membersOf u) 32) (here refl)
 
 pub joining-starts : (work : List ℕ) (u : ℕ) → u < 2 ^ 32 → u ≢ 0 → Each (SubtaskInside work) (membersOf u)
-    → (first : Span) (rest left : ℕ) → first ≡ subtaskSpan work (headD (membersOf u) 32) → membersOf rest ≡ tail (membersOf u)
-    → left ≡ length (membersOf rest) → Joining work u first rest left
-joining-starts work u small n f first rest left e r l =
+    → (first : Span) (rest : ℕ) → first ≡ subtaskSpan work (headD (membersOf u) 32) → membersOf rest ≡ tail (membersOf u)
+    → Joining work u first rest
+joining-starts work u small n f first rest e r =
     record {
-      remain = sym l;
       inside = subst (λ (ms : List ℕ). Each (SubtaskInside work) ms) (sym r)
           (each-tail (SubtaskInside work) (headD (membersOf u) 32) (tail (membersOf u)) (subst (λ (ms : List ℕ). Each (SubtaskInside work) ms) (members-cons u n small) f));
       same = ap (membersSpan work) (members-cons u n small)
           ∙ ap₂ (λ (s : Span) (ms : List ℕ). hull (s ∷ map (subtaskSpan work) ms)) (sym e) (sym r);
     }
 
-module _ {work : List ℕ} {u : ℕ} {joined : Span} {rest left : ℕ} (p : Joining work u joined rest left) (some : 0 < left) where
+module _ {work : List ℕ} {u : ℕ} {joined : Span} {rest : ℕ} (p : Joining work u joined rest) (some : 0 < length (membersOf rest)) where
   first-rest : membersOf rest ≡ headD (membersOf rest) 32 ∷ tail (membersOf rest)
-  first-rest = head-tail (membersOf rest) 32 (λ e. omega (arith, p .remain, ap length e))
+  first-rest = head-tail (membersOf rest) 32 (λ e. omega (arith, ap length e))
 
   pub next-inside : SubtaskInside work (headD (membersOf rest) 32)
   next-inside = subst (λ (l : List ℕ). Each (SubtaskInside work) l) first-rest (p .inside) (headD (membersOf rest) 32) (here refl)
 
-  pub joining-goes-on : {other both : Span} (rest′ left′ : ℕ) → other ≡ subtaskSpan work (headD (membersOf rest) 32)
-      → both ≡ hull (joined ∷ other ∷ []) → membersOf rest′ ≡ tail (membersOf rest) → left ≡ suc left′ → Joining work u both rest′ left′
-  joining-goes-on {other} {both} rest′ left′ e j r l =
+  pub fewer : (rest′ : ℕ) → membersOf rest′ ≡ tail (membersOf rest) → length (membersOf rest′) < length (membersOf rest)
+  fewer rest′ r = omega (arith, ap length r, ap length first-rest)
+
+  pub joining-goes-on : {other both : Span} (rest′ : ℕ) → other ≡ subtaskSpan work (headD (membersOf rest) 32)
+      → both ≡ hull (joined ∷ other ∷ []) → membersOf rest′ ≡ tail (membersOf rest) → Joining work u both rest′
+  joining-goes-on {other} {both} rest′ e j r =
       record {
-        remain = ap length r ∙ (let q = ap length first-rest in let k = p .remain in omega arith);
         inside = subst (λ (ms : List ℕ). Each (SubtaskInside work) ms) (sym r)
             (each-tail (SubtaskInside work) (headD (membersOf rest) 32) (tail (membersOf rest)) (subst (λ (ms : List ℕ). Each (SubtaskInside work) ms) first-rest (p .inside)));
         same = p .same ∙ ap (λ (ms : List ℕ). hull (joined ∷ map (subtaskSpan work) ms)) first-rest
@@ -97,11 +98,11 @@ no-length : (l : List ℕ) → length l ≡ 0 → l ≡ []
 no-length [] e = refl
 no-length (x ∷ l) e = absurd (omega arith)
 
-pub joining-ends : {work : List ℕ} (own : Span) {u : ℕ} {joined : Span} {rest left : ℕ} → Joining work u joined rest left → left ≡ 0
-    → planFrom ≤ length work → u < 2 ^ 32 → u ≢ 0 → joined ≡ spanOfPart own (spansIn work) (partOf u)
+pub joining-ends : {work : List ℕ} (own : Span) {u : ℕ} {joined : Span} {rest : ℕ} → Joining work u joined rest → length (membersOf rest) ≡ 0
+    → subtasksPast ≤ length work → u < 2 ^ 32 → u ≢ 0 → joined ≡ spanOfPart own (spansIn work) (partOf u)
 joining-ends {work} own {u} {joined} {rest} p e room small n =
     sym (set-span work own u room small n ∙ p .same
-    ∙ ap (λ (ms : List ℕ). hull (joined ∷ map (subtaskSpan work) ms)) (no-length (membersOf rest) (p .remain ∙ e)) ∙ hull-one joined)
+    ∙ ap (λ (ms : List ℕ). hull (joined ∷ map (subtaskSpan work) ms)) (no-length (membersOf rest) e) ∙ hull-one joined)
 
 -- ---- the nodes of the subtasks
 

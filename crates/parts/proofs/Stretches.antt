@@ -13,12 +13,12 @@ use Rattle.rules.specs.Constraint.{holdsIn}
 use Rattle.rules.specs.Verdict.{statesOf, filled}
 use Rattle.rules.proofs.Statements.{states-length}
 use Rattle.rules.proofs.Worded.{Worded, states-worded}
-use Rattle.rules.proofs.Judgement.Each.{Each, each-tail}
-use Rattle.rows.specs.Rows.{rowAt}
-use Rattle.parts.specs.States.{inRow}
+use Rattle.rules.specs.Refusals.{Each}
+use Rattle.rules.proofs.Judgement.Each.{each-tail}
+use Rattle.rows.specs.Rows.{rowAt, stretchAt, inRow}
 
 row-flat : (ss : List State) (rest : List ℕ) (l : ℕ) → Each Worded ss → l < length ss → rowAt (flatten ss ++ rest) l ≡ stateAt ss l
-unfolding rowAt stateAt flatten
+unfolding rowAt stretchAt stateAt flatten
 row-flat [] rest l f h = absurd (omega arith)
 row-flat (s ∷ ss) rest zero f h =
     let none : wordCount * zero ≡ 0 = omega arith in

@@ -4,7 +4,7 @@ use Prim.Native.Nat.{ℕ, zero, suc, _+_, _*_, _<_, _≤_}
 use lib.ListN.{length, getD}
 use lib.Seq.{slice}
 use Rattle.rules.specs.Index.{Span}
-use Rattle.tree.specs.Layout.{subtasksFrom, planFrom, rowsFrom}
+use Rattle.tree.specs.Layout.{subtasksFrom, subtasksPast, rowsFrom}
 
 -- The span in the row of node n, and the node after its subtree.
 unfoldable pub rowSpan : List ℕ → ℕ → Span
@@ -24,7 +24,7 @@ siblings work n (suc count) = n ∷ siblings work (nodeAfter work n) count
 
 -- The nodes of the subtasks of the node under test: 32 places, of which a node uses as many as it has subtasks.
 unfoldable pub nodesIn : List ℕ → List ℕ
-nodesIn work = slice subtasksFrom planFrom work
+nodesIn work = slice subtasksFrom subtasksPast work
 
 -- Their spans.
 unfoldable pub subtaskSpan : List ℕ → ℕ → Span

@@ -1,6 +1,5 @@
 // The spans of a task's parts, and the tests of the four kinds of constraint at them (01, "Indexes").
 mod spans;
-mod states;
 mod tests;
 
 pub use spans::span_at;

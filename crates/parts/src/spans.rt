@@ -4,10 +4,10 @@ ghost use Prim.Native.Nat.{_+_, _≤_};
 ghost use lib.ListN.{length};
 ghost use lib.Seq.{sets};
 ghost use Rattle.rules.specs.Index.{partOf, spanOfPart};
-ghost use Rattle.rules.proofs.Judgement.Each.{Each};
+ghost use Rattle.rules.specs.Refusals.{Each};
 ghost use Rattle.index.specs.Spans.{spanOf};
 ghost use Rattle.subsets.specs.Members.{membersOf};
-ghost use Rattle.tree.specs.Layout.{subtasksFrom, planFrom};
+ghost use Rattle.tree.specs.Layout.{subtasksFrom, subtasksPast};
 ghost use Rattle.parts.specs.Spans.{rowSpan, nodeAfter, RowInside, siblings, spansIn, subtaskSpan, SubtaskInside};
 use index::Doubled;
 use index::Span;
@@ -39,7 +39,7 @@ fn after_at(work: &[u32], n: u32) -> u32
 pub fn subtask_nodes(work: &mut [u32], n: u32, count: u32)
     requires { ⌜ n + 1 ≤ 4294967295 ⌝ }
     requires { ⌜ count ≤ 32 ⌝ }
-    requires { ⌜ planFrom ≤ length (now work) ⌝ }
+    requires { ⌜ subtasksPast ≤ length (now work) ⌝ }
     requires { ⌜ Each (RowInside (now work)) (siblings (now work) (n + 1) count) ⌝ }
     ensures { λ r. ⌜ now (work .exit) ≡ sets (now (work .entry)) subtasksFrom (siblings (now (work .entry)) (n + 1) count) ⌝ }
 {
@@ -55,7 +55,7 @@ pub fn subtask_nodes(work: &mut [u32], n: u32, count: u32)
 
 // The span of subtask j.
 pub fn subtask_span(work: &[u32], j: u32) -> Span
-    requires { ⌜ planFrom ≤ length (now work) ⌝ }
+    requires { ⌜ subtasksPast ≤ length (now work) ⌝ }
     requires { ⌜ SubtaskInside (now work) j ⌝ }
     ensures { λ r. ⌜ spanOf r ≡ subtaskSpan (now (work .entry)) j ⌝ }
 {
@@ -66,7 +66,7 @@ pub fn subtask_span(work: &[u32], j: u32) -> Span
 // The span of a set of subtasks, of a task whose own span is `own`: "0 is the whole task. To get a set's start and end, take its lowest
 // subtask, then the rest." Trailing zeros give the lowest subtask's number; ones give how many members remain.
 pub fn span_of_set(work: &[u32], own: Span, u: u32) -> Span
-    requires { ⌜ planFrom ≤ length (now work) ⌝ }
+    requires { ⌜ subtasksPast ≤ length (now work) ⌝ }
     requires { ⌜ Each (SubtaskInside (now work)) (membersOf u) ⌝ }
     ensures { λ r. ⌜ spanOf r ≡ spanOfPart (spanOf own) (spansIn (now (work .entry))) (partOf u) ⌝ }
 {
@@ -75,11 +75,9 @@ pub fn span_of_set(work: &[u32], own: Span, u: u32) -> Span
     }
     let mut span = subtask_span(work, subsets::lowest(u));
     let mut rest = subsets::others(u);
-    let mut left = subsets::size(rest);
-    while 0 < left {
+    while 0 < subsets::size(rest) {
         span = span.join(subtask_span(work, subsets::lowest(rest)));
         rest = subsets::others(rest);
-        left -= 1;
     }
     span
 }

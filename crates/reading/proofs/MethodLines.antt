@@ -1,145 +1,226 @@
--- A method line read again: its subtasks are passed number by number, and what stands after them is how many constraints there are.
+-- A method: its M line says how many subtasks it has and how many constraint lines follow, and its fields are those of all these lines.
 -- Assumes nothing.
-use mathlib.Core.Path.{_≡_, refl, sym, ap, subst, _∙_}
-use mathlib.Core.Bool.{Bool, false, _&&_}
-use mathlib.Core.List.{List, [], _∷_}
-use Prim.Native.Nat.{ℕ, zero, suc, _+_, _-_, _≤_, _<_}
+use mathlib.Core.Path.{_≡_, refl, sym, ap, ap₂, subst, transport, _∙_}
+use mathlib.Core.List.{List, [], _∷_, _++_, map}
+use Prim.Native.Nat.{ℕ, suc, _+_, _-_, _*_, _≤_, _<_}
 use native.Mathlib.Omega.{arith}
-use lib.Dec.{leb}
-use lib.ListN.{length}
+use lib.ListN.{length, getD, set, length-append}
+use lib.Seq.{sets, getD-append-seam, getD-set-same, getD-set-other, length-sets}
 use Rattle.rules.specs.declared.Header.{Header}
-use Rattle.rules.specs.Text.{Number, number, numberAt, letterAt, endingAt}
+use Rattle.rules.specs.declared.Answer.{Answer}
 use Rattle.rules.specs.Table as T
-use Rattle.rules.specs.Table.{Item, one, table, roleNumber, inRange, Value, scalar, listed, numberOf, ItemRead, item, withMember, leastAfter, readMembers, readList, readItem, LineRead, withValue, readItems}
-use Rattle.rules.specs.Case.{scalarAt}
-use Rattle.text.specs.declared.Cursor.{Cursor}
-use Rattle.text.specs.declared.Letter.the-variants.{Byte, Wrong}
-use Rattle.text.specs.Cursor.{cursor, asLetter}
-use Rattle.reading.specs.declared.again.MethodAgain.{MethodAgain}
-use Rattle.reading.specs.declared.again.Numbered.{Numbered}
-use Rattle.reading.specs.Again.{numberOr, lineOr, numberHere, fieldFrom, numberFrom, methodEnd, afterTask, methodFrom, asMethod, MethodAgainAt}
-use Rattle.reading.proofs.Rereading.{LineTells, Told, value-tells, ItemTells, item-then, taken-tells, one-tells, items-tell, RowsHave, line-tells, no-line}
+use Rattle.rules.specs.Table.{Value, scalar, listed, rowOf, table}
+use Rattle.rules.specs.Result.{found, refused, _>>=_}
+use Rattle.rules.specs.Case.{Constraint, Method, Valued, Read, headerIn, scalarAt, membersAt, asConstraint, oneLine, many, oneMethod}
+use Rattle.rules.specs.Fields.{lineFields, linesFields, constraintLine, methodLines}
+use Rattle.rules.proofs.Judgement.Reading.{ReadSays, one-line-says}
+use Rattle.rules.proofs.Judgement.Back.{methodLine, method-back, constraint-back}
+use Rattle.fields.specs.Standing.{Stands}
+use Rattle.fields.proofs.Standing.{sets-stand, stands-at, sets-append}
+use Rattle.reading.specs.declared.Spot.{Spot}
+use Rattle.reading.specs.declared.Group.{Group}
+use Rattle.reading.specs.declared.Group.the-variants.{Done, Refused}
+use Rattle.reading.specs.Groups.{spot, joined, valuedLine, Due, Left, together, methodFields}
+use Rattle.reading.proofs.Turns.{Goes, AlwaysGoes, line-goes, many-goes, went, halted, Numbered, many-numbered}
+use Rattle.reading.proofs.Meant.{Alike, many-left, lines-meant, means-found, means-refused}
 
--- ---- What the code finds
+-- ---- What is known before the lines of a method
 
--- So many numbers passed: from the start on, the field is that from here on.
-pub skip-starts : (text : List ℕ) (count : ℕ) (c : Cursor) → fieldFrom text count c ≡ fieldFrom text (count - 0) c
-skip-starts text count c = let all : count ≡ count - 0 = omega arith in ap (λ (k : ℕ). fieldFrom text k c) all
+-- Its M line is read without a subtask count.
+pub method-zero : (text : List ℕ) (h : Header) (k n place from : ℕ) (w : List ℕ) (g : Group) (u : List ℕ) → k ≡ 0
+    → Left lineFields from w (valuedLine text h T.method k n place) g u → Left lineFields from w (valuedLine text h T.method 0 n place) g u
+method-zero text h k n place from w g u e l = subst (λ (j : ℕ). Left lineFields from w (valuedLine text h T.method j n place) g u) e l
 
-pub skip-on : (text : List ℕ) (count i : ℕ) (c d : Cursor) (x : Numbered) → i < count → x ≡ numberHere text d
-    → fieldFrom text count c ≡ fieldFrom text (count - i) d → fieldFrom text count c ≡ fieldFrom text (count - (i + 1)) (x .next)
-unfolding fieldFrom
-skip-on text count i c d x more e same =
-    let left : count - i ≡ suc (count - (i + 1)) = omega arith in
-    same ∙ ap (λ (k : ℕ). fieldFrom text k d) left ∙ ap (λ (y : Numbered). fieldFrom text (count - (i + 1)) (y .next)) (sym e)
+-- Its constraints by the same header, and its own subtask count.
+own-left : (text xs : List ℕ) (s : ℕ) → 7 < length xs → (count n place from : ℕ) (w : List ℕ) (g : Group) (u : List ℕ)
+    → Left (together lineFields) from w (many (valuedLine text (headerIn (set xs 7 s)) T.constraint (getD (set xs 7 s) 7 0)) count n place) g u
+    → Left (together lineFields) from w (many (valuedLine text (headerIn xs) T.constraint s) count n place) g u
+own-left text xs s long count n place from w g u l =
+    let same : (i : ℕ) → i < 7 → getD (set xs 7 s) i 0 ≡ getD xs i 0 = λ i h. getD-set-other xs 7 i s 0 (λ e. omega arith) in
+    let header : headerIn (set xs 7 s) ≡ headerIn xs = λ j. record {
+      propositions = same 0 (omega arith) j;
+      actions = same 1 (omega arith) j;
+      compounds = same 2 (omega arith) j;
+      methods = same 3 (omega arith) j;
+      goal = same 4 (omega arith) j;
+      cues = same 5 (omega arith) j;
+      nodes = same 6 (omega arith) j;
+    } in
+    transport (λ j. Left (together lineFields) from w (many (valuedLine text (header j) T.constraint (getD-set-same xs 7 s 0 long j)) count n place) g u) l
 
-pub skip-ends : (text : List ℕ) (count i : ℕ) (c d : Cursor) → count ≤ i → fieldFrom text count c ≡ fieldFrom text (count - i) d → d ≡ fieldFrom text count c
-unfolding fieldFrom
-skip-ends text count i c d over same = let none : count - i ≡ 0 = omega arith in sym (same ∙ ap (λ (k : ℕ). fieldFrom text k d) none)
+-- The fields of lines in turn, one list after the other.
+pub lines-joined : {A : Type 0} (asLine : A → Valued) (xs : List A) → linesFields (map asLine xs) ≡ together (λ a. lineFields (asLine a)) xs
+lines-joined asLine [] = refl
+lines-joined asLine (x ∷ xs) = ap (λ (l : List ℕ). lineFields (asLine x) ++ l) (lines-joined asLine xs)
 
--- The numbers of a method line in turn, and the line's end.
-pub method-are : (text : List ℕ) (c : Cursor) (x y z : Numbered) (at d : Cursor) → x ≡ numberHere text c → y ≡ numberHere text (x .next)
-    → at ≡ fieldFrom text (y .value) (y .next) → z ≡ numberHere text at → d ≡ lineOr (z .next) (endingAt text (z .next .at))
-    → record { subtasks = y .value; constraints = z .value; next = d } ≡ methodFrom text c
-unfolding methodFrom
-method-are text c x y z at d p q s r e =
-    let third : z ≡ numberHere text (fieldFrom text (y .value) (y .next)) = r ∙ ap (numberHere text) s in
-    let end = e ∙ ap (λ (w : Numbered). lineOr (w .next) (endingAt text (w .next .at))) third in
-    (λ j. record { subtasks = y .value; constraints = third j .value; next = end j })
-    ∙ ap (afterTask text) (q ∙ ap (λ (w : Numbered). numberHere text (w .next)) p)
+abbrev constraintFields : Constraint → List ℕ
+constraintFields c = lineFields (constraintLine c)
 
--- ---- What the table reads
+-- A method out of the values of its line and its constraints.
+abbrev methodOf : List Value → List Constraint → Method
+methodOf vs cs = record { task = scalarAt vs 0; subtasks = membersAt vs 1; constraints = cs }
 
--- A list of so many members that ends after so many numbers.
-abbrev Listed : List ℕ → ℕ → ℕ → Value → ℕ → Type 0
-Listed text count place (scalar v) next = ⊥
-Listed text count place (listed vs) next = (length vs ≡ count) × (fieldFrom text count (cursor place) ≡ cursor next)
+method-fields : (vs : List Value) (cs : List Constraint) → length cs ≡ scalarAt vs 2
+    → methodFields (methodOf vs cs) ≡ lineFields (methodLine vs) ++ together constraintFields cs
+unfolding methodLines methodLine
+method-fields vs cs e = ap₂ (λ (n : ℕ) (l : List ℕ). lineFields (77, scalar (scalarAt vs 0) ∷ listed (membersAt vs 1) ∷ scalar n ∷ []) ++ l) e (lines-joined constraintLine cs)
 
-member-tells : (text : List ℕ) (count place v start : ℕ) → numberAt text place ≡ number v start → (r : ItemRead) → ItemTells (Listed text count start) r
-    → ItemTells (Listed text (suc count) place) (withMember v r)
-unfolding fieldFrom
-member-tells text count place v start e (item (scalar w) field next) t = absurd t
-member-tells text count place v start e (item (listed vs) field next) t =
-    (ap suc (t .0), ap (λ (x : Number). fieldFrom text count (numberOr (cursor place) x .next)) e ∙ t .1)
-member-tells text count place v start e (ItemRead.unreadable field) t = tt
-member-tells text count place v start e (ItemRead.outside field) t = tt
+line-fields : (vs : List Value) → lineFields (methodLine vs) ≡ 77 ∷ scalarAt vs 0 ∷ length (membersAt vs 1) ∷ (membersAt vs 1 ++ (scalarAt vs 2 ∷ []))
+unfolding lineFields methodLine rowOf table
+line-fields vs = refl
 
-module _ (text : List ℕ) (ok : ℕ → Bool) (ascending : Bool) where
-  members-tell : (count low field place : ℕ) → ItemTells (Listed text count place) (readMembers text ok ascending count low field place)
-  unfolding fieldFrom
-  members-tell zero low field place = (refl, refl)
-  members-tell (suc count) low field place =
-      taken-tells (Listed text (suc count) place) (λ v. leb low v && ok v) (numberAt text place) field
-      (λ v next. withMember v (readMembers text ok ascending count (leastAfter ascending v) (field + 1) next))
-      (λ v next e. member-tells text count place v next e (readMembers text ok ascending count (leastAfter ascending v) (field + 1) next)
-      (members-tell count (leastAfter ascending v) (field + 1) next))
+-- Readings that end alike go alike.
+goes-alike : {A B : Type 0} (text : List ℕ) (f : A → List ℕ) (g : B → List ℕ) (n place from : ℕ) (x : Read (List A)) (y : Read (List B)) → Alike (map f) (map g) x y
+    → Goes text (together f) n place from x → Goes text (together g) n place from y
+goes-alike text f g n place from (found (a, m, p)) (found (b, m′, p′)) e z =
+    let size : length (joined (map f a)) ≡ length (joined (map g b)) = ap (λ xss. length (joined xss)) (e .2) in
+    let em = e .0 in
+    let ep = e .1 in
+    (omega (arith, z .0), omega (arith, z .1), omega (arith, z .2), omega (arith, z .3))
+goes-alike text f g n place from (found x) (refused s) e z = absurd e
+goes-alike text f g n place from (refused s) (found y) e z = absurd e
+goes-alike text f g n place from (refused s) (refused t) e z = tt
 
--- A list's count, and the field after its members.
-abbrev ListAt : List ℕ → ℕ → Value → ℕ → Type 0
-ListAt text place v next = (start : ℕ) × (numberAt text place ≡ number (numberOf v) start) × (fieldFrom text (numberOf v) (cursor start) ≡ cursor next)
+module _ (text : List ℕ) (h : Header) where
+  -- What an M line that is read is.
+  line-is : (n place : ℕ) (x : Valued) (m next : ℕ) → valuedLine text h T.method 0 n place ≡ found (x, m, next) → methodLine (x .1) ≡ x
+  line-is n place x m next e =
+      subst (ReadSays (λ (y : Valued). methodLine (y .1) ≡ y)) e (one-line-says text h T.method 0 (λ y. y) n place (λ y. methodLine (y .1) ≡ y) (method-back h))
 
-list-tells : (text : List ℕ) (count? ok : ℕ → Bool) (ascending : Bool) (field place : ℕ) → ItemTells (ListAt text place) (readList text count? ok ascending field place)
-unfolding readList
-list-tells text count? ok ascending field place =
-    taken-tells (ListAt text place) count? (numberAt text place) field (λ count next. readMembers text ok ascending count 0 (field + 1) next)
-    (λ count next e. gathered count next e (readMembers text ok ascending count 0 (field + 1) next) (members-tell text ok ascending count 0 (field + 1) next))
-  where
-    gathered : (count start : ℕ) → numberAt text place ≡ number count start → (r : ItemRead) → ItemTells (Listed text count start) r → ItemTells (ListAt text place) r
-    gathered count start e (item (scalar w) f next) t = absurd t
-    gathered count start e (item (listed vs) f next) t =
-        (start, e ∙ ap (λ (c : ℕ). number c start) (sym (t .0)), ap (λ (c : ℕ). fieldFrom text c (cursor start)) (t .0) ∙ t .1)
-    gathered count start e (ItemRead.unreadable f) t = tt
-    gathered count start e (ItemRead.outside f) t = tt
+  subtask-count : (x : Valued) → methodLine (x .1) ≡ x → length (membersAt (x .1) 1) ≡ scalarAt (x .1) 1
+  unfolding methodLine scalarAt membersAt
+  subtask-count x e = ap (λ (y : Valued). scalarAt (y .1) 1) e
 
--- The M line's items, read in turn, are what the code finds.
-method-told : (text : List ℕ) (l place p q : ℕ) (v u : Value) → numberAt text place ≡ number (numberOf v) p → ListAt text p u q
-    → (l′ : ℕ) (vs : List Value) (next : ℕ) → Told text 1 l (cursor q) l′ vs next → methodFrom text (cursor place) ≡ asMethod (v ∷ u ∷ vs) next
-unfolding methodFrom fieldFrom numberFrom scalarAt
-method-told text l place p q v u e (start, f, g) l′ vs next t =
-    let x = t .values 0 in
-    let z = t .ends in
-    ap (λ (y : Number). afterTask text (numberHere text (numberOr (cursor place) y .next))) e
-    ∙ ap (λ (y : Number). afterTask text (numberOr (cursor p) y)) f
-    ∙ ap (λ (d : Cursor). methodEnd text (record { value = numberOf u; next = cursor start }) (numberHere text d)) g
-    ∙ λ j. record { subtasks = numberOf u; constraints = x j; next = lineOr (numberHere text (cursor q) .next) (z j) }
+  -- The constraints of a method whose line is read.
+  abbrev after-line : List Value → ℕ → ℕ → Read (List Constraint)
+  after-line vs m next = many (oneLine text h T.constraint (scalarAt vs 1) asConstraint) (scalarAt vs 2) m next
 
-abbrev methodItems : List Item
-methodItems = one T.compound ∷ T.subtaskList ∷ one (T.upTo 64) ∷ []
+  abbrev whole-method : List Value → Read (List Constraint) → Read Method
+  whole-method vs r = r >>= λ (cs, m, next). found (methodOf vs cs, m, next)
 
-module _ (text : List ℕ) (h : Header) (n l place : ℕ) where
-  abbrev Found : ℕ → List Value → ℕ → Type 0
-  Found l′ vs next = methodFrom text (cursor place) ≡ asMethod vs next
+  method-goes-on : (n place : ℕ) (x : Valued) (m next : ℕ) → valuedLine text h T.method 0 n place ≡ found (x, m, next)
+      → oneMethod text h n place ≡ whole-method (x .1) (after-line (x .1) m next)
+  unfolding oneMethod
+  method-goes-on n place x m next e =
+      ap (λ (r : Read (List Value)). r >>= λ (vs, m′, next′). whole-method vs (after-line vs m′ next′))
+      (means-found text h T.method 0 (λ y. y .1) n place x m next e)
 
-  abbrev others : List Item → List ℕ → ℕ → ℕ → LineRead
-  others is before field start = readItems text h n l is before field start
+  method-stops : (n place : ℕ) (a : Answer) → valuedLine text h T.method 0 n place ≡ refused a → oneMethod text h n place ≡ refused a
+  unfolding oneMethod
+  method-stops n place a e =
+      ap (λ (r : Read (List Value)). r >>= λ (vs, m′, next′). whole-method vs (after-line vs m′ next′))
+      (means-refused text h T.method 0 (λ y. y .1) n place a e)
 
-  method-items : (is : List Item) → methodItems ≡ is → LineTells Found (readItems text h n l is [] 2 place)
-  unfolding readItem
-  method-items is s =
-      let last : List Item = one (T.upTo 64) ∷ [] in
-      subst (λ (y : List Item). LineTells Found (readItems text h n l y [] 2 place)) s
-      (item-then Found (λ v next. numberAt text place ≡ number (numberOf v) next) (readItem text h n [] (one T.compound) 2 place)
-      (λ v after next. withValue v (others (T.subtaskList ∷ last) (numberOf v ∷ []) after next))
-      (one-tells text h n l [] T.compound 2 place)
-      (λ v after next e. value-tells (λ l′ vs end. Found l′ (v ∷ vs) end) Found v (λ l′ vs end t. t) (others (T.subtaskList ∷ last) (numberOf v ∷ []) after next)
-      (item-then (λ l′ vs end. Found l′ (v ∷ vs) end) (ListAt text next) (readItem text h n (numberOf v ∷ []) T.subtaskList after next)
-      (λ u after′ next′. withValue u (others last (numberOf v ∷ numberOf u ∷ []) after′ next′))
-      (list-tells text (inRange h n (numberOf v ∷ []) (T.upTo 32)) (inRange h n (numberOf v ∷ []) T.task) false after next)
-      (λ u after′ next′ f. value-tells (Told text 1 l (cursor next′)) (λ l′ vs end. Found l′ (v ∷ vs) end) u (method-told text l place next next′ v u e f)
-      (others last (numberOf v ∷ numberOf u ∷ []) after′ next′) (items-tell text h n l last 1 tt (numberOf v ∷ numberOf u ∷ []) after′ next′)))))
+  counted : (vs : List Value) (m next : ℕ) (cs : List Constraint) (m′ next′ : ℕ) → after-line vs m next ≡ found (cs, m′, next′) → length cs ≡ scalarAt vs 2
+  counted vs m next cs m′ next′ e =
+      subst (Numbered (scalarAt vs 2)) e (many-numbered (oneLine text h T.constraint (scalarAt vs 1) asConstraint) (scalarAt vs 2) m next)
 
-table-method : RowsHave T.method (λ is. methodItems ≡ is) table
-unfolding table roleNumber
-table-method = (refl, tt)
+  -- How far a method goes.
+  pub method-goes : AlwaysGoes text methodFields (oneMethod text h)
+  method-goes n place from low inside = line (valuedLine text h T.method 0 n place) refl (line-goes text h T.method 0 n place from low inside)
+    where
+      rest : (x : Valued) (m next : ℕ) → methodLine (x .1) ≡ x → (place ≤ next) × (next ≤ length text) × (m + place ≤ n + next) × (2 * (from + length (lineFields x)) ≤ next)
+          → (y : Read (List Constraint)) → after-line (x .1) m next ≡ y → Goes text (together constraintFields) m next (from + length (lineFields x)) y
+          → Goes text methodFields n place from (whole-method (x .1) y)
+      rest x m next i p (found (cs, m′, next′)) e z =
+          let size : length (methodFields (methodOf (x .1) cs)) ≡ length (lineFields x) + length (together constraintFields cs)
+          = ap length (method-fields (x .1) cs (counted (x .1) m next cs m′ next′ e) ∙ ap (λ (y : Valued). lineFields y ++ together constraintFields cs) i)
+          ∙ length-append (lineFields x) (together constraintFields cs) in
+          (omega (arith, p .0, z .0), z .1, omega (arith, p .2, z .2), omega (arith, z .3))
+      rest x m next i p (refused a) e z = tt
 
-module _ (text : List ℕ) (place : ℕ) (r : MethodAgain) where
-  pub method-found : (b : ℕ) (d : Cursor) → Byte b d ≡ asLetter (letterAt text place) → r ≡ methodFrom text d → MethodAgainAt text place r
-  unfolding MethodAgainAt
-  method-found b d f e h n l vs next q =
-      e ∙ subst (LineTells (λ l′ vs′ next′. methodFrom text d ≡ asMethod vs′ next′)) q
-      (line-tells text T.method h n place (λ l′ vs′ next′. methodFrom text d ≡ asMethod vs′ next′) b d (λ is. methodItems ≡ is)
-      (method-items text h n b (d .at)) f table-method)
+      line : (y : Read Valued) → valuedLine text h T.method 0 n place ≡ y → Goes text lineFields n place from y → Goes text methodFields n place from (oneMethod text h n place)
+      line (found (x, m, next)) e p =
+          subst (Goes text methodFields n place from) (sym (method-goes-on n place x m next e))
+          (rest x m next (line-is n place x m next e) p (after-line (x .1) m next) refl
+          (goes-alike text lineFields constraintFields m next (from + length (lineFields x)) (many (valuedLine text h T.constraint (scalarAt (x .1) 1)) (scalarAt (x .1) 2) m next)
+          (after-line (x .1) m next) (lines-meant text h T.constraint (scalarAt (x .1) 1) asConstraint constraintLine (constraint-back h (scalarAt (x .1) 1)) (scalarAt (x .1) 2) m next)
+          (many-goes text lineFields (valuedLine text h T.constraint (scalarAt (x .1) 1)) (line-goes text h T.constraint (scalarAt (x .1) 1)) (scalarAt (x .1) 2) m next
+          (from + length (lineFields x)) (p .3) (p .1))))
+      line (refused a) e p = subst (Goes text methodFields n place from) (sym (method-stops n place a e)) tt
 
-  pub method-none : Wrong ≡ asLetter (letterAt text place) → MethodAgainAt text place r
-  unfolding MethodAgainAt
-  method-none f h n l vs next q = absurd (subst (LineTells (λ l′ vs′ next′. ⊥)) q (no-line text T.method h n place (λ l′ vs′ next′. ⊥) f))
+  module _ (past : ℕ) (at s : Spot) (w v : List ℕ) (g : Group) (due : Due text past w at)
+      (q : Left lineFields (at .from) w (valuedLine text h T.method 0 (at .line) (at .start .at)) g v) where
+    pub method-refused : (a : Answer) → g ≡ Refused a → (u : List ℕ) → Left methodFields (at .from) w (oneMethod text h (at .line) (at .start .at)) (Refused a) u
+    method-refused a e u =
+        subst (λ (y : Read Method). Left methodFields (at .from) w y (Refused a) u)
+        (sym (method-stops (at .line) (at .start .at) a (halted lineFields (at .from) w (valuedLine text h T.method 0 (at .line) (at .start .at)) g v q a e))) refl
+
+    module _ (e : g ≡ Done s) where
+      read : (x : Valued) × (valuedLine text h T.method 0 (at .line) (at .start .at) ≡ found (x, s .line, s .start .at)) × (s .from ≡ at .from + length (lineFields x)) × (v ≡ sets w (at .from) (lineFields x))
+      read = went lineFields (at .from) w (valuedLine text h T.method 0 (at .line) (at .start .at)) g v q s e
+
+      is : methodLine (read .0 .1) ≡ read .0
+      is = line-is (at .line) (at .start .at) (read .0) (s .line) (s .start .at) (read .1)
+
+      spelled : lineFields (read .0) ≡ 77 ∷ scalarAt (read .0 .1) 0 ∷ length (membersAt (read .0 .1) 1) ∷ (membersAt (read .0 .1) 1 ++ (scalarAt (read .0 .1) 2 ∷ []))
+      spelled = ap lineFields (sym is) ∙ line-fields (read .0 .1)
+
+      sized : length (lineFields (read .0)) ≡ 4 + length (membersAt (read .0 .1) 1)
+      sized = ap length spelled ∙ (let n = length-append (membersAt (read .0 .1) 1) (scalarAt (read .0 .1) 2 ∷ []) in omega arith)
+
+      room : 2 * (at .from + length (lineFields (read .0))) ≤ length text
+      room =
+          let z = subst (Goes text lineFields (at .line) (at .start .at) (at .from)) (read .1) (line-goes text h T.method 0 (at .line) (at .start .at) (at .from) (due .ahead) (due .inside)) in
+          let t = due .short in
+          omega (arith, z .3, z .1)
+
+      pub inside-fields : (at .from + 2 < length v) × (1 ≤ s .from) × (s .from - 1 < length v)
+      inside-fields =
+          let l = due .long in
+          let r = room in
+          let f = read .2 in
+          let n = sized in
+          let k : length v ≡ length w = ap length (read .3) ∙ length-sets w (at .from) (lineFields (read .0)) in
+          (omega arith, omega arith, omega arith)
+
+      stands : Stands v (at .from) (lineFields (read .0))
+      stands =
+          subst (λ (l : List ℕ). Stands l (at .from) (lineFields (read .0))) (sym (read .3))
+          (sets-stand w (at .from) (lineFields (read .0)) (let r = room in let l = due .long in omega arith))
+
+      subtasks-read : getD v (at .from + 2) 0 ≡ scalarAt (read .0 .1) 1
+      subtasks-read =
+          stands-at v (at .from) (lineFields (read .0)) 2 stands (let n = sized in omega arith) ∙ ap (λ (l : List ℕ). getD l 2 0) spelled ∙ subtask-count (read .0) is
+
+      count-read : getD v (s .from - 1) 0 ≡ scalarAt (read .0 .1) 2
+      count-read =
+          let ss = membersAt (read .0 .1) 1 in
+          let last : s .from - 1 ≡ at .from + (3 + length ss) = let n = sized in let f = read .2 in omega arith in
+          let third : 3 + length ss ≡ suc (suc (suc (length ss))) = omega arith in
+          ap (λ (k : ℕ). getD v k 0) last ∙ stands-at v (at .from) (lineFields (read .0)) (3 + length ss) stands (let n = sized in omega arith)
+          ∙ ap₂ (λ (l : List ℕ) (k : ℕ). getD l k 0) spelled third ∙ getD-append-seam ss (scalarAt (read .0 .1) 2) [] 0
+
+      -- What the constraint lines leave, after the M line, is what the method leaves.
+      pub method-left : (r : Group) (u : List ℕ)
+          → Left (together lineFields) (s .from) v (many (valuedLine text h T.constraint (getD v (at .from + 2) 0)) (getD v (s .from - 1) 0) (s .line) (s .start .at)) r u
+          → Left methodFields (at .from) w (oneMethod text h (at .line) (at .start .at)) r u
+      method-left r u z =
+          subst (λ (y : Read Method). Left methodFields (at .from) w y r u) (sym (method-goes-on (at .line) (at .start .at) (read .0) (s .line) (s .start .at) (read .1)))
+          (go (after-line (read .0 .1) (s .line) (s .start .at)) refl
+          (many-left lineFields constraintFields (s .from) v (many (valuedLine text h T.constraint (scalarAt (read .0 .1) 1)) (scalarAt (read .0 .1) 2) (s .line) (s .start .at))
+          (after-line (read .0 .1) (s .line) (s .start .at)) r u
+          (lines-meant text h T.constraint (scalarAt (read .0 .1) 1) asConstraint constraintLine (constraint-back h (scalarAt (read .0 .1) 1)) (scalarAt (read .0 .1) 2) (s .line) (s .start .at))
+          (transport (λ j. Left (together lineFields) (s .from) v (many (valuedLine text h T.constraint (subtasks-read j)) (count-read j) (s .line) (s .start .at)) r u) z)))
+        where
+          go : (y : Read (List Constraint)) → after-line (read .0 .1) (s .line) (s .start .at) ≡ y → Left (together constraintFields) (s .from) v y r u
+              → Left methodFields (at .from) w (whole-method (read .0 .1) y) r u
+          go (found (cs, m, next)) d k =
+              let fields : methodFields (methodOf (read .0 .1) cs) ≡ lineFields (read .0) ++ together constraintFields cs
+              = method-fields (read .0 .1) cs (counted (read .0 .1) (s .line) (s .start .at) cs m next d) ∙ ap (λ (y : Valued). lineFields y ++ together constraintFields cs) is in
+              let size : s .from + length (together constraintFields cs) ≡ at .from + length (methodFields (methodOf (read .0 .1) cs))
+              = let f = read .2 in let n = ap length fields ∙ length-append (lineFields (read .0)) (together constraintFields cs) in omega arith in (
+                k .0 ∙ ap (λ (i : ℕ). Done (spot m next i)) size,
+                k .1 ∙ (λ j. sets (read .3 j) (read .2 j) (together constraintFields cs)) ∙ sym (sets-append (lineFields (read .0)) (together constraintFields cs) w (at .from))
+                    ∙ ap (sets w (at .from)) (sym fields),
+              )
+          go (refused a) d k = k
+
+-- The same of the numbers that the code knows before the constraint lines.
+pub method-own : (text xs : List ℕ) (past : ℕ) (at s : Spot) (w v : List ℕ) (g : Group) (due : Due text past w at)
+    → Left lineFields (at .from) w (valuedLine text (headerIn xs) T.method 0 (at .line) (at .start .at)) g v → g ≡ Done s → 7 < length xs → (r : Group) (u : List ℕ)
+    → Left (together lineFields) (s .from) v (many (valuedLine text (headerIn (set xs 7 (getD v (at .from + 2) 0))) T.constraint (getD (set xs 7 (getD v (at .from + 2) 0)) 7 0)) (getD v (s .from - 1) 0) (s .line) (s .start .at)) r u
+    → Left methodFields (at .from) w (oneMethod text (headerIn xs) (at .line) (at .start .at)) r u
+method-own text xs past at s w v g due q e long r u l =
+    method-left text (headerIn xs) past at s w v g due q e r u
+    (own-left text xs (getD v (at .from + 2) 0) long (getD v (s .from - 1) 0) (s .line) (s .start .at) (s .from) v r u l)

@@ -1,97 +1,95 @@
--- The invariants of the loops over lines: the lines from the first on read as those from here on do; and the places that are listed from the
--- first on are those listed so far, with those from here on. Assumes nothing.
-use mathlib.Core.Path.{_≡_, refl, sym, ap, _∙_}
-use mathlib.Core.List.{List, _∷_}
+-- The invariants of the loops over lines: what those from here on leave, after those read so far, is what those from the first on leave; and
+-- likewise of the places that are listed. Assumes nothing.
+use mathlib.Core.Path.{_≡_, refl, subst, transport, _∙_}
+use mathlib.Core.List.{List}
 use Prim.Native.Nat.{ℕ, suc, _+_, _-_, _≤_, _<_}
 use native.Mathlib.Omega.{arith}
 use lib.ListN.{length, set, length-set}
-use lib.Seq.{sets}
 use Rattle.rules.specs.declared.Answer.{Answer}
 use Rattle.rules.specs.Case.{Read, many}
 use Rattle.reading.specs.declared.Spot.{Spot}
 use Rattle.reading.specs.declared.Group.{Group}
 use Rattle.reading.specs.declared.Group.the-variants.{Done, Refused}
-use Rattle.reading.specs.Groups.{groupOf, Due, places, Listed}
-use Rattle.reading.proofs.Turns.{many-next, onPlaces, places-next, Stays, due-next}
+use Rattle.reading.specs.Groups.{Due, Left, together, Placed}
+use Rattle.reading.proofs.Turns.{AlwaysGoes, due-next, kept-next, many-more, many-stops, many-ends, placed-more, placed-stops, placed-ends}
 
--- So many in turn from a spot on, and the places that they are read at.
-abbrev pub groupFrom : {A : Type 0} → (ℕ → ℕ → Read A) → ℕ → Spot → Group
-groupFrom one count at = groupOf (many one count (at .line) (at .start .at))
+module _ (text : List ℕ) (past : ℕ) {A : Type 0} (shows : A → List ℕ) (one : ℕ → ℕ → Read A) (count : ℕ) (from : Spot) (before : List ℕ) where
+  -- i of so many are read, and the next is due here.
+  pub record Progress (at : Spot) (now : List ℕ) (i : ℕ) : Type 0 where
+    pub most : i ≤ count
+    pub due : Due text past now at
+    pub kept : length now ≡ length before
+    pub same : (r : Group) (u : List ℕ) → Left (together shows) (at .from) now (many one (count - i) (at .line) (at .start .at)) r u
+        → Left (together shows) (from .from) before (many one count (from .line) (from .start .at)) r u
 
-abbrev pub placesFrom : {A : Type 0} → (ℕ → ℕ → Read A) → ℕ → Spot → List ℕ
-placesFrom one count at = places one count (at .line) (at .start .at)
+  -- The same, with the places of those i listed from an index on.
+  pub record Listing (index : ℕ) (directory : List ℕ) (at : Spot) (now places : List ℕ) (i : ℕ) : Type 0 where
+    pub progress : Progress at now i
+    pub size : length places ≡ length directory
+    pub placed : (u : List ℕ) → Placed shows (at .from) (index + i) places (many one (count - i) (at .line) (at .start .at)) u
+        → Placed shows (from .from) index directory (many one count (from .line) (from .start .at)) u
 
--- i of so many are read, and the next is due here.
-pub record Progress (text : List ℕ) (past : ℕ) {A : Type 0} (one : ℕ → ℕ → Read A) (count : ℕ) (from at : Spot) (i : ℕ) : Type 0 where
-  pub most : i ≤ count
-  pub due : Due text past at
-  pub same : groupFrom one count from ≡ groupFrom one (count - i) at
-
--- The same, with the places of those i stored from index `base` on.
-pub record Listing (text : List ℕ) (past : ℕ) {A : Type 0} (one : ℕ → ℕ → Read A) (count : ℕ) (from : Spot) (base : ℕ) (before : List ℕ) (at : Spot) (now : List ℕ) (i : ℕ) : Type 0 where
-  pub progress : Progress text past one count from at i
-  pub kept : length now ≡ length before
-  pub stored : sets before base (placesFrom one count from) ≡ sets now (base + i) (placesFrom one (count - i) at)
-
-module _ (text : List ℕ) (past : ℕ) {A : Type 0} (one : ℕ → ℕ → Read A) (stays : Stays text one) (count : ℕ) (from : Spot) where
-  left : (i : ℕ) → i < count → count - i ≡ suc (count - (i + 1))
-  left i h = omega arith
-
-  pub begins : Due text past from → Progress text past one count from from 0
+  pub begins : Due text past before from → Progress from before 0
   begins due =
-      let same : count ≡ count - 0 = omega arith in
-      record { most = omega arith; due = due; same = ap (λ (c : ℕ). groupFrom one c from) same }
-
-  module _ (at : Spot) (i : ℕ) (p : Progress text past one count from at i) where
-    module _ (more : i < count) (g : Group) (read : g ≡ groupOf (one (at .line) (at .start .at))) where
-      pub goes-on : (s : Spot) → g ≡ Done s → Progress text past one count from s (i + 1)
-      goes-on s e = record {
+      let c : count - 0 ≡ count = omega arith in
+      record {
         most = omega arith;
-        due = due-next text one stays past at s g (p .due) e read;
-        same = p .same ∙ many-next one (count - i) (count - (i + 1)) at (Done s) (left i more) (sym e ∙ read);
+        due = due;
+        kept = refl;
+        same = λ r u h. subst (λ (k : ℕ). Left (together shows) (from .from) before (many one k (from .line) (from .start .at)) r u) c h;
       }
 
-      pub stops : (a : Answer) → g ≡ Refused a → Refused a ≡ groupFrom one count from
-      stops a e = sym (p .same ∙ many-next one (count - i) (count - (i + 1)) at (Refused a) (left i more) (sym e ∙ read))
+  pub list-begins : (index : ℕ) (directory : List ℕ) → Due text past before from → Listing index directory from before directory 0
+  list-begins index directory due =
+      let c : count - 0 ≡ count = omega arith in
+      let n : index + 0 ≡ index = omega arith in
+      record {
+        progress = begins due;
+        size = refl;
+        placed = λ u h. transport (λ j. Placed shows (from .from) (n j) directory (many one (c j) (from .line) (from .start .at)) u) h;
+      }
 
-    pub ends : count ≤ i → Done at ≡ groupFrom one count from
-    ends h = let none : count - i ≡ 0 = omega arith in sym (p .same ∙ ap (λ (c : ℕ). groupFrom one c at) none)
+  module _ (goes : AlwaysGoes text shows one) (at : Spot) (now : List ℕ) (i : ℕ) (p : Progress at now i) where
+    module _ (more : i < count) (g : Group) (v : List ℕ) (h : Left shows (at .from) now (one (at .line) (at .start .at)) g v) where
+      left : count - i ≡ suc (count - (i + 1))
+      left = omega arith
 
-  module _ (base : ℕ) (before : List ℕ) where
-    pub list-begins : Due text past from → Listing text past one count from base before from before 0
-    list-begins due =
-        let same : count ≡ count - 0 = omega arith in
-        let here : base ≡ base + 0 = omega arith in
-        record { progress = begins due; kept = refl; stored = λ j. sets before (here j) (placesFrom one (same j) from) }
+      pub goes-on : (s : Spot) → g ≡ Done s → Progress s v (i + 1)
+      goes-on s e = record {
+        most = omega arith;
+        due = due-next shows text past now v at s (one (at .line) (at .start .at)) g (p .due)
+            (goes (at .line) (at .start .at) (at .from) (p .due .ahead) (p .due .inside)) h e;
+        kept = kept-next shows now v (at .from) s (one (at .line) (at .start .at)) g h e ∙ p .kept;
+        same = λ r u q. p .same r u (many-more shows one at s now v (count - i) (count - (i + 1)) left g h e r u q);
+      }
 
-    module _ (at : Spot) (now : List ℕ) (i : ℕ) (p : Listing text past one count from base before at now i) where
-      module _ (more : i < count) (g : Group) (read : g ≡ groupOf (one (at .line) (at .start .at))) where
-        next-places : (h : Group) → g ≡ h
-            → placesFrom one (count - i) at ≡ onPlaces h (at .start .at) (λ s. placesFrom one (count - (i + 1)) s)
-        next-places h e = places-next one (count - i) (count - (i + 1)) at h (left i more) (sym e ∙ read)
+      pub stops : (a : Answer) → g ≡ Refused a → (u : List ℕ) → Left (together shows) (from .from) before (many one count (from .line) (from .start .at)) (Refused a) u
+      stops a e u = p .same (Refused a) u (many-stops shows one at at now v (count - i) (count - (i + 1)) left g h a e u)
 
-        -- The place of the one that was read is stored, at index k.
-        pub list-goes-on : (s : Spot) (k v : ℕ) → g ≡ Done s → k ≡ base + i → v ≡ at .start .at
-            → Listing text past one count from base before s (set now k v) (i + 1)
-        list-goes-on s k v e index place =
-            let further : suc k ≡ base + (i + 1) = omega arith in
+      module _ (index : ℕ) (directory places : List ℕ) (size : length places ≡ length directory)
+          (placed : (u : List ℕ) → Placed shows (at .from) (index + i) places (many one (count - i) (at .line) (at .start .at)) u
+          → Placed shows (from .from) index directory (many one count (from .line) (from .start .at)) u) where
+        -- The place of the one that was read is listed, at index k.
+        pub list-goes-on : (s : Spot) (k : ℕ) → g ≡ Done s → k ≡ index + i → Listing index directory s v (set places k (at .from)) (i + 1)
+        list-goes-on s k e here =
+            let further : index + (i + 1) ≡ index + i + 1 = omega arith in
             record {
-              progress = goes-on at i (p .progress) more g read s e;
-              kept = length-set now k v ∙ p .kept;
-              stored =
-                  p .stored
-                  ∙ ap (sets now (base + i)) (next-places (Done s) e)
-                  ∙ (λ j. sets now (sym index j) (sym place j ∷ placesFrom one (count - (i + 1)) s))
-                  ∙ ap (λ (m : ℕ). sets (set now k v) m (placesFrom one (count - (i + 1)) s)) further;
+              progress = goes-on s e;
+              size = length-set places k (at .from) ∙ size;
+              placed = λ u q.
+                  placed u
+                  (placed-more shows one at s now v (count - i) (count - (i + 1)) left g h (index + i) places e u
+                  (transport (λ j. Placed shows (s .from) (further j) (set places (here j) (at .from)) (many one (count - (i + 1)) (s .line) (s .start .at)) u) q));
             }
 
-        pub list-stops : (a : Answer) → g ≡ Refused a → Listed one count from base before (Refused a) now
-        list-stops a e = record {
-          answer = stops at i (p .progress) more g read a e;
-          stored = sym (p .stored ∙ ap (sets now (base + i)) (next-places (Refused a) e));
-        }
+        pub list-stops : (a : Answer) → g ≡ Refused a → (u : List ℕ) → Placed shows (from .from) index directory (many one count (from .line) (from .start .at)) u
+        list-stops a e u = placed u (placed-stops shows one at at now v (count - i) (count - (i + 1)) left g h a e (index + i) places u)
 
-      pub list-ends : count ≤ i → Listed one count from base before (Done at) now
-      list-ends h =
-          let none : count - i ≡ 0 = omega arith in
-          record { answer = ends at i (p .progress) h; stored = sym (p .stored ∙ ap (λ (c : ℕ). sets now (base + i) (placesFrom one c at)) none) }
+    pub ends : count ≤ i → Left (together shows) (from .from) before (many one count (from .line) (from .start .at)) (Done at) now
+    ends over = let none : count - i ≡ 0 = omega arith in p .same (Done at) now (many-ends shows one at now (count - i) none)
+
+    pub list-ends : (index : ℕ) (directory places : List ℕ)
+        → ((u : List ℕ) → Placed shows (at .from) (index + i) places (many one (count - i) (at .line) (at .start .at)) u
+        → Placed shows (from .from) index directory (many one count (from .line) (from .start .at)) u)
+        → count ≤ i → Placed shows (from .from) index directory (many one count (from .line) (from .start .at)) places
+    list-ends index directory places placed over = let none : count - i ≡ 0 = omega arith in placed places (placed-ends shows one at (index + i) places (count - i) none)

@@ -1,287 +1,242 @@
--- Lines in turn: what the code read settles what the definitions read from there on; and wherever the next line is due, its number is no more
--- than its place. Assumes nothing.
+-- One step of reading lines in turn: what the code read of one settles what the definitions read from there on, and what they leave.
+-- Assumes nothing.
 use mathlib.Core.Path.{_≡_, refl, sym, ap, subst, _∙_}
-use mathlib.Core.List.{List, [], _∷_}
-use Prim.Native.Nat.{ℕ, zero, suc, _+_, _≤_}
+use mathlib.Core.List.{List, [], _∷_, _++_, map, append-nil}
+use Prim.Native.Nat.{ℕ, zero, suc, _+_, _*_, _≤_}
 use native.Mathlib.Omega.{arith}
-use lib.ListN.{length, getD}
+use native.Mathlib.Numerals.{add-one}
+use lib.ListN.{length, set, length-append}
+use lib.Seq.{sets, length-sets}
 use Rattle.rules.specs.declared.Header.{Header}
 use Rattle.rules.specs.declared.Answer.{Answer}
 use Rattle.rules.specs.Table as T
 use Rattle.rules.specs.Table.{readLine}
 use Rattle.rules.specs.Result.{found, refused, _>>=_}
-use Rattle.rules.specs.Case.{Constraint, Valued, Read, readAs, oneLine, many, oneMethod, scalarAt, membersAt, asConstraint, Method}
-use Rattle.lines.specs.declared.line.LineRead.{LineRead}
-use Rattle.lines.specs.Reading.{asLine}
-use Rattle.lines.proofs.Fields.{LineWithin, line-within}
+use Rattle.rules.specs.Case.{Read, readAs, oneLine, many}
+use Rattle.rules.specs.Fields.{lineFields}
+use Rattle.fields.proofs.Standing.{sets-append}
+use Rattle.lines.specs.declared.line.Finish.{Finish}
+use Rattle.lines.specs.Reading.{LineLeft}
+use Rattle.lines.proofs.Within.{LineWithin, line-within}
 use Rattle.reading.specs.declared.Spot.{Spot}
 use Rattle.reading.specs.declared.Group.{Group}
 use Rattle.reading.specs.declared.Group.the-variants.{Done, Refused}
-use Rattle.reading.specs.declared.Entry.{Entry}
-use Rattle.reading.specs.Groups.{spot, FieldBelow, afterLine, groupOf, valuedLine, numbersOf, lineEntry, Due, placesNext, places}
-use Rattle.reading.proofs.Stores.{numbers-at}
+use Rattle.reading.specs.Groups.{spot, Fits, afterLine, valuedLine, Due, Left, together, starts, Placed}
 
--- Two constructors are never equal: `cc` finds the 0 ≡ 1.
-pub apart : {A : Type 0} → _≡_ {A = ℕ} 0 1 → A
+apart : {A : Type 0} → _≡_ {A = ℕ} 0 1 → A
 apart z = absurd (omega arith)
-
--- What is found twice is the same, part by part.
-pub same-parts : {A : Type 0} {a b : A} {n m p q : ℕ} → _≡_ {A = Read A} (found (a, n, p)) (found (b, m, q)) → (a ≡ b) × (n ≡ m) × (p ≡ q)
-same-parts {A} {a} {b} {n} {m} {p} {q} e =
-    let w : _≡_ {A = A × ℕ × ℕ} (a, n, p) (b, m, q) = cc in
-    (ap (λ (x : A × ℕ × ℕ). x .0) w, ap (λ (x : A × ℕ × ℕ). x .1) w, ap (λ (x : A × ℕ × ℕ). x .2) w)
-
--- ---- What the definitions read, back from what the code did
-
-pub got : {A : Type 0} (r : Read A) (s : Spot) → Done s ≡ groupOf r → (a : A) × (r ≡ found (a, s .line, s .start .at))
-got (found (a, n, place)) s e =
-    let same : spot n place ≡ s = cc in
-    (a, ap (λ (x : Spot). found (a, x .line, x .start .at)) same)
-got (refused r) s e = apart (cc)
-
-pub stopped : {A : Type 0} (r : Read A) (a : Answer) → Refused a ≡ groupOf r → r ≡ refused a
-stopped (found (x, n, place)) a e = apart (cc)
-stopped (refused b) a e = let same : b ≡ a = cc in ap refused same
 
 -- ---- One line
 
-read-entry : (n : ℕ) (r : T.LineRead) → record { group = afterLine n (asLine r .finish); values = asLine r .values } ≡ lineEntry (readAs (λ x. x) n r)
-unfolding asLine
-read-entry n (T.line l vs next) = refl
-read-entry n (T.LineRead.unreadable field) = refl
-read-entry n (T.LineRead.outside field) = refl
+pub line-left : (n from : ℕ) (w : List ℕ) (y : T.LineRead) (f : Finish) (u : List ℕ) → LineLeft from w y f u
+    → Left lineFields from w (readAs (λ x. x) n y) (afterLine n from f) u
+line-left n from w (T.line l vs next) f u h = (ap (afterLine n from) (h .0), h .1)
+line-left n from w (T.LineRead.unreadable field) f u h = ap (afterLine n from) h
+line-left n from w (T.LineRead.outside field) f u h = ap (afterLine n from) h
 
-module _ (text : List ℕ) (h : Header) (due : T.Role) (s n place : ℕ) where
-  pub line-entry : (l : LineRead) (g : Group) → l ≡ asLine (readLine text due h s place) → g ≡ afterLine n (l .finish)
-      → record { group = g; values = l .values } ≡ lineEntry (valuedLine text h due s n place)
-  unfolding oneLine
-  line-entry l g e q =
-      ap (λ (x : Group). record { group = x; values = l .values }) q
-      ∙ ap (λ (x : LineRead). record { group = afterLine n (x .finish); values = x .values }) e
-      ∙ read-entry n (readLine text due h s place)
+pub line-fits : (text : List ℕ) (from place : ℕ) (w : List ℕ) (y : T.LineRead) (f : Finish) (u : List ℕ) → length text ≤ 65535
+    → LineWithin text from place y → LineLeft from w y f u → Fits from f
+line-fits text from place w (T.line l vs next) f u short h q = subst (Fits from) (sym (q .0)) (omega (arith, h .1, h .2))
+line-fits text from place w (T.LineRead.unreadable field) f u short h q = subst (Fits from) (sym q) (omega arith)
+line-fits text from place w (T.LineRead.outside field) f u short h q = subst (Fits from) (sym q) (omega arith)
 
-  pub field-below : (l : LineRead) → l ≡ asLine (readLine text due h s place) → length text ≤ 65535 → FieldBelow 65536 (l .finish)
-  unfolding asLine
-  field-below l e short = subst (λ (x : LineRead). FieldBelow 65536 (x .finish)) (sym e) (go (readLine text due h s place) (line-within text due h s place))
-    where
-      go : (r : T.LineRead) → LineWithin text place r → FieldBelow 65536 (asLine r .finish)
-      go (T.line l vs next) w = tt
-      go (T.LineRead.unreadable field) w = omega arith
-      go (T.LineRead.outside field) w = omega arith
+-- ---- How far reading goes
 
-group-read : (r : Read Valued) → lineEntry r .group ≡ groupOf r
-group-read (found (x, n, place)) = refl
-group-read (refused a) = refl
+-- From line n at a place on: each line takes a byte at least, each field two.
+abbrev pub Goes : {A : Type 0} → List ℕ → (A → List ℕ) → ℕ → ℕ → ℕ → Read A → Type 0
+Goes text shows n place from (found (a, m, next)) = (place ≤ next) × (next ≤ length text) × (m + place ≤ n + next) × (2 * (from + length (shows a)) ≤ next)
+Goes text shows n place from (refused r) = Unit {0}
 
-pub entry-group : (e : Entry) (r : Read Valued) → e ≡ lineEntry r → e .group ≡ groupOf r
-entry-group e r q = ap (λ (x : Entry). x .group) q ∙ group-read r
+-- Whatever is read goes so, wherever it starts.
+abbrev pub AlwaysGoes : {A : Type 0} → List ℕ → (A → List ℕ) → (ℕ → ℕ → Read A) → Type 0
+AlwaysGoes text shows one = (n place from : ℕ) → 2 * from ≤ place → place ≤ length text → Goes text shows n place from (one n place)
 
--- ---- So many in turn
-
--- How reading goes on after a line, or which refusal ends it; and the places that it then lists.
-abbrev pub onGroup : Group → (Spot → Group) → Group
-onGroup (Done s) on = on s
-onGroup (Refused a) on = Refused a
-
-abbrev pub onPlaces : Group → ℕ → (Spot → List ℕ) → List ℕ
-onPlaces (Done s) here on = here ∷ on s
-onPlaces (Refused a) here on = []
-
-module _ {A : Type 0} where
-  cons-group : (x : A) (r : Read (List A)) → groupOf (r >>= λ (xs, n, place). found (x ∷ xs, n, place)) ≡ groupOf r
-  cons-group x (found (xs, n, place)) = refl
-  cons-group x (refused a) = refl
-
-  then-group : (r : Read A) (rest : ℕ → ℕ → Read (List A))
-      → groupOf (r >>= λ (x, n, place). rest n place >>= λ (xs, n′, place′). found (x ∷ xs, n′, place′))
-      ≡ onGroup (groupOf r) (λ s. groupOf (rest (s .line) (s .start .at)))
-  then-group (found (x, n, place)) rest = cons-group x (rest n place)
-  then-group (refused a) rest = refl
-
-  then-places : (r : Read A) (here : ℕ) (rest : ℕ → ℕ → List ℕ) → placesNext r here rest ≡ onPlaces (groupOf r) here (λ s. rest (s .line) (s .start .at))
-  then-places (found (x, n, place)) here rest = refl
-  then-places (refused a) here rest = refl
-
-module _ {A : Type 0} (one : ℕ → ℕ → Read A) where
-  pub many-next : (count left : ℕ) (at : Spot) (g : Group) → count ≡ suc left → g ≡ groupOf (one (at .line) (at .start .at))
-      → groupOf (many one count (at .line) (at .start .at)) ≡ onGroup g (λ s. groupOf (many one left (s .line) (s .start .at)))
-  many-next count left at g e q =
-      ap (λ (c : ℕ). groupOf (many one c (at .line) (at .start .at))) e
-      ∙ then-group (one (at .line) (at .start .at)) (λ n place. many one left n place)
-      ∙ ap (λ (x : Group). onGroup x (λ s. groupOf (many one left (s .line) (s .start .at)))) (sym q)
-
-  pub places-next : (count left : ℕ) (at : Spot) (g : Group) → count ≡ suc left → g ≡ groupOf (one (at .line) (at .start .at))
-      → places one count (at .line) (at .start .at) ≡ onPlaces g (at .start .at) (λ s. places one left (s .line) (s .start .at))
-  places-next count left at g e q =
-      ap (λ (c : ℕ). places one c (at .line) (at .start .at)) e
-      ∙ then-places (one (at .line) (at .start .at)) (at .start .at) (λ n place. places one left n place)
-      ∙ ap (λ (x : Group). onPlaces x (at .start .at) (λ s. places one left (s .line) (s .start .at))) (sym q)
-
--- ---- A line, whatever it means
-
-pub turned : {A : Type 0} (text : List ℕ) (h : Header) (due : T.Role) (s : ℕ) (means : Valued → A) (n place : ℕ)
-    → groupOf (oneLine text h due s means n place) ≡ groupOf (valuedLine text h due s n place)
+pub line-goes : (text : List ℕ) (h : Header) (due : T.Role) (s : ℕ) → AlwaysGoes text lineFields (valuedLine text h due s)
 unfolding oneLine
-turned text h due s means n place = go (readLine text due h s place)
+line-goes text h due s n place from low inside = go (readLine text due h s place) (line-within text from due h s place low)
   where
-    go : (r : T.LineRead) → groupOf (readAs means n r) ≡ groupOf (readAs (λ x. x) n r)
-    go (T.line l vs next) = refl
-    go (T.LineRead.unreadable field) = refl
-    go (T.LineRead.outside field) = refl
+    go : (y : T.LineRead) → LineWithin text from place y → Goes text lineFields n place from (readAs (λ x. x) n y)
+    go (T.line l vs next) w = (omega (arith, w .0), w .1, omega (arith, w .0), w .2)
+    go (T.LineRead.unreadable field) w = tt
+    go (T.LineRead.outside field) w = tt
 
--- A line that is read, as what it means.
-pub line-means : {A : Type 0} (text : List ℕ) (h : Header) (due : T.Role) (s : ℕ) (means : Valued → A) (n place : ℕ) (x : Valued) (n′ next : ℕ)
-    → valuedLine text h due s n place ≡ found (x, n′, next) → oneLine text h due s means n place ≡ found (means x, n′, next)
-unfolding oneLine
-line-means text h due s means n place x n′ next e = go (readLine text due h s place) e
+-- Where something is read after something else.
+pub goes-then : {A B C : Type 0} (text : List ℕ) (f : A → List ℕ) (g : B → List ℕ) (k : A → B → C) (h : C → List ℕ)
+    → ((a : A) (b : B) → h (k a b) ≡ f a ++ g b) → (n place from : ℕ) (r : Read A) (rest : A → ℕ → ℕ → Read B)
+    → Goes text f n place from r → ((a : A) (m next : ℕ) → 2 * (from + length (f a)) ≤ next → next ≤ length text → Goes text g m next (from + length (f a)) (rest a m next))
+    → Goes text h n place from (r >>= λ (a, m, next). rest a m next >>= λ (b, m′, next′). found (k a b, m′, next′))
+goes-then text f g k h e n place from (found (a, m, next)) rest p q = go (rest a m next) (q a m next (p .3) (p .1))
   where
-    go : (r : T.LineRead) → readAs (λ x. x) n r ≡ found (x, n′, next) → readAs means n r ≡ found (means x, n′, next)
-    go (T.line l vs m) q = let w = same-parts q in λ j. found (means (w .0 j), w .1 j, w .2 j)
-    go (T.LineRead.unreadable field) q = apart (cc)
-    go (T.LineRead.outside field) q = apart (cc)
+    go : (r : Read _) → Goes text g m next (from + length (f a)) r → Goes text h n place from (r >>= λ (b, m′, next′). found (k a b, m′, next′))
+    go (found (b, m′, next′)) z =
+        let size : length (h (k a b)) ≡ length (f a) + length (g b) = ap length (e a b) ∙ length-append (f a) (g b) in
+        (omega (arith, p .0, z .0), z .1, omega (arith, p .2, z .2), omega (arith, z .3))
+    go (refused x) z = tt
+goes-then text f g k h e n place from (refused x) rest p q = tt
 
--- So many in turn, of two kinds that are read alike.
-module _ {A B : Type 0} (one : ℕ → ℕ → Read A) (other : ℕ → ℕ → Read B) (same : (n place : ℕ) → groupOf (one n place) ≡ groupOf (other n place)) where
-  pub many-alike : (count n place : ℕ) → groupOf (many one count n place) ≡ groupOf (many other count n place)
-  many-alike zero n place = refl
-  many-alike (suc count) n place =
-      then-group (one n place) (λ n place. many one count n place)
-      ∙ ap (λ (g : Group). onGroup g (λ s. groupOf (many one count (s .line) (s .start .at)))) (same n place)
-      ∙ on-alike (groupOf (other n place)) (many-alike count)
-      ∙ sym (then-group (other n place) (λ n place. many other count n place))
+pub many-goes : {A : Type 0} (text : List ℕ) (shows : A → List ℕ) (one : ℕ → ℕ → Read A) → AlwaysGoes text shows one → (count : ℕ)
+    → AlwaysGoes text (together shows) (many one count)
+many-goes text shows one f zero n place from low inside = (omega arith, inside, omega arith, omega arith)
+many-goes text shows one f (suc count) n place from low inside =
+    goes-then text shows (together shows) (λ x xs. x ∷ xs) (together shows) (λ x xs. refl) n place from (one n place) (λ x m next. many one count m next)
+    (f n place from low inside) (λ x m next low′ inside′. many-goes text shows one f count m next (from + length (shows x)) low′ inside′)
+
+-- ---- One of one
+
+-- What one of them in turn leaves is what it leaves alone.
+pub one-left : {A : Type 0} (shows : A → List ℕ) (from : ℕ) (w : List ℕ) (one : ℕ → ℕ → Read A) (n place : ℕ) (g : Group) (u : List ℕ)
+    → Left (together shows) from w (many one 1 n place) g u → Left shows from w (one n place) g u
+one-left {A} shows from w one n place g u h = go (one n place) h
+  where
+    go : (r : Read A) → Left (together shows) from w (r >>= λ (x, m, next). found (x ∷ [], m, next)) g u → Left shows from w r g u
+    go (found (a, m, next)) q =
+        let e = append-nil (shows a) in
+        (q .0 ∙ ap (λ (l : List ℕ). Done (spot m next (from + length l))) e, q .1 ∙ ap (sets w from) e)
+    go (refused x) q = q
+
+-- ---- What is left, and how reading goes on
+
+module _ {A : Type 0} (shows : A → List ℕ) (from : ℕ) (w : List ℕ) where
+  group-line : Group → ℕ
+  group-line (Done s) = s .line
+  group-line (Refused a) = 0
+
+  group-place : Group → ℕ
+  group-place (Done s) = s .start .at
+  group-place (Refused a) = 0
+
+  group-from : Group → ℕ
+  group-from (Done s) = s .from
+  group-from (Refused a) = 0
+
+  -- Where the next spot is known, so is what was read.
+  pub went : (r : Read A) (g : Group) (u : List ℕ) → Left shows from w r g u → (s : Spot) → g ≡ Done s
+      → (a : A) × (r ≡ found (a, s .line, s .start .at)) × (s .from ≡ from + length (shows a)) × (u ≡ sets w from (shows a))
+  unfolding group-line group-place group-from
+  went (found (a, n, place)) g u h s e =
+      let q = sym (h .0) ∙ e in
+      let en : n ≡ s .line = ap group-line q in
+      let ep : place ≡ s .start .at = ap group-place q in
+      (a, (λ j. found (a, en j, ep j)), sym (ap group-from q), h .1)
+  went (refused x) g u h s e = let q = sym h ∙ e in apart (cc)
+
+  pub halted : (r : Read A) (g : Group) (u : List ℕ) → Left shows from w r g u → (x : Answer) → g ≡ Refused x → r ≡ refused x
+  halted (found (a, n, place)) g u h x e = let q = sym (h .0) ∙ e in apart (cc)
+  halted (refused y) g u h x e = let q : Refused y ≡ Refused x = sym h ∙ e in refused-same q
     where
-      on-alike : (g : Group) → ((n place : ℕ) → groupOf (many one count n place) ≡ groupOf (many other count n place))
-          → onGroup g (λ s. groupOf (many one count (s .line) (s .start .at))) ≡ onGroup g (λ s. groupOf (many other count (s .line) (s .start .at)))
-      on-alike (Done s) f = f (s .line) (s .start .at)
-      on-alike (Refused a) f = refl
+      answer-in : Group → Answer
+      answer-in (Done s) = x
+      answer-in (Refused z) = z
 
-  pub places-alike : (count n place : ℕ) → places one count n place ≡ places other count n place
-  places-alike zero n place = refl
-  places-alike (suc count) n place =
-      then-places (one n place) place (λ n place. places one count n place)
-      ∙ ap (λ (g : Group). onPlaces g place (λ s. places one count (s .line) (s .start .at))) (same n place)
-      ∙ on-alike (groupOf (other n place)) (places-alike count)
-      ∙ sym (then-places (other n place) place (λ n place. places other count n place))
-    where
-      on-alike : (g : Group) → ((n p : ℕ) → places one count n p ≡ places other count n p)
-          → onPlaces g place (λ s. places one count (s .line) (s .start .at)) ≡ onPlaces g place (λ s. places other count (s .line) (s .start .at))
-      on-alike (Done s) f = ap (λ (l : List ℕ). place ∷ l) (f (s .line) (s .start .at))
-      on-alike (Refused a) f = refl
+      refused-same : Refused y ≡ Refused x → _≡_ {A = Read A} (refused y) (refused x)
+      refused-same q = ap (λ (g : Group). refused (answer-in g)) q
 
--- ---- A method: its M line, then its constraint lines
+  pub left-told : (r : Read A) (g g′ : Group) (u : List ℕ) → g ≡ g′ → Left shows from w r g u → Left shows from w r g′ u
+  left-told r g g′ u e h = subst (λ (x : Group). Left shows from w r x u) e h
 
--- An entry is what was read of a line, by its values.
-abbrev EntryIs : Entry → Read (List T.Value) → Type 0
-EntryIs e (found (vs, n, place)) = (e .group ≡ Done (spot n place)) × (e .values ≡ numbersOf vs)
-EntryIs e (refused a) = e .group ≡ Refused a
+-- The next line is due where what was read ended.
+pub due-next : {A : Type 0} (shows : A → List ℕ) (text : List ℕ) (past : ℕ) (w u : List ℕ) (at s : Spot) (r : Read A) (g : Group)
+    → Due text past w at → Goes text shows (at .line) (at .start .at) (at .from) r → Left shows (at .from) w r g u → g ≡ Done s → Due text past u s
+due-next shows text past w u at s r g d p h e =
+    let x = went shows (at .from) w r g u h s e in
+    let q = subst (Goes text shows (at .line) (at .start .at) (at .from)) (x .1) p in
+    let c = d .counted in
+    let size : length u ≡ length w = ap length (x .3) ∙ length-sets w (at .from) (shows (x .0)) in
+    let l = d .long in
+    record {
+      feeds = d .feeds;
+      short = d .short;
+      inside = q .1;
+      counted = omega (arith, q .2, q .0);
+      long = omega arith;
+      ahead = let f = x .2 in omega (arith, q .3);
+    }
 
-module _ (text : List ℕ) (h : Header) where
-  -- The constraint lines of a method of so many subtasks.
-  abbrev pub constraintLines : ℕ → ℕ → Spot → Read (List Valued)
-  constraintLines s count at = many (valuedLine text h T.constraint s) count (at .line) (at .start .at)
+pub kept-next : {A : Type 0} (shows : A → List ℕ) (w u : List ℕ) (from : ℕ) (s : Spot) (r : Read A) (g : Group) → Left shows from w r g u → g ≡ Done s → length u ≡ length w
+kept-next shows w u from s r g h e = let x = went shows from w r g u h s e in ap length (x .3) ∙ length-sets w from (shows (x .0))
 
-  abbrev constraints : ℕ → ℕ → ℕ → ℕ → Read (List Constraint)
-  constraints s count n place = many (oneLine text h T.constraint s asConstraint) count n place
+-- ---- Many in turn
 
-  constraints-alike : (s count n place : ℕ) → groupOf (constraintLines s count (spot n place)) ≡ groupOf (constraints s count n place)
-  constraints-alike s count n place =
-      sym (many-alike (oneLine text h T.constraint s asConstraint) (valuedLine text h T.constraint s) (turned text h T.constraint s asConstraint) count n place)
+module _ {A : Type 0} (shows : A → List ℕ) (one : ℕ → ℕ → Read A) where
+  abbrev after-one : ℕ → A → ℕ → ℕ → Read (List A)
+  after-one left x m next = many one left m next >>= λ (xs, m′, next′). found (x ∷ xs, m′, next′)
 
-  abbrev methodOf : List T.Value → List Constraint → Method
-  methodOf vs cs = record { task = scalarAt vs 0; subtasks = membersAt vs 1; constraints = cs }
+  by-one : (from : ℕ) (w : List ℕ) (left n place : ℕ) (x : A) (m next : ℕ) (r : Group) (u : List ℕ) → one n place ≡ found (x, m, next)
+      → Left (together shows) from w (after-one left x m next) r u → Left (together shows) from w (many one (suc left) n place) r u
+  by-one from w left n place x m next r u e h =
+      subst (λ (y : Read A). Left (together shows) from w (y >>= λ (a, m′, next′). after-one left a m′ next′) r u) (sym e) h
 
-  method-then : (vs : List T.Value) (r : Read (List Constraint)) → groupOf r ≡ groupOf (r >>= λ (cs, n, place). found (methodOf vs cs, n, place))
-  method-then vs (found (cs, n, place)) = refl
-  method-then vs (refused a) = refl
-
-  abbrev methodLine : ℕ → ℕ → Read (List T.Value)
-  methodLine n place = oneLine text h T.method 0 (λ x. x .1) n place
-
-  -- The M line's values, with or without its letter.
-  values-alike : (n place : ℕ) (e : Entry) → e ≡ lineEntry (valuedLine text h T.method 0 n place)
-      → (r : Read (List T.Value)) → methodLine n place ≡ r → EntryIs e r
-  unfolding oneLine
-  values-alike n place e q r w = go (readLine text T.method h 0 place) q w
-    where
-      go : (x : T.LineRead) → e ≡ lineEntry (readAs (λ x. x) n x) → readAs (λ x. x .1) n x ≡ r → EntryIs e r
-      go (T.line l vs next) q w = subst (λ z. EntryIs e z) w (ap (λ (z : Entry). z .group) q, ap (λ (z : Entry). z .values) q)
-      go (T.LineRead.unreadable field) q w = subst (λ z. EntryIs e z) w (ap (λ (z : Entry). z .group) q)
-      go (T.LineRead.outside field) q w = subst (λ z. EntryIs e z) w (ap (λ (z : Entry). z .group) q)
-
-  module _ (at : Spot) (e : Entry) (q : e ≡ lineEntry (valuedLine text h T.method 0 (at .line) (at .start .at))) where
-    abbrev rest : List T.Value × ℕ × ℕ → Read Method
-    rest x = constraints (scalarAt (x .0) 1) (scalarAt (x .0) 2) (x .1) (x .2) >>= λ (cs, n′, place′). found (methodOf (x .0) cs, n′, place′)
-
-    pub method-on : (s : Spot) (r : Group) → e .group ≡ Done s → r ≡ groupOf (constraintLines (getD (e .values) 1 0) (getD (e .values) 2 0) s)
-        → r ≡ groupOf (oneMethod text h (at .line) (at .start .at))
-    unfolding oneMethod
-    method-on s r d p = p ∙ go (methodLine (at .line) (at .start .at)) (values-alike (at .line) (at .start .at) e q (methodLine (at .line) (at .start .at)) refl)
+  module _ (at s : Spot) (w v : List ℕ) (count left : ℕ) (e : count ≡ suc left) (g : Group) (h : Left shows (at .from) w (one (at .line) (at .start .at)) g v) where
+    -- What the others leave, after the first, is what all leave.
+    pub many-more : g ≡ Done s → (r : Group) (u : List ℕ) → Left (together shows) (s .from) v (many one left (s .line) (s .start .at)) r u
+        → Left (together shows) (at .from) w (many one count (at .line) (at .start .at)) r u
+    many-more d r u q =
+        subst (λ (c : ℕ). Left (together shows) (at .from) w (many one c (at .line) (at .start .at)) r u) (sym e)
+        (by-one (at .from) w left (at .line) (at .start .at) (x .0) (s .line) (s .start .at) r u (x .1) (go (many one left (s .line) (s .start .at)) q))
       where
-        go : (y : Read (List T.Value)) → EntryIs e y → groupOf (constraintLines (getD (e .values) 1 0) (getD (e .values) 2 0) s) ≡ groupOf (y >>= rest)
-        go (found (vs, n, place)) w =
-            let numbers : e .values ≡ numbersOf vs = w .1 in
-            let subtasks : getD (e .values) 1 0 ≡ scalarAt vs 1 = ap (λ (z : List ℕ). getD z 1 0) numbers ∙ numbers-at vs 1 (omega arith) in
-            let count : getD (e .values) 2 0 ≡ scalarAt vs 2 = ap (λ (z : List ℕ). getD z 2 0) numbers ∙ numbers-at vs 2 (omega arith) in
-            let last : Done s ≡ Done (spot n place) = sym d ∙ w .0 in
-            let here : s ≡ spot n place = cc in
-            (λ j. groupOf (constraintLines (subtasks j) (count j) (here j)))
-            ∙ constraints-alike (scalarAt vs 1) (scalarAt vs 2) n place
-            ∙ method-then vs (constraints (scalarAt vs 1) (scalarAt vs 2) n place)
-        go (refused a) w = let last : Done s ≡ Refused a = sym d ∙ w in apart (cc)
+        x : (a : A) × (one (at .line) (at .start .at) ≡ found (a, s .line, s .start .at)) × (s .from ≡ at .from + length (shows a)) × (v ≡ sets w (at .from) (shows a))
+        x = went shows (at .from) w (one (at .line) (at .start .at)) g v h s d
 
-    pub method-stopped : (a : Answer) → e .group ≡ Refused a → Refused a ≡ groupOf (oneMethod text h (at .line) (at .start .at))
-    unfolding oneMethod
-    method-stopped a d = go (methodLine (at .line) (at .start .at)) (values-alike (at .line) (at .start .at) e q (methodLine (at .line) (at .start .at)) refl)
+        go : (y : Read (List A)) → Left (together shows) (s .from) v y r u
+            → Left (together shows) (at .from) w (y >>= λ (xs, m′, next′). found (x .0 ∷ xs, m′, next′)) r u
+        go (found (xs, m, next)) z =
+            let size : s .from + length (together shows xs) ≡ at .from + length (shows (x .0) ++ together shows xs)
+            = let f = x .2 in omega (arith, length-append (shows (x .0)) (together shows xs)) in (
+              z .0 ∙ ap (λ (k : ℕ). Done (spot m next k)) size,
+              z .1 ∙ (λ j. sets (x .3 j) (x .2 j) (together shows xs)) ∙ sym (sets-append (shows (x .0)) (together shows xs) w (at .from)),
+            )
+        go (refused a) z = z
+
+    pub many-stops : (a : Answer) → g ≡ Refused a → (u : List ℕ) → Left (together shows) (at .from) w (many one count (at .line) (at .start .at)) (Refused a) u
+    many-stops a d u =
+        subst (λ (c : ℕ). Left (together shows) (at .from) w (many one c (at .line) (at .start .at)) (Refused a) u) (sym e)
+        (subst (λ (y : Read A). Left (together shows) (at .from) w (y >>= λ (b, m′, next′). after-one left b m′ next′) (Refused a) u)
+        (sym (halted shows (at .from) w (one (at .line) (at .start .at)) g v h a d)) refl)
+
+    -- The same of the directory.
+    pub placed-more : (index : ℕ) (d : List ℕ) → g ≡ Done s → (u : List ℕ) → Placed shows (s .from) (index + 1) (set d index (at .from)) (many one left (s .line) (s .start .at)) u
+        → Placed shows (at .from) index d (many one count (at .line) (at .start .at)) u
+    placed-more index d q u z =
+        subst (λ (c : ℕ). Placed shows (at .from) index d (many one c (at .line) (at .start .at)) u) (sym e)
+        (subst (λ (y : Read A). Placed shows (at .from) index d (y >>= λ (b, m′, next′). after-one left b m′ next′) u) (sym (x .1)) (go (many one left (s .line) (s .start .at)) z))
       where
-        go : (y : Read (List T.Value)) → EntryIs e y → Refused a ≡ groupOf (y >>= rest)
-        go (found (vs, n, place)) w = let last : Refused a ≡ Done (spot n place) = sym d ∙ w .0 in apart (cc)
-        go (refused b) w = sym d ∙ w
+        x : (a : A) × (one (at .line) (at .start .at) ≡ found (a, s .line, s .start .at)) × (s .from ≡ at .from + length (shows a)) × (v ≡ sets w (at .from) (shows a))
+        x = went shows (at .from) w (one (at .line) (at .start .at)) g v h s q
 
--- ---- Where the next line is due
+        go : (y : Read (List A)) → Placed shows (s .from) (index + 1) (set d index (at .from)) y u
+            → Placed shows (at .from) index d (y >>= λ (xs, m′, next′). found (x .0 ∷ xs, m′, next′)) u
+        go (found (xs, m, next)) p = p ∙ (λ j. sets (set d index (at .from)) (add-one index j) (starts (x .2 j) (map shows xs)))
+        go (refused a) p = tt
 
-module _ (text : List ℕ) where
-  abbrev InStep : ℕ → ℕ → Type 0
-  InStep n place = (place ≤ length text) × (n ≤ place + 1)
+    pub placed-stops : (a : Answer) → g ≡ Refused a → (index : ℕ) (d u : List ℕ) → Placed shows (at .from) index d (many one count (at .line) (at .start .at)) u
+    placed-stops a q index d u =
+        subst (λ (c : ℕ). Placed shows (at .from) index d (many one c (at .line) (at .start .at)) u) (sym e)
+        (subst (λ (y : Read A). Placed shows (at .from) index d (y >>= λ (b, m′, next′). after-one left b m′ next′) u)
+        (sym (halted shows (at .from) w (one (at .line) (at .start .at)) g v h a q)) tt)
 
-  abbrev ReadIn : {A : Type 0} → Read A → Type 0
-  ReadIn (found (a, n, place)) = InStep n place
-  ReadIn (refused a) = Unit {0}
+  pub many-ends : (s : Spot) (w : List ℕ) (count : ℕ) → count ≡ 0 → Left (together shows) (s .from) w (many one count (s .line) (s .start .at)) (Done s) w
+  many-ends s w count e =
+      let z : s .from ≡ s .from + 0 = omega arith in
+      subst (λ (c : ℕ). Left (together shows) (s .from) w (many one c (s .line) (s .start .at)) (Done s) w) (sym e)
+      (ap (λ (k : ℕ). Done (spot (s .line) (s .start .at) k)) z, refl)
 
-  -- What is read stays in the text, and takes a byte at least for each line.
-  abbrev pub Stays : {A : Type 0} → (ℕ → ℕ → Read A) → Type 0
-  Stays one = (n place : ℕ) → InStep n place → ReadIn (one n place)
+  pub placed-ends : (s : Spot) (index : ℕ) (d : List ℕ) (count : ℕ) → count ≡ 0 → Placed shows (s .from) index d (many one count (s .line) (s .start .at)) d
+  placed-ends s index d count e = subst (λ (c : ℕ). Placed shows (s .from) index d (many one c (s .line) (s .start .at)) d) (sym e) refl
 
-  in-then : {A B : Type 0} (r : Read A) (rest : A × ℕ × ℕ → Read B) → ReadIn r → ((a : A) (n place : ℕ) → InStep n place → ReadIn (rest (a, n, place)))
-      → ReadIn (r >>= rest)
-  in-then (found (a, n, place)) rest w f = f a n place w
-  in-then (refused a) rest w f = tt
+-- So many are read as were asked for.
+abbrev pub Numbered : {A : Type 0} → ℕ → Read (List A) → Type 0
+Numbered count (found (xs, n, place)) = length xs ≡ count
+Numbered count (refused a) = Unit {0}
 
-  pub stays-line : {A : Type 0} (h : Header) (due : T.Role) (s : ℕ) (means : Valued → A) → Stays (oneLine text h due s means)
-  unfolding oneLine
-  stays-line h due s means n place w = go (readLine text due h s place) (line-within text due h s place)
-    where
-      go : (r : T.LineRead) → LineWithin text place r → ReadIn (readAs means n r)
-      go (T.line l vs next) b = omega arith
-      go (T.LineRead.unreadable field) b = tt
-      go (T.LineRead.outside field) b = tt
+pub many-numbered : {A : Type 0} (one : ℕ → ℕ → Read A) (count n place : ℕ) → Numbered count (many one count n place)
+many-numbered one zero n place = refl
+many-numbered {A = A} one (suc count) n place = go (one n place) (λ m next. many-numbered one count m next)
+  where
+    rest : (x : A) (y : Read (List A)) → Numbered count y → Numbered (suc count) (y >>= λ (xs, m, next). found (x ∷ xs, m, next))
+    rest x (found (xs, m, next)) h = ap suc h
+    rest x (refused a) h = tt
 
-  pub stays-many : {A : Type 0} (one : ℕ → ℕ → Read A) → Stays one → (count : ℕ) → Stays (many one count)
-  stays-many one f zero n place w = w
-  stays-many one f (suc count) n place w =
-      in-then (one n place) _ (f n place w)
-      (λ x n′ place′ v. in-then (many one count n′ place′) (λ (xs, n″, place″). found (x ∷ xs, n″, place″)) (stays-many one f count n′ place′ v) (λ xs n″ place″ u. u))
-
-  pub stays-method : (h : Header) → Stays (oneMethod text h)
-  unfolding oneMethod
-  stays-method h n place w =
-      in-then (oneLine text h T.method 0 (λ x. x .1) n place) _ (stays-line h T.method 0 (λ x. x .1) n place w)
-      (λ vs n′ place′ v. in-then (many (oneLine text h T.constraint (scalarAt vs 1) asConstraint) (scalarAt vs 2) n′ place′) _
-      (stays-many (oneLine text h T.constraint (scalarAt vs 1) asConstraint) (stays-line h T.constraint (scalarAt vs 1) asConstraint) (scalarAt vs 2) n′ place′ v)
-      (λ cs n″ place″ u. u))
-
-  pub due-next : {A : Type 0} (one : ℕ → ℕ → Read A) → Stays one → (past : ℕ) (at s : Spot) (g : Group) → Due text past at → g ≡ Done s
-      → g ≡ groupOf (one (at .line) (at .start .at)) → Due text past s
-  due-next one f past at s g d q e =
-      let w = got (one (at .line) (at .start .at)) s (sym q ∙ e) in
-      let b : InStep (s .line) (s .start .at) = subst (λ r. ReadIn r) (w .1) (f (at .line) (at .start .at) (d .inside, d .counted)) in
-      record { feeds = d .feeds; short = d .short; inside = b .0; counted = b .1 }
+    go : (y : Read A) → ((m next : ℕ) → Numbered count (many one count m next))
+        → Numbered (suc count) (y >>= λ (x, m, next). many one count m next >>= λ (xs, m′, next′). found (x ∷ xs, m′, next′))
+    go (found (x, m, next)) later = rest x (many one count m next) (later m next)
+    go (refused a) later = tt

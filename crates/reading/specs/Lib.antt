@@ -1,4 +1,2 @@
-pub mod Again
-pub mod Directory
 pub mod Groups
-pub mod TheCase
+pub mod Whole

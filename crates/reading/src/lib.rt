@@ -1,50 +1,44 @@
-// Reading a whole case (01, "The case text" and rows 3 and 4 of its table): one pass over the text, line by line. Each group of lines
-// is one function, whose answer is that of the definitions of `rules`.
+// Reading a whole case (01, "The case text" and rows 3 and 4 of its table): one pass over the text, line by line, that leaves the fields of the
+// case and a directory of its lines. Each group of lines is one function, whose answer is that of the definitions of `rules`.
 ghost use mathlib.Core.Path.{_≡_};
-ghost use Prim.Native.Nat.{_≤_};
-ghost use lib.ListN.{length};
+ghost use Prim.Native.Nat.{_≤_, _<_};
+ghost use lib.ListN.{length, drop, getD};
 ghost use Rattle.rules.specs.Table as T;
+ghost use Rattle.rules.specs.Fields.{lineFields};
 ghost use Rattle.rules.specs.Case.{headerIn, oneMethod, many, readBody, readCase};
+ghost use Rattle.rules.proofs.Judgement.Sound.{GoodHeader};
 ghost use Rattle.lines.specs.Reading.{roleOf};
-ghost use Rattle.reading.specs.Directory.{methodsFrom, directorySize, ReadsAs, toTheEnd};
-ghost use Rattle.reading.specs.Groups.{wholeCase, FieldBelow, afterLine, lineEntry, groupOf, valuedLine, Due, Listed};
-
-mod again;
-
-pub use again::Again;
-pub use again::MethodAgain;
-pub use again::Numbered;
-pub use again::after_letter;
-pub use again::number_again;
-pub use again::read_again;
-pub use again::read_method_again;
-use lines::Context;
+ghost use Rattle.fields.specs.Directory.{Roomy, methodsFrom, directorySize};
+ghost use Rattle.reading.specs.Groups.{Fits, NoSubtasks, afterLine, valuedLine, Due, Left, together, methodFields, Placed, wholeCase};
+ghost use Rattle.reading.specs.Whole.{toTheEnd, BodyLeft, ReadsAs};
+use fields::METHODS_FROM;
 use lines::Finish;
+use lines::KNOWN;
 use lines::Role;
-use lines::VALUES;
 use rules::Answer;
 use rules::Header;
 use text::Cursor;
 
-// A case that is read: its header, the number of its P line, and where its I line, its P line and its first node line start; or the answer
-// that refuses the text.
+// A case that is read: its header, the number of its P line, and where the fields of its I line, its P line and its first node line stand; or
+// the answer that refuses the text.
 pub enum CaseRead {
     Case {
         header: Header,
         plan_line: u32,
-        initial: Cursor,
-        plan: Cursor,
-        nodes: Cursor,
+        initial: usize,
+        plan: usize,
+        nodes: usize,
     },
     Refused {
         answer: Answer,
     },
 }
 
-// Where a line is: its number, from 1, and its first byte.
+// Where a line is: its number, from 1, its first byte, and the place of its first field.
 struct Spot {
     line: u32,
     start: Cursor,
+    from: usize,
 }
 
 // Lines that are read, with where the next one is; or the answer that refuses the text.
@@ -53,22 +47,17 @@ enum Group {
     Refused { answer: Answer },
 }
 
-// One line, with the number of each of its items or how many members it has: all zero for a refusal.
-struct Entry {
-    group: Group,
-    values: [u32; VALUES],
-}
-
-// How line number `line` ended: the line after it, or the refusal of one of its fields.
-fn after(finish: Finish, line: u32) -> Group
-    requires { ⌜ (line ≤ 65536) × FieldBelow 65536 finish ⌝ }
-    ensures { λ r. ⌜ r ≡ afterLine line finish ⌝ }
+// How line number `line`, whose fields are stored from `from` on, ended: the line after it, or the refusal of one of its fields.
+fn after(finish: Finish, line: u32, from: usize) -> Group
+    requires { ⌜ (line ≤ 65536) × Fits from finish ⌝ }
+    ensures { λ r. ⌜ r ≡ afterLine line from finish ⌝ }
 {
     match finish {
-        Finish::Done { next } => Group::Done {
+        Finish::Done { fields, next } => Group::Done {
             next: Spot {
                 line: line + 1,
                 start: next,
+                from: from + fields,
             },
         },
         Finish::Bad { field } => Group::Refused {
@@ -86,41 +75,41 @@ fn after(finish: Finish, line: u32) -> Group
     }
 }
 
-// The line of role `due` that is due at a spot. `past` is the place past the text's last line feed.
-fn valued_line(text: &[u8], past: usize, at: Spot, due: Role, x: Context) -> Entry
-    requires { ⌜ Due (now text) past at ⌝ }
-    ensures { λ r. ⌜ r ≡ lineEntry (valuedLine (now (text .entry)) (x .header) (roleOf due) (x .subtasks) (at .line) (at .start .at)) ⌝ }
+// The line of role `due` that is due at a spot, its fields stored. `past` is the place past the text's last line feed.
+fn next_line(
+    text: &[u8],
+    past: usize,
+    at: Spot,
+    due: Role,
+    x: &[u32; KNOWN],
+    fields: &mut [u32],
+) -> Group
+    requires { ⌜ Due (now text) past (now fields) at ⌝ }
+    ensures { λ r. ⌜ Left lineFields (at .from) (now (fields .entry)) (valuedLine (now (text .entry)) (headerIn (now (x .entry))) (roleOf due) (getD (now (x .entry)) 7 0) (at .line) (at .start .at)) r (now (fields .exit)) ⌝ }
 {
     let line = at.line;
-    let read = lines::read_line(text, past, at.start, due, x);
-    let finish = read.finish;
-    let values = read.values;
-    Entry {
-        group: after(finish, line),
-        values,
-    }
+    let from = at.from;
+    let finish = lines::read_line(text, past, at.start, due, x, fields, from);
+    after(finish, line, from)
 }
 
-// The same where the line's numbers are not asked for: they are not copied.
-fn one_line(text: &[u8], past: usize, at: Spot, due: Role, x: Context) -> Group
-    requires { ⌜ Due (now text) past at ⌝ }
-    ensures { λ r. ⌜ r ≡ groupOf (valuedLine (now (text .entry)) (x .header) (roleOf due) (x .subtasks) (at .line) (at .start .at)) ⌝ }
-{
-    let line = at.line;
-    let read = lines::read_line(text, past, at.start, due, x);
-    let finish = read.finish;
-    after(finish, line)
-}
-
-// `count` lines of one role: the constraints of a method, or the nodes.
-fn lines_of(text: &[u8], past: usize, from: Spot, due: Role, x: Context, count: u32) -> Group
-    requires { ⌜ Due (now text) past from ⌝ }
-    ensures { λ r. ⌜ r ≡ groupOf (many (valuedLine (now (text .entry)) (x .header) (roleOf due) (x .subtasks)) count (from .line) (from .start .at)) ⌝ }
+// `count` lines of one role. The only caller of the line reader, so that this is compiled into the loop.
+fn lines_of(
+    text: &[u8],
+    past: usize,
+    from: Spot,
+    due: Role,
+    x: &[u32; KNOWN],
+    count: u32,
+    fields: &mut [u32],
+) -> Group
+    requires { ⌜ Due (now text) past (now fields) from ⌝ }
+    ensures { λ r. ⌜ Left (together lineFields) (from .from) (now (fields .entry)) (many (valuedLine (now (text .entry)) (headerIn (now (x .entry))) (roleOf due) (getD (now (x .entry)) 7 0)) count (from .line) (from .start .at)) r (now (fields .exit)) ⌝ }
 {
     let mut at = from;
     let mut i: u32 = 0;
     while i < count {
-        match one_line(text, past, at, due, x) {
+        match next_line(text, past, at, due, x, fields) {
             Group::Done { next } => {
                 at = next;
                 i += 1;
@@ -131,57 +120,63 @@ fn lines_of(text: &[u8], past: usize, from: Spot, due: Role, x: Context, count: 
     Group::Done { next: at }
 }
 
-// A method: its M line, and then as many constraint lines as that says, of a method with as many subtasks as that says.
-fn one_method(text: &[u8], past: usize, at: Spot, header: Header) -> Group
-    requires { ⌜ Due (now text) past at ⌝ }
-    ensures { λ r. ⌜ r ≡ groupOf (oneMethod (now (text .entry)) header (at .line) (at .start .at)) ⌝ }
+// The one line of role `due` that is due at a spot.
+fn one_line(
+    text: &[u8],
+    past: usize,
+    at: Spot,
+    due: Role,
+    x: &[u32; KNOWN],
+    fields: &mut [u32],
+) -> Group
+    requires { ⌜ Due (now text) past (now fields) at ⌝ }
+    ensures { λ r. ⌜ Left lineFields (at .from) (now (fields .entry)) (valuedLine (now (text .entry)) (headerIn (now (x .entry))) (roleOf due) (getD (now (x .entry)) 7 0) (at .line) (at .start .at)) r (now (fields .exit)) ⌝ }
 {
-    let x = Context {
-        header,
-        subtasks: 0,
-    };
-    let entry = valued_line(text, past, at, Role::Method, x);
-    let values = entry.values;
-    let group = entry.group;
-    match group {
+    lines_of(text, past, at, due, x, 1, fields)
+}
+
+// A method: its M line, and then as many constraint lines as that says, of a method with as many subtasks as that says.
+fn one_method(text: &[u8], past: usize, at: Spot, x: &[u32; KNOWN], fields: &mut [u32]) -> Group
+    requires { ⌜ Due (now text) past (now fields) at ⌝ }
+    requires { ⌜ NoSubtasks (now x) ⌝ }
+    ensures { λ r. ⌜ Left methodFields (at .from) (now (fields .entry)) (oneMethod (now (text .entry)) (headerIn (now (x .entry))) (at .line) (at .start .at)) r (now (fields .exit)) ⌝ }
+{
+    let from = at.from;
+    match one_line(text, past, at, Role::Method, x, fields) {
         Group::Done { next } => {
-            // An M line's numbers: its task, how many subtasks, how many constraints.
-            let own = Context {
-                header,
-                subtasks: values[1],
-            };
-            lines_of(text, past, next, Role::Constraint, own, values[2])
+            // The third field is the number of subtasks, the last the number of constraints.
+            let subtasks = fields[from + 2];
+            let count = fields[next.from - 1];
+            let mut own = *x;
+            own[7] = subtasks;
+            lines_of(text, past, next, Role::Constraint, &own, count, fields)
         }
         Group::Refused { answer } => Group::Refused { answer },
     }
 }
 
-// A line's place in the text, as the directory holds it.
-fn place(at: Spot) -> u32
-    requires { ⌜ at .start .at ≤ 65535 ⌝ }
-    ensures { λ r. ⌜ r ≡ at .start .at ⌝ }
+// The A lines, the places of whose fields go to the start of the directory.
+fn actions(
+    text: &[u8],
+    past: usize,
+    from: Spot,
+    x: &[u32; KNOWN],
+    fields: &mut [u32],
+    directory: &mut [u32],
+) -> Group
+    requires { ⌜ Due (now text) past (now fields) from ⌝ }
+    requires { ⌜ (getD (now x) 1 0 ≤ 1024) × (directorySize ≤ length (now directory)) ⌝ }
+    ensures left { λ r. ⌜ Left (together lineFields) (from .from) (now (fields .entry)) (many (valuedLine (now (text .entry)) (headerIn (now (x .entry))) T.action (getD (now (x .entry)) 7 0)) (getD (now (x .entry)) 1 0) (from .line) (from .start .at)) r (now (fields .exit)) ⌝ }
+    ensures placed { λ _. ⌜ Placed lineFields (from .from) 0 (now (directory .entry)) (many (valuedLine (now (text .entry)) (headerIn (now (x .entry))) T.action (getD (now (x .entry)) 7 0)) (getD (now (x .entry)) 1 0) (from .line) (from .start .at)) (now (directory .exit)) ⌝ }
 {
-    let c = at.start;
-    c.at as u32
-}
-
-// The A lines, whose places go to the start of the directory.
-fn actions(text: &[u8], past: usize, from: Spot, header: Header, directory: &mut [u32]) -> Group
-    requires { ⌜ Due (now text) past from ⌝ }
-    requires { ⌜ (header .actions ≤ 1024) × (3072 ≤ length (now directory)) ⌝ }
-    ensures { λ r. ⌜ Listed (valuedLine (now (text .entry)) header T.action 0) (header .actions) from 0 (now (directory .entry)) r (now (directory .exit)) ⌝ }
-{
-    let x = Context {
-        header,
-        subtasks: 0,
-    };
-    let count = header.actions as usize;
+    let count = x[1] as usize;
     let mut at = from;
     let mut i: usize = 0;
     while i < count {
-        match one_line(text, past, at, Role::Action, x) {
+        let place = at.from;
+        match one_line(text, past, at, Role::Action, x, fields) {
             Group::Done { next } => {
-                directory[i] = place(at);
+                directory[i] = place as u32;
                 at = next;
                 i += 1;
             }
@@ -191,25 +186,28 @@ fn actions(text: &[u8], past: usize, from: Spot, header: Header, directory: &mut
     Group::Done { next: at }
 }
 
-// Where the places of the M lines start in the directory, after those of at most 1,024 A lines.
-pub const METHODS_FROM: usize = 1024;
-
-// How many places the directory has.
-pub const DIRECTORY: usize = 3072;
-
-// The methods, whose M lines' places go to the directory after those of the A lines.
-fn methods(text: &[u8], past: usize, from: Spot, header: Header, directory: &mut [u32]) -> Group
-    requires { ⌜ Due (now text) past from ⌝ }
-    requires { ⌜ (header .methods ≤ 2048) × (3072 ≤ length (now directory)) ⌝ }
-    ensures { λ r. ⌜ Listed (oneMethod (now (text .entry)) header) (header .methods) from methodsFrom (now (directory .entry)) r (now (directory .exit)) ⌝ }
+// The methods, the places of whose fields go to the directory after those of the A lines.
+fn methods(
+    text: &[u8],
+    past: usize,
+    from: Spot,
+    x: &[u32; KNOWN],
+    fields: &mut [u32],
+    directory: &mut [u32],
+) -> Group
+    requires { ⌜ Due (now text) past (now fields) from ⌝ }
+    requires { ⌜ (getD (now x) 3 0 ≤ 2048) × (directorySize ≤ length (now directory)) × NoSubtasks (now x) ⌝ }
+    ensures left { λ r. ⌜ Left (together methodFields) (from .from) (now (fields .entry)) (many (oneMethod (now (text .entry)) (headerIn (now (x .entry)))) (getD (now (x .entry)) 3 0) (from .line) (from .start .at)) r (now (fields .exit)) ⌝ }
+    ensures placed { λ _. ⌜ Placed methodFields (from .from) methodsFrom (now (directory .entry)) (many (oneMethod (now (text .entry)) (headerIn (now (x .entry)))) (getD (now (x .entry)) 3 0) (from .line) (from .start .at)) (now (directory .exit)) ⌝ }
 {
-    let count = header.methods as usize;
+    let count = x[3] as usize;
     let mut at = from;
     let mut i: usize = 0;
     while i < count {
-        match one_method(text, past, at, header) {
+        let place = at.from;
+        match one_method(text, past, at, x, fields) {
             Group::Done { next } => {
-                directory[METHODS_FROM + i] = place(at);
+                directory[METHODS_FROM + i] = place as u32;
                 at = next;
                 i += 1;
             }
@@ -219,18 +217,19 @@ fn methods(text: &[u8], past: usize, from: Spot, header: Header, directory: &mut
     Group::Done { next: at }
 }
 
-// The numbers of an N line, by their names.
-fn header_of(values: [u32; VALUES]) -> Header
-    ensures { λ r. ⌜ r ≡ headerIn values ⌝ }
+// The numbers of an N line that was read, by their names: they follow its letter.
+fn header_of(fields: &[u32]) -> Header
+    requires { ⌜ 8 ≤ length (now fields) ⌝ }
+    ensures { λ r. ⌜ r ≡ headerIn (drop 1 (now (fields .entry))) ⌝ }
 {
     Header {
-        propositions: values[0],
-        actions: values[1],
-        compounds: values[2],
-        methods: values[3],
-        goal: values[4],
-        cues: values[5],
-        nodes: values[6],
+        propositions: fields[1],
+        actions: fields[2],
+        compounds: fields[3],
+        methods: fields[4],
+        goal: fields[5],
+        cues: fields[6],
+        nodes: fields[7],
     }
 }
 
@@ -246,69 +245,82 @@ fn whole(text: &[u8], header: Header, initial: Spot, plan: Spot, node: Spot, end
         };
         return CaseRead::Refused { answer };
     }
-    let i = initial.start;
-    let p = plan.start;
-    let n = node.start;
     CaseRead::Case {
         header,
         plan_line: plan.line,
-        initial: i,
-        plan: p,
-        nodes: n,
+        initial: initial.from,
+        plan: plan.from,
+        nodes: node.from,
     }
 }
 
 // The lines after the header, in their fixed order, and nothing after them. Each spot is named for the line that is due there.
-fn body(text: &[u8], past: usize, first: Spot, header: Header, directory: &mut [u32]) -> CaseRead
-    requires { ⌜ Due (now text) past first ⌝ }
-    requires { ⌜ (header .actions ≤ 1024) × (header .methods ≤ 2048) × (3072 ≤ length (now directory)) ⌝ }
-    ensures { λ r. ⌜ ReadsAs (now (text .entry)) (toTheEnd (now (text .entry)) (readBody (now (text .entry)) header (first .line) (first .start .at))) r (now (directory .exit)) ⌝ }
+fn body(
+    text: &[u8],
+    past: usize,
+    first: Spot,
+    header: Header,
+    fields: &mut [u32],
+    directory: &mut [u32],
+) -> CaseRead
+    requires { ⌜ Due (now text) past (now fields) first ⌝ }
+    requires { ⌜ GoodHeader header × (directorySize ≤ length (now directory)) ⌝ }
+    ensures { λ r. ⌜ BodyLeft header (first .from) (now (fields .entry)) (now (directory .entry)) (toTheEnd (now (text .entry)) (readBody (now (text .entry)) header (first .line) (first .start .at))) r (now (fields .exit)) (now (directory .exit)) ⌝ }
 {
-    let x = Context {
-        header,
-        subtasks: 0,
-    };
-    let action = match one_line(text, past, first, Role::Initial, x) {
+    let known = [
+        header.propositions,
+        header.actions,
+        header.compounds,
+        header.methods,
+        header.goal,
+        header.cues,
+        header.nodes,
+        0,
+    ];
+    let x = &known;
+    let action = match one_line(text, past, first, Role::Initial, x, fields) {
         Group::Done { next } => next,
         Group::Refused { answer } => return CaseRead::Refused { answer },
     };
-    let method = match actions(text, past, action, header, directory) {
+    let method = match actions(text, past, action, x, fields, directory) {
         Group::Done { next } => next,
         Group::Refused { answer } => return CaseRead::Refused { answer },
     };
-    let plan = match methods(text, past, method, header, directory) {
+    let plan = match methods(text, past, method, x, fields, directory) {
         Group::Done { next } => next,
         Group::Refused { answer } => return CaseRead::Refused { answer },
     };
-    let node = match one_line(text, past, plan, Role::Plan, x) {
+    let node = match one_line(text, past, plan, Role::Plan, x, fields) {
         Group::Done { next } => next,
         Group::Refused { answer } => return CaseRead::Refused { answer },
     };
-    let end = match lines_of(text, past, node, Role::Node, x, header.nodes) {
+    let end = match lines_of(text, past, node, Role::Node, x, header.nodes, fields) {
         Group::Done { next } => next,
         Group::Refused { answer } => return CaseRead::Refused { answer },
     };
     whole(text, header, first, plan, node, end)
 }
 
-// The case that a text holds, and where its A and M lines are. "reading, line by line": everything of a line before anything of the next.
-pub fn read_case(text: &[u8], directory: &mut [u32]) -> CaseRead
-    requires { ⌜ (length (now text) ≤ 65535) × (directorySize ≤ length (now directory)) ⌝ }
-    ensures { λ r. ⌜ ReadsAs (now (text .entry)) (readCase (now (text .entry))) r (now (directory .exit)) ⌝ }
+// The case that a text holds: its fields, and where those of its A and M lines stand. "reading, line by line": everything of a line before
+// anything of the next.
+pub fn read_case(text: &[u8], fields: &mut [u32], directory: &mut [u32]) -> CaseRead
+    requires { ⌜ (length (now text) ≤ 65535) × Roomy (now text) (now fields) × (directorySize ≤ length (now directory)) ⌝ }
+    ensures { λ r. ⌜ ReadsAs (readCase (now (text .entry))) r (now (fields .exit)) (now (directory .exit)) ⌝ }
 {
     let past = text::past_last_feed(text);
     // The ranges of the N line ask for no header.
-    let header = header_of([0u32; VALUES]);
+    let known = [0u32; KNOWN];
     let start = Cursor::new();
-    let x = Context {
-        header,
-        subtasks: 0,
+    let first = Spot {
+        line: 1,
+        start,
+        from: 0,
     };
-    let entry = valued_line(text, past, Spot { line: 1, start }, Role::Header, x);
-    let values = entry.values;
-    let group = entry.group;
-    match group {
-        Group::Done { next } => body(text, past, next, header_of(values), directory),
+    match one_line(text, past, first, Role::Header, &known, fields) {
+        Group::Done { next } => {
+            let read = header_of(fields);
+            body(text, past, next, read, fields, directory)
+        }
         Group::Refused { answer } => CaseRead::Refused { answer },
     }
 }

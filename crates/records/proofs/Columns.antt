@@ -26,6 +26,11 @@ nodeWith code label place s = record { letter = code; label = label; place = pla
 abbrev pub headPut : List ℕ → ℕ → ℕ → ℕ → ℕ → List ℕ
 headPut w i a b c = set (set (set w (lettersFrom + i) a) (labelsFrom + i) b) (placesFrom + i) c
 
+-- Only heads are stored: below them nothing has changed.
+pub record HeadsOnly (start work : List ℕ) : Type 0 where
+  pub size : length work ≡ length start
+  pub kept : (k : ℕ) → k < lettersFrom → getD work k 0 ≡ getD start k 0
+
 module _ (w : List ℕ) (i a b c : ℕ) where
   head-other : (k : ℕ) → (k ≡ lettersFrom + i → ⊥) → (k ≡ labelsFrom + i → ⊥) → (k ≡ placesFrom + i → ⊥) → getD (headPut w i a b c) k 0 ≡ getD w k 0
   head-other k x y z =
@@ -33,11 +38,11 @@ module _ (w : List ℕ) (i a b c : ℕ) where
       ∙ getD-set-other (set w (lettersFrom + i) a) (labelsFrom + i) k b 0 y
       ∙ getD-set-other w (lettersFrom + i) k a 0 x
 
-  pub head-below : (k : ℕ) → k < lettersFrom → getD (headPut w i a b c) k 0 ≡ getD w k 0
+  head-below : (k : ℕ) → k < lettersFrom → getD (headPut w i a b c) k 0 ≡ getD w k 0
   head-below k l = head-other k (λ e. omega arith) (λ e. omega arith) (λ e. omega arith)
 
-  pub length-head : length (headPut w i a b c) ≡ length w
-  length-head = simp length-set
+  pub heads-on : (start : List ℕ) → HeadsOnly start w → HeadsOnly start (headPut w i a b c)
+  heads-on start h = record { size = simp length-set (h .size); kept = λ k l. head-below k l ∙ h .kept k l }
 
   module _ (few : i < 3000) where
     pub head-before : (j : ℕ) → j < i → recordAt (headPut w i a b c) j ≡ recordAt w j

@@ -1,150 +1,134 @@
--- The node lines in turn: each reads as its record's head, and the records written so far with those to come are all of them. Assumes nothing.
+-- The node lines in turn: each has its record's head, and the records written so far with those to come are all of them. Assumes nothing.
 use mathlib.Core.Path.{_≡_, refl, sym, ap, subst, _∙_}
-use mathlib.Core.List.{List, [], _∷_, _++_, append-assoc, append-nil}
-use Prim.Native.Nat.{ℕ, zero, suc, _+_, _-_, _≤_, _<_}
+use mathlib.Core.Bool.{Bool, true, false}
+use mathlib.Core.List.{List, [], _∷_, _++_, map, append-assoc, append-nil}
+use Prim.Native.Nat.{ℕ, _+_, _≤_, _<_}
 use native.Mathlib.Numerals.{add-one}
 use native.Mathlib.Omega.{arith}
-use lib.ListN.{length, getD}
-use Rattle.rules.specs.declared.Header.{Header}
-use Rattle.rules.specs.Index.{Span, at}
-use Rattle.rules.specs.Table as T
-use Rattle.rules.specs.Table.{Value, table, roleNumber}
-use Rattle.rules.specs.Result.{found, refused}
-use Rattle.rules.specs.Case.{NodeLine, Read, nodeOf, asNode, scalarAt, oneLine, many}
+use Prim.Native.Char.{code}
+use lib.Dec.{eqb}
+use borrow.Author.Tests.{ne-eqb}
+use lib.ListN.{length, getD, drop, drop-of-length-le}
+use lib.Seq.{drop-cons}
+use Rattle.rules.specs.Index.{Span}
+use Rattle.rules.specs.Case.{NodeLine, D, E, L, nodeOf}
+use Rattle.rules.specs.Fields.{lineFields, linesFields, nodeLine}
 use Rattle.rules.specs.Verdict.{nodeRecord}
-use Rattle.rules.proofs.Judgement.Reading.{ForLine, LineTells, line-says}
-use Rattle.text.specs.declared.Cursor.{Cursor}
-use Rattle.reading.specs.declared.again.Again.{Again}
-use Rattle.reading.specs.Again.{AgainAt}
-use Rattle.reading.proofs.Turns.{same-parts}
-use Rattle.tree.proofs.Numbers.{line-read, many-first}
-use Rattle.records.specs.Records.{startsFrom, endsFrom, lettersFrom, recordAt, upTo, letterCode, columnSpan, recordsOf}
-use Rattle.records.specs.Reading.{nodesAt, NodesRead, IsRead, linesOf, nodeLines}
-use Rattle.records.proofs.Columns.{upTo-same, nodeWith, headPut, head-below, length-head, head-before, head-here}
+use Rattle.fields.specs.Standing.{Stands}
+use Rattle.fields.specs.Directory.{nodeSize}
+use Rattle.fields.proofs.Standing.{stands-left, stands-right, stands-at, stands-first, stands-inside, stands-as}
+use Rattle.fields.proofs.Lines.{nodeFields, node-fields}
+use Rattle.records.specs.Records.{startsFrom, endsFrom, recordAt, upTo, NodesStand, letterCode, placeAt, columnSpan, recordsOf}
+use Rattle.records.proofs.Columns.{upTo-same, nodeWith, headPut, HeadsOnly, head-before, head-here}
 
--- A node line's letter and first two numbers are those of its record.
-abbrev HeadIs : ℕ → List Value → Type 0
-HeadIs l vs = (s : Span) → nodeWith (letterCode l) (scalarAt vs 0) (scalarAt vs 1) s ≡ nodeRecord (asNode (l, vs)) s
-
-heads : (h : Header) → ForLine h 0 T.node HeadIs
-unfolding ForLine table roleNumber letterCode nodeRecord asNode nodeOf scalarAt at
-heads h = (λ m hm s. refl, (λ m hm g hg s. refl, (λ a ha i hi s. refl, tt)))
-
--- A node line that reads, read again: its record's head, and where the next one starts.
-pub record LineHead (a : Again) (x : NodeLine) (place′ : ℕ) : Type 0 where
-  pub head : (s : Span) → nodeWith (letterCode (a .letter)) (a .first) (a .second) s ≡ nodeRecord x s
-  pub ends : a .next .at ≡ place′
-
-line-is : (text : List ℕ) (h : Header) (n place : ℕ) (x : NodeLine) (n′ place′ : ℕ) → oneLine text h T.node 0 asNode n place ≡ found (x, n′, place′)
-    → (a : Again) → AgainAt text place a → LineHead a x place′
-unfolding AgainAt
-line-is text h n place x n′ place′ e a again =
-    let (l, vs, reads, means) = line-read text h T.node asNode n place x n′ place′ e in
-    let same = again T.node refl h 0 l vs place′ reads in
-    let says : HeadIs l vs = subst (LineTells HeadIs) reads (line-says text h 0 T.node HeadIs place (heads h)) in
-    record {
-      head = λ s. ap (λ (y : Again). nodeWith (letterCode (y .letter)) (y .first) (y .second) s) same ∙ says s ∙ ap (λ (y : NodeLine). nodeRecord y s) means;
-      ends = ap (λ (y : Again). y .next .at) same;
-    }
-
--- The invariant: below the heads nothing has changed, and the records of the columns up to node i and those of the lines left are all of them.
-pub record Going (text : List ℕ) (h : Header) (place : ℕ) (start : List ℕ) (c : Cursor) (work : List ℕ) (i : ℕ) : Type 0 where
-  pub lines : List NodeLine
-  pub n : ℕ
-  pub past : ℕ
-  pub next : ℕ
-  pub reads : many (oneLine text h T.node 0 asNode) (h .nodes - i) n (c .at) ≡ found (lines, past, next)
-  pub most : i ≤ h .nodes
-  pub size : length work ≡ length start
-  pub kept : (k : ℕ) → k < lettersFrom → getD work k 0 ≡ getD start k 0
-  pub same : upTo (recordAt work) i ++ recordsOf (columnSpan start) i lines ≡ recordsOf (columnSpan start) 0 (nodeLines text h place)
-
-pub going-starts : (text : List ℕ) (h : Header) (c : Cursor) (work : List ℕ) → NodesRead text h (c .at) → Going text h (c .at) work c work 0
-unfolding NodesRead nodesAt nodeLines
-going-starts text h c work = go (nodesAt text h (c .at)) refl
+-- Every node line has a letter and a label; all but D have a place.
+pub size-least : (l : ℕ) → 2 ≤ nodeSize l
+unfolding nodeSize
+size-least l = go (eqb l (code "D"))
   where
-    go : (r : Read (List NodeLine)) → nodesAt text h (c .at) ≡ r → IsRead r → Going text h (c .at) work c work 0
-    go (found (xs, past, next)) e t =
-        let all : h .nodes - 0 ≡ h .nodes = omega arith in
+    go : (b : Bool) → 2 ≤ elim b as (λ x. ℕ) [ true ↦ 2 | false ↦ 3 ]
+    go true = omega arith
+    go false = omega arith
+
+pub size-placed : (l : ℕ) → (l ≡ 68 → ⊥) → nodeSize l ≡ 3
+unfolding nodeSize
+size-placed l other = ap (λ (b : Bool). elim b as (λ x. ℕ) [ true ↦ 2 | false ↦ 3 ]) (ne-eqb l 68 other)
+
+-- The first of the node lines that stand at a place: its record's head, and the others, at the next place.
+pub record LineHead (fields : List ℕ) (p : ℕ) (n : NodeLine) (ns : List NodeLine) : Type 0 where
+  pub head : (s : Span) → nodeWith (letterCode (getD fields p 0)) (getD fields (p + 1) 0) (placeAt fields p (getD fields p 0)) s ≡ nodeRecord n s
+  pub inside : p + nodeSize (getD fields p 0) ≤ length fields
+  pub rest : Stands fields (p + nodeSize (getD fields p 0)) (linesFields (map nodeLine ns))
+
+module _ (fields : List ℕ) (p : ℕ) (ns : List NodeLine) where
+  -- A line of at least two fields, its letter l and the label m.
+  line-head : (l m : ℕ) (more : List ℕ) (n : NodeLine) → Stands fields p ((l ∷ m ∷ more) ++ linesFields (map nodeLine ns))
+      → nodeSize l ≡ length (l ∷ m ∷ more) → ((s : Span) → nodeWith (letterCode l) m (placeAt fields p l) s ≡ nodeRecord n s) → LineHead fields p n ns
+  line-head l m more n here size head =
+      let others = linesFields (map nodeLine ns) in
+      let letter : getD fields p 0 ≡ l = stands-first fields p l (m ∷ (more ++ others)) here in
+      let label : getD fields (p + 1) 0 ≡ m = stands-at fields p (l ∷ m ∷ (more ++ others)) 1 here (omega arith) in
+      let sized : length (l ∷ m ∷ more) ≡ nodeSize (getD fields p 0) = sym (ap nodeSize letter ∙ size) in
+      let inside = stands-inside fields p (l ∷ m ∷ more) (stands-left fields p (l ∷ m ∷ more) others here) (omega arith) in
+      record {
+        head = λ s. (λ j. nodeWith (letterCode (letter j)) (label j) (placeAt fields p (letter j)) s) ∙ head s;
+        inside = omega arith;
+        rest = subst (λ (k : ℕ). Stands fields (p + k) others) sized (stands-right fields p (l ∷ m ∷ more) others here);
+      }
+
+  pub first-line : (n : NodeLine) → Stands fields p (linesFields (map nodeLine (n ∷ ns))) → LineHead fields p n ns
+  unfolding nodeSize letterCode nodeOf nodeRecord placeAt
+  first-line n here =
+      let others = linesFields (map nodeLine ns) in
+      go n (stands-as fields p (lineFields (nodeLine n) ++ others) (nodeFields n ++ others) (ap (λ (l : List ℕ). l ++ others) (node-fields n)) here)
+    where
+      go : (n : NodeLine) → Stands fields p (nodeFields n ++ linesFields (map nodeLine ns)) → LineHead fields p n ns
+      go (D m) s = line-head 68 m [] (D m) s refl (λ x. refl)
+      go (E m g) s =
+          let place : getD fields (p + 2) 0 ≡ g = stands-at fields p (69 ∷ m ∷ g ∷ linesFields (map nodeLine ns)) 2 s (omega arith) in
+          line-head 69 m (g ∷ []) (E m g) s refl (λ x. ap (λ (y : ℕ). nodeWith 2 m y x) place)
+      go (L a i) s =
+          let place : getD fields (p + 2) 0 ≡ i = stands-at fields p (76 ∷ a ∷ i ∷ linesFields (map nodeLine ns)) 2 s (omega arith) in
+          line-head 76 a (i ∷ []) (L a i) s refl (λ x. ap (λ (y : ℕ). nodeWith 3 a y x) place)
+
+-- Of the node lines, those from line i on stand at a place, and the records of the columns up to node i and theirs are all of them.
+pub record Going (fields start : List ℕ) (ns : List NodeLine) (p : ℕ) (work : List ℕ) (i : ℕ) : Type 0 where
+  pub here : Stands fields p (linesFields (map nodeLine (drop i ns)))
+  pub same : upTo (recordAt work) i ++ recordsOf (columnSpan start) i (drop i ns) ≡ recordsOf (columnSpan start) 0 ns
+
+-- So for whichever node lines the fields are.
+abbrev pub Turn : List ℕ → ℕ → ℕ → List ℕ → ℕ → List ℕ → ℕ → Type 0
+Turn fields nodes count start p work i = (ns : List NodeLine) → NodesStand fields nodes count ns → Going fields start ns p work i
+
+module _ (fields start : List ℕ) (ns : List NodeLine) (p : ℕ) (work : List ℕ) (i : ℕ) (g : Going fields start ns p work i) where
+  module _ (more : i < length ns) where
+    due : drop i ns ≡ getD ns i (D 0) ∷ drop (i + 1) ns
+    due = drop-cons ns i (D 0) more ∙ ap (λ (k : ℕ). getD ns i (D 0) ∷ drop k ns) (sym (add-one i))
+
+    line-due : LineHead fields p (getD ns i (D 0)) (drop (i + 1) ns)
+    line-due = first-line fields p (drop (i + 1) ns) (getD ns i (D 0)) (subst (λ (l : List NodeLine). Stands fields p (linesFields (map nodeLine l))) due (g .here))
+
+    pub going-on : HeadsOnly start work → i < 3000 → 16384 ≤ length start → (code place size : ℕ) → code ≡ letterCode (getD fields p 0)
+        → place ≡ placeAt fields p (getD fields p 0) → size ≡ nodeSize (getD fields p 0)
+        → Going fields start ns (p + size) (headPut work i code (getD fields (p + 1) 0) place) (i + 1)
+    going-on h few room code place size ec ep es =
+        let long = h .size in
+        let label = getD fields (p + 1) 0 in
+        let put = headPut work i code label place in
+        let spans = columnSpan start in
+        let later = recordsOf spans (i + 1) (drop (i + 1) ns) in
+        let span : columnSpan work i ≡ spans i =
+        λ z. record { start = h .kept (startsFrom + i) (omega arith) z; end = h .kept (endsFrom + i) (omega arith) z } in
+        let before : upTo (recordAt put) i ≡ upTo (recordAt work) i = upTo-same (recordAt put) (recordAt work) i (head-before work i code label place few) in
+        let here : recordAt put i ≡ nodeRecord (getD ns i (D 0)) (spans i) =
+        head-here work i code label place few (omega arith) ∙ (λ z. nodeWith (ec z) label (ep z) (span z)) ∙ line-due .head (spans i) in
         record {
-          lines = xs;
-          n = 1;
-          past = past;
-          next = next;
-          reads = ap (λ (k : ℕ). many (oneLine text h T.node 0 asNode) k 1 (c .at)) all ∙ e;
-          most = omega arith;
-          size = refl;
-          kept = λ k l. refl;
-          same = sym (ap (λ (r : Read (List NodeLine)). recordsOf (columnSpan work) 0 (linesOf r)) e);
+          here = subst (λ (k : ℕ). Stands fields (p + k) (linesFields (map nodeLine (drop (i + 1) ns)))) (sym es) (line-due .rest);
+          same = ap (λ (m : ℕ). upTo (recordAt put) m ++ later) (add-one i)
+              ∙ append-assoc (upTo (recordAt put) i) (recordAt put i ∷ []) later
+              ∙ (λ j. before j ++ (here j ∷ later))
+              ∙ ap (λ (xs : List NodeLine). upTo (recordAt work) i ++ recordsOf spans i xs) (sym due)
+              ∙ g .same;
         }
-    go (refused r) e t = absurd t
 
-pub going-on : (text : List ℕ) (h : Header) (place : ℕ) (start : List ℕ) (c : Cursor) (work : List ℕ) (i : ℕ) → Going text h place start c work i
-    → h .nodes ≤ 3000 → 16384 ≤ length start → i < h .nodes → (a : Again) → AgainAt text (c .at) a
-    → Going text h place start (a .next) (headPut work i (letterCode (a .letter)) (a .first) (a .second)) (i + 1)
-going-on text h place start c work i g few room inside a again =
-    let size = g .size in
-    let left : h .nodes - i ≡ suc (h .nodes - (i + 1)) = omega arith in
-    let f = many-first (oneLine text h T.node 0 asNode) (h .nodes - (i + 1)) (g .n) (c .at) (g .lines) (g .past) (g .next)
-    (ap (λ (k : ℕ). many (oneLine text h T.node 0 asNode) k (g .n) (c .at)) (sym left) ∙ g .reads) in
-    let l = line-is text h (g .n) (c .at) (f .0) (f .1) (f .2) (f .4) a again in
-    let code = letterCode (a .letter) in
-    let put = headPut work i code (a .first) (a .second) in
-    let spans = columnSpan start in
-    let more = recordsOf spans (i + 1) (f .3) in
-    let span : columnSpan work i ≡ spans i =
-    λ z. record { start = g .kept (startsFrom + i) (omega arith) z; end = g .kept (endsFrom + i) (omega arith) z } in
-    let before : upTo (recordAt put) i ≡ upTo (recordAt work) i =
-    upTo-same (recordAt put) (recordAt work) i (head-before work i code (a .first) (a .second) (omega arith)) in
-    let here : recordAt put i ≡ nodeRecord (f .0) (spans i) =
-    head-here work i code (a .first) (a .second) (omega arith) (omega arith) ∙ ap (nodeWith code (a .first) (a .second)) span ∙ l .head (spans i) in
-    record {
-      lines = f .3;
-      n = f .1;
-      past = g .past;
-      next = g .next;
-      reads = ap (λ (p : ℕ). many (oneLine text h T.node 0 asNode) (h .nodes - (i + 1)) (f .1) p) (l .ends) ∙ f .5;
-      most = omega arith;
-      size = length-head work i code (a .first) (a .second) ∙ g .size;
-      kept = λ k below. head-below work i code (a .first) (a .second) k below ∙ g .kept k below;
-      same = ap (λ (m : ℕ). upTo (recordAt put) m ++ more) (add-one i)
-          ∙ append-assoc (upTo (recordAt put) i) (recordAt put i ∷ []) more
-          ∙ (λ j. before j ++ (here j ∷ more))
-          ∙ ap (λ (xs : List NodeLine). upTo (recordAt work) i ++ recordsOf spans i xs) (sym (f .6))
-          ∙ g .same;
-    }
+  pub going-ends : (count : ℕ) → length ns ≡ count → i ≡ count → upTo (recordAt work) count ≡ recordsOf (columnSpan start) 0 ns
+  going-ends count e q =
+      let none : drop i ns ≡ [] = drop-of-length-le ns {i = i} (omega arith) in
+      ap (upTo (recordAt work)) (sym q)
+      ∙ sym (append-nil (upTo (recordAt work) i))
+      ∙ ap (λ (xs : List NodeLine). upTo (recordAt work) i ++ recordsOf (columnSpan start) i xs) (sym none)
+      ∙ g .same
 
-pub going-ends : (text : List ℕ) (h : Header) (place : ℕ) (start : List ℕ) (c : Cursor) (work : List ℕ) (i : ℕ) → Going text h place start c work i
-    → h .nodes ≤ i → upTo (recordAt work) (h .nodes) ≡ recordsOf (columnSpan start) 0 (nodeLines text h place)
-going-ends text h place start c work i g end =
-    let most = g .most in
-    let all : h .nodes ≡ i = omega arith in
-    let none : h .nodes - i ≡ 0 = omega arith in
-    let e : _≡_ {A = Read (List NodeLine)} (found ([], g .n, c .at)) (found (g .lines, g .past, g .next)) =
-    ap (λ (k : ℕ). many (oneLine text h T.node 0 asNode) k (g .n) (c .at)) (sym none) ∙ g .reads in
-    let l : [] ≡ g .lines = same-parts e .0 in
-    ap (upTo (recordAt work)) all
-    ∙ sym (append-nil (upTo (recordAt work) i))
-    ∙ ap (λ (xs : List NodeLine). upTo (recordAt work) i ++ recordsOf (columnSpan start) i xs) l
-    ∙ g .same
+-- The line that is due lies inside the fields.
+pub line-inside : (fields : List ℕ) (nodes count : ℕ) (start : List ℕ) (p : ℕ) (work : List ℕ) (i : ℕ) → Turn fields nodes count start p work i
+    → ((ns : List NodeLine) × NodesStand fields nodes count ns) → i < count → (2 ≤ nodeSize (getD fields p 0)) × (p + nodeSize (getD fields p 0) ≤ length fields)
+line-inside fields nodes count start p work i t (ns, w) more =
+    (size-least (getD fields p 0), line-due fields start ns p work i (t ns w) (omega (arith, w .counted)) .inside)
+
+pub going-starts : (fields start : List ℕ) (ns : List NodeLine) (p : ℕ) → Stands fields p (linesFields (map nodeLine ns)) → Going fields start ns p start 0
+going-starts fields start ns p here = record { here = here; same = refl }
 
 -- The records of lines whose spans agree.
 pub records-agree : (f g : ℕ → Span) (n i : ℕ) (ls : List NodeLine) → ((j : ℕ) → j < n → f j ≡ g j) → i + length ls ≤ n → recordsOf f i ls ≡ recordsOf g i ls
 records-agree f g n i [] same few = refl
 records-agree f g n i (l ∷ ls) same few = λ j. nodeRecord l (same i (omega arith) j) ∷ records-agree f g n (i + 1) ls same (omega arith) j
-
--- No more lines are read than the header says.
-pub length-many : {A : Type 0} (one : ℕ → ℕ → Read A) (count n place : ℕ) (xs : List A) (past next : ℕ) → many one count n place ≡ found (xs, past, next) → length xs ≡ count
-length-many one zero n place xs past next e = ap length (sym (same-parts e .0))
-length-many one (suc count) n place xs past next e =
-    let f = many-first one count n place xs past next e in ap length (f .6) ∙ ap suc (length-many one count (f .1) (f .2) (f .3) past next (f .5))
-
-pub length-lines : (text : List ℕ) (h : Header) (place : ℕ) → NodesRead text h place → length (nodeLines text h place) ≡ h .nodes
-unfolding NodesRead nodesAt nodeLines
-length-lines text h place = go (nodesAt text h place) refl
-  where
-    go : (r : Read (List NodeLine)) → nodesAt text h place ≡ r → IsRead r → length (linesOf (nodesAt text h place)) ≡ h .nodes
-    go (found (xs, past, next)) e t =
-        ap (λ (r : Read (List NodeLine)). length (linesOf r)) e
-        ∙ length-many (oneLine text h T.node 0 asNode) (h .nodes) 1 place xs past next e
-    go (refused r) e t = absurd t

@@ -1,14 +1,15 @@
 // The node records as five columns of plain numbers: the last step over the lent work space, before they are gathered into the node list.
 ghost use mathlib.Core.Path.{_≡_};
-ghost use Prim.Native.Nat.{ℕ, _≤_, _<_};
+ghost use mathlib.Core.List.{List};
+ghost use Prim.Native.Nat.{ℕ, _+_, _≤_, _<_};
 ghost use lib.ListN.{length};
+ghost use Rattle.rules.specs.Case.{NodeLine};
+ghost use Rattle.fields.specs.Directory.{nodeSize};
 ghost use Rattle.parts.specs.Spans.{rowSpan};
-ghost use Rattle.records.specs.Records.{recordAt, upTo, letterCode, columnSpan, recordsOf};
-ghost use Rattle.records.specs.Reading.{NodesRead, nodeLines};
-use reading::read_again;
+ghost use Rattle.records.specs.Records.{recordAt, upTo, NodesStand, letterCode, placeAt, columnSpan, recordsOf};
+use fields::node_size;
 use rules::Header;
 use rules::NODES;
-use text::Cursor;
 use tree::ROWS;
 
 // Where each column starts: those of the spans below the rows, the others over the rows, which nothing reads once the spans are out.
@@ -22,7 +23,7 @@ pub const LABELS: usize = LETTERS + NODES;
 
 pub const PLACES: usize = LABELS + NODES;
 
-fn letter_code(letter: u8) -> u32
+fn letter_code(letter: u32) -> u32
     ensures { λ r. ⌜ r ≡ letterCode letter ⌝ }
 {
     match letter {
@@ -30,6 +31,14 @@ fn letter_code(letter: u8) -> u32
         69 => 2,
         _ => 3,
     }
+}
+
+// The place of the node line at `at`, by its letter: D has no field for it.
+fn place_at(fields: &[u32], at: usize, letter: u32) -> u32
+    requires { ⌜ at + nodeSize letter ≤ length (now fields) ⌝ }
+    ensures { λ r. ⌜ r ≡ placeAt (now (fields .entry)) at letter ⌝ }
+{
+    if letter == 68 { 0 } else { fields[at + 2] }
 }
 
 // The columns of starts and ends, out of the rows.
@@ -47,29 +56,32 @@ fn put_spans(work: &mut [u32], count: usize)
 }
 
 // The columns of letter codes, methods or actions, and places, out of the node lines: then every record stands in the columns.
-fn put_heads(text: &[u8], header: Header, nodes: Cursor, work: &mut [u32])
-    requires { ⌜ (header .nodes ≤ 3000) × (16384 ≤ length (now work)) ⌝ }
-    requires { ⌜ NodesRead (now text) header (nodes .at) ⌝ }
-    ensures { λ _. ⌜ upTo (recordAt (now (work .exit))) (header .nodes) ≡ recordsOf (columnSpan (now (work .entry))) 0 (nodeLines (now (text .entry)) header (nodes .at)) ⌝ }
+fn put_heads(fields: &[u32], nodes: usize, count: usize, work: &mut [u32])
+    requires { ⌜ (count ≤ 3000) × (16384 ≤ length (now work)) ⌝ }
+    requires { ⌜ ((ns : List NodeLine) × NodesStand (now fields) nodes count ns) ⌝ }
+    ensures { λ _. ⌜ ((ns : List NodeLine) → NodesStand (now (fields .entry)) nodes count ns → upTo (recordAt (now (work .exit))) count ≡ recordsOf (columnSpan (now (work .entry))) 0 ns) ⌝ }
 {
-    let mut c = nodes;
+    let mut at = nodes;
     let mut i: usize = 0;
-    while i < header.nodes as usize {
-        let a = read_again(text, c);
-        work[LETTERS + i] = letter_code(a.letter);
-        work[LABELS + i] = a.first;
-        work[PLACES + i] = a.second;
-        c = a.next;
+    while i < count {
+        let letter = fields[at];
+        let label = fields[at + 1];
+        let place = place_at(fields, at, letter);
+        work[LETTERS + i] = letter_code(letter);
+        work[LABELS + i] = label;
+        work[PLACES + i] = place;
+        at += node_size(letter);
         i += 1;
     }
 }
 
-// The records of all nodes into the columns: each node line with the span of its row.
-pub fn write_records(text: &[u8], header: Header, nodes: Cursor, work: &mut [u32])
+// The records of all nodes into the columns: each node line, from `nodes` on, with the span of its row.
+pub fn write_records(fields: &[u32], header: Header, nodes: usize, work: &mut [u32])
     requires { ⌜ (header .nodes ≤ 3000) × (16384 ≤ length (now work)) ⌝ }
-    requires { ⌜ NodesRead (now text) header (nodes .at) ⌝ }
-    ensures { λ _. ⌜ upTo (recordAt (now (work .exit))) (header .nodes) ≡ recordsOf (rowSpan (now (work .entry))) 0 (nodeLines (now (text .entry)) header (nodes .at)) ⌝ }
+    requires { ⌜ ((ns : List NodeLine) × NodesStand (now fields) nodes (header .nodes) ns) ⌝ }
+    ensures { λ _. ⌜ ((ns : List NodeLine) → NodesStand (now (fields .entry)) nodes (header .nodes) ns → upTo (recordAt (now (work .exit))) (header .nodes) ≡ recordsOf (rowSpan (now (work .entry))) 0 ns) ⌝ }
 {
-    put_spans(work, header.nodes as usize);
-    put_heads(text, header, nodes, work);
+    let count = header.nodes as usize;
+    put_spans(work, count);
+    put_heads(fields, nodes, count, work);
 }

@@ -1,67 +1,48 @@
 -- The rows of the table in their order, and what each answer leaves in the lent lists. Assumes nothing.
-use mathlib.Core.Path.{_≡_, refl, sym, ap, subst, _∙_}
+use mathlib.Core.Path.{_≡_, refl, sym, ap, subst, transport, _∙_}
 use mathlib.Core.Bool.{Bool, true, false}
 use mathlib.Core.List.{List}
 use mathlib.Core.Option.{Option, none, some}
-use Prim.Native.Nat.{ℕ, _≤_, _<_}
+use Prim.Native.Nat.{ℕ, _*_, _≤_, _<_}
 use native.Mathlib.Omega.{arith}
 use borrow.Author.Tests.{lt-ltb, le-ltb}
 use lib.Dec.{ltb}
-use lib.ListN.{length, replicate}
+use lib.ListN.{length, replicate, length-replicate}
 use Rattle.rules.specs.declared.Header.{Header}
 use Rattle.rules.specs.declared.Answer.{Answer}
 use Rattle.rules.specs.declared.Answer.the-variants.{Accepted, ShortList, LongText, Inapplicable}
 use Rattle.rules.specs.Result.{Result, found, refused, _>>=_, _>>_}
-use Rattle.rules.specs.Case.{Case, initialOf, readCase}
+use Rattle.rules.specs.Case.{Case, readCase}
 use Rattle.rules.specs.Verdict.{Found, stateNeed, workNeed, textMost, replayLists, statesOf, unless, planRuns, replay, answerOf, statesAfter}
 use Rattle.rules.proofs.Judgement.Rows.{fromRun, fromText}
 use Rattle.rules.proofs.Judgement.Each.{Each}
-use Rattle.rules.proofs.Worded.{Worded, set-worded, states-worded}
-use Rattle.text.specs.declared.Cursor.{Cursor}
+use Rattle.rules.proofs.Worded.{Worded}
 use Rattle.reading.specs.declared.CaseRead.{CaseRead}
 use Rattle.reading.specs.declared.CaseRead.the-variants.{Case as CaseIs, Refused as CaseRefused}
-use Rattle.reading.specs.Directory.{Finds, directorySize, ReadsAs}
+use Rattle.fields.specs.Directory.{Finds, directorySize, Roomy}
+use Rattle.reading.specs.Whole.{ReadsAs}
 use Rattle.rows.specs.Rows.{putRows}
 use Rattle.rows.proofs.Written.{rows-fill}
-use Rattle.replay.specs.declared.running.Ran.{Ran}
-use Rattle.replay.specs.declared.running.Ran.the-variants.{All, Stopped}
-use Rattle.reading.specs.TheCase.{caseOf}
-use Rattle.reading.proofs.TheCase.{case-is}
-use Rattle.replay.specs.Running.{Left, ranOf, stopOf, reached, RanAs, replayRun, replayText}
-
--- ---- Every state has the words of a state
-
-pub left-worded : (text directory : List ℕ) (h : Header) (initial plan : ℕ) → Left text directory h initial plan → Each Worded (statesOf (caseOf text))
-unfolding statesOf initialOf
-left-worded text directory h initial plan left =
-    let k = caseOf text in
-    let f = left .finds in
-    states-worded (k .actions) (k .plan) (k .initial) (ap length (sym (f .initialLine .meant)) ∙ set-worded (f .initialLine .values) 0)
+use Rattle.running.specs.declared.Ran.{Ran}
+use Rattle.running.specs.declared.Ran.the-variants.{All, Stopped}
+use Rattle.running.specs.Running.{Left, stopOf, RanAs}
+use Rattle.running.proofs.Outcome.{stopped-at, ran-all}
+use Rattle.replay.specs.Running.{replayRun, replayText, Replayed}
 
 -- ---- Answers
 
 -- A refusal: "Refused: both lists are zero throughout."
-pub refuses : (size : ℕ) (f : Found (Unit {0})) (r : Answer) → f ≡ refused r → (r ≡ answerOf f) × (replicate size 0 ≡ statesAfter size f)
+pub refuses : (size : ℕ) (f : Found (Unit {0})) (r : Answer) (states : List ℕ) → f ≡ refused r → states ≡ replicate size 0 → Replayed f size r states
 unfolding statesAfter
-refuses size f r e = (sym (ap answerOf e), sym (ap (λ (x : Found (Unit {0})). statesAfter size x) e))
+refuses size f r states e zeros =
+    record { answer = sym (ap answerOf e); filled = zeros ∙ sym (ap (λ (x : Found (Unit {0})). statesAfter size x) e) }
+
+pub as-replayed : (f g : Found (Unit {0})) (size : ℕ) (r : Answer) (states : List ℕ) → f ≡ g → Replayed g size r states → Replayed f size r states
+as-replayed f g size r states e x = subst (λ (y : Found (Unit {0})). Replayed y size r states) (sym e) x
 
 -- ---- Row 5
 
-all-ran : (o : Option ℕ) → All ≡ ranOf o → o ≡ none
-all-ran none e = refl
-all-ran (some i) e = let z : _≡_ {A = ℕ} 0 1 = cc in absurd (omega arith)
-
-pub stopped-at : (o : Option ℕ) (i : ℕ) → Stopped i ≡ ranOf o → o ≡ some i
-stopped-at none i e = let z : _≡_ {A = ℕ} 0 1 = cc in absurd (omega arith)
-stopped-at (some j) i e = let same : j ≡ i = cc in ap (λ (n : ℕ). some n) same
-
 module _ (k : Case) (r : Ran) (before after : List ℕ) (ran : RanAs k r before after) where
-  -- Where all cues apply, states 0 to k are written.
-  pub ran-all : r ≡ All → (stopOf k ≡ none) × (after ≡ putRows before 0 (statesOf k))
-  ran-all e =
-      let runs = all-ran (stopOf k) (sym e ∙ ran .answer) in
-      (runs, ran .written ∙ ap (λ (o : Option ℕ). putRows before 0 (reached o (statesOf k))) runs)
-
   runs : (o : Option ℕ) → stopOf k ≡ o → replayRun k ≡ (unless (Inapplicable (k .planLine)) o >> found (k, tt))
   unfolding replayRun fromRun planRuns
   runs o e = ap (λ (x : Option ℕ). _>>_ {B = Case × Unit {0}} (unless (Inapplicable (k .planLine)) x) (found (k, tt))) e
@@ -71,14 +52,15 @@ module _ (k : Case) (r : Ran) (before after : List ℕ) (ran : RanAs k r before 
 
   -- "Accepted: k and the node count n come back; the state list holds states 0 to k [..]; the rest is zero."
   pub run-passes : (h : Header) (size : ℕ) → r ≡ All → h ≡ k .head → before ≡ replicate size 0 → Each Worded (statesOf k)
-      → (Accepted (h .cues) (h .nodes) ≡ answerOf (replayRun k)) × (after ≡ statesAfter size (replayRun k))
+      → Replayed (replayRun k) size (Accepted (h .cues) (h .nodes)) after
   unfolding statesAfter
   run-passes h size e q zeros worded =
-      let passes = runs none (ran-all e .0) in (
-        ap (λ (x : Header). Accepted (x .cues) (x .nodes)) q ∙ sym (ap answerOf passes),
-        ran-all e .1 ∙ ap (λ (l : List ℕ). putRows l 0 (statesOf k)) zeros ∙ rows-fill size (statesOf k) worded
-            ∙ sym (ap (λ (x : Found (Unit {0})). statesAfter size x) passes),
-      )
+      let passes = runs none (ran-all k r before after ran e .0) in
+      record {
+        answer = ap (λ (x : Header). Accepted (x .cues) (x .nodes)) q ∙ sym (ap answerOf passes);
+        filled = ran-all k r before after ran e .1 ∙ ap (λ (l : List ℕ). putRows l 0 (statesOf k)) zeros ∙ rows-fill size (statesOf k) worded
+            ∙ sym (ap (λ (x : Found (Unit {0})). statesAfter size x) passes);
+      }
 
 -- ---- Rows 2 to 4
 
@@ -97,44 +79,40 @@ text-short text h = text-is text false (le-ltb textMost (length text) h)
 pub text-long : (text : List ℕ) → textMost < length text → replayText text ≡ refused LongText
 text-long text h = text-is text true (lt-ltb textMost (length text) h)
 
-pub text-reads : (text directory : List ℕ) (h : Header) (initial plan : ℕ) → length text ≤ textMost → Left text directory h initial plan
-    → replayText text ≡ replayRun (caseOf text)
-unfolding replayRun
-text-reads text directory h initial plan short left = text-short text short ∙ ap thenRun (left .reads)
-
-module _ (text directory : List ℕ) (r : CaseRead) (as-read : ReadsAs text (readCase text) r directory) where
-  pub text-refused : (a : Answer) → length text ≤ textMost → r ≡ CaseRefused a → replayText text ≡ refused a
-  text-refused a short e = go (readCase text) refl as-read
+module _ (text fields directory : List ℕ) (r : CaseRead) (as-read : ReadsAs (readCase text) r fields directory) (short : length text ≤ textMost) where
+  pub text-refused : (a : Answer) → r ≡ CaseRefused a → replayText text ≡ refused a
+  text-refused a e = go (readCase text) refl as-read
     where
-      go : (x : Result Case) → readCase text ≡ x → ReadsAs text x r directory → replayText text ≡ refused a
+      go : (x : Result Case) → readCase text ≡ x → ReadsAs x r fields directory → replayText text ≡ refused a
       go (found k) q w = let z : _≡_ {A = ℕ} 0 1 = cc (w .3, e) in absurd (omega arith)
       go (refused b) q w =
           let same : b ≡ a = cc in
           text-short text short ∙ ap thenRun q ∙ ap (λ (x : Answer). refused x) same
 
-  -- What reading left, and the number of the P line.
-  pub left-by : (h : Header) (l : ℕ) (i p ns : Cursor) → directorySize ≤ length directory → r ≡ CaseIs h l i p ns
-      → Left text directory h (i .at) (p .at) × (l ≡ caseOf text .planLine)
+  -- What reading left, of the case that was read.
+  pub left-by : (h : Header) (l i p ns : ℕ) → directorySize ≤ length directory → r ≡ CaseIs h l i p ns
+      → (k : Case) × Left k fields directory h i p × (l ≡ k .planLine) × (replayText text ≡ replayRun k)
+  unfolding replayRun
   left-by h l i p ns long e = go (readCase text) refl as-read
     where
-      go : (x : Result Case) → readCase text ≡ x → ReadsAs text x r directory → Left text directory h (i .at) (p .at) × (l ≡ caseOf text .planLine)
+      go : (x : Result Case) → readCase text ≡ x → ReadsAs x r fields directory
+          → (k : Case) × Left k fields directory h i p × (l ≡ k .planLine) × (replayText text ≡ replayRun k)
       go (found k) q w =
-          let here : caseOf text ≡ k = case-is text k q in
           let same : CaseIs h l i p ns ≡ CaseIs (k .head) (k .planLine) (w .0) (w .1) (w .2) = sym e ∙ w .3 in
           let head : h ≡ k .head = cc in
           let line : l ≡ k .planLine = cc in
-          let first : i ≡ w .0 = cc in
-          let cues : p ≡ w .1 = cc in (
+          let first : w .0 ≡ i = cc in
+          let cues : w .1 ≡ p = cc in (
+            k,
             record {
-              nodes = w .2 .at;
-              reads = q ∙ ap (λ (c : Case). found c) (sym here);
-              head = head ∙ ap (λ (c : Case). c .head) (sym here);
+              nodes = w .2;
+              head = head;
               long = long;
-              finds = subst (λ (c : Case). Finds text c directory (i .at) (p .at) (w .2 .at)) (sym here)
-                  (subst (λ (x : Cursor). Finds text k directory (x .at) (p .at) (w .2 .at)) (sym first)
-                  (subst (λ (x : Cursor). Finds text k directory (w .0 .at) (x .at) (w .2 .at)) (sym cues) (w .4)));
+              read = record { text = text; short = short; reads = q };
+              finds = transport (λ j. Finds k fields directory (first j) (cues j) (w .2)) (w .5);
             },
-            line ∙ ap (λ (c : Case). c .planLine) (sym here),
+            line,
+            text-short text short ∙ ap thenRun q,
           )
       go (refused b) q w = let z : _≡_ {A = ℕ} 0 1 = cc in absurd (omega arith)
 
@@ -157,3 +135,9 @@ module _ (text : List ℕ) (s w : ℕ) where
 
   pub lists-long : stateNeed ≤ s → workNeed ≤ w → replay (replayLists s w) text ≡ replayText text
   lists-long h g = rows-one false false (le-ltb s stateNeed h) (le-ltb w workNeed g)
+
+-- ---- Room
+
+-- Over any length, so that nothing computes with a long list.
+pub roomy-zeros : (text : List ℕ) (n : ℕ) → length text < 2 * n → Roomy text (replicate n 0)
+roomy-zeros text n h = let e = length-replicate {A = ℕ} n 0 in omega arith

@@ -1,51 +1,21 @@
--- Running the plan of a case that was read. Assumes nothing.
+-- The checks of the replay call. Assumes nothing.
 use mathlib.Core.Path.{_≡_}
 use mathlib.Core.List.{List}
-use mathlib.Core.Option.{Option, none, some}
-use Prim.Native.Nat.{ℕ, _≤_}
-use lib.ListN.{length, take}
-use Rattle.rules.specs.declared.Header.{Header}
-use Rattle.rules.specs.State.{State, firstStop}
+use Prim.Native.Nat.{ℕ}
 use Rattle.rules.specs.Result.{found}
-use Rattle.rules.specs.Case.{Case, readCase}
-use Rattle.rules.specs.Verdict.{Found, statesOf}
+use Rattle.rules.specs.Case.{Case}
+use Rattle.rules.specs.declared.Answer.{Answer}
+use Rattle.rules.specs.Verdict.{Found, answerOf, statesAfter}
 use Rattle.rules.proofs.Judgement.Rows.{fromRun, fromText}
-use Rattle.reading.specs.Directory.{Finds, directorySize}
-use Rattle.reading.specs.TheCase.{caseOf}
-use Rattle.rows.specs.Rows.{putRows}
-use Rattle.replay.specs.declared.running.Ran.{Ran}
-use Rattle.replay.specs.declared.running.Ran.the-variants.{All, Stopped}
 
--- What reading left: the text reads as its case, whose header is h, and the directory finds its lines.
-pub record Left (text directory : List ℕ) (h : Header) (initial plan : ℕ) : Type 0 where
-  pub nodes : ℕ
-  pub reads : readCase text ≡ found (caseOf text)
-  pub head : h ≡ caseOf text .head
-  pub long : directorySize ≤ length directory
-  pub finds : Finds text (caseOf text) directory initial plan nodes
-
--- All cues apply; or the first that doesn't.
-abbrev pub ranOf : Option ℕ → Ran
-ranOf none = All
-ranOf (some i) = Stopped i
-
--- The first cue of a case that doesn't apply.
-abbrev pub stopOf : Case → Option ℕ
-stopOf k = firstStop (k .actions) (k .plan) (k .initial) 1
-
--- Of states 0 to k, those that a run reaches: all of them, or states 0 to i - 1 where cue i is the first that doesn't apply.
-abbrev pub reached : Option ℕ → List State → List State
-reached none ss = ss
-reached (some i) ss = take i ss
-
--- What running the plan of a case answers, and what it makes of a state list: the states that it reaches in turn, all after them as it was.
-pub record RanAs (k : Case) (r : Ran) (before after : List ℕ) : Type 0 where
-  pub answer : r ≡ ranOf (stopOf k)
-  pub written : after ≡ putRows before 0 (reached (stopOf k) (statesOf k))
-
--- The checks of the replay call from row 5 on, and from row 2 on.
+-- From row 5 on, and from row 2 on.
 unfoldable pub replayRun : Case → Found (Unit {0})
 replayRun k = fromRun (λ c. found (c, tt)) k
 
 unfoldable pub replayText : List ℕ → Found (Unit {0})
 replayText text = fromText (λ c. found (c, tt)) text
+
+-- What the call answers, and what a state list of so many numbers holds then.
+pub record Replayed (f : Found (Unit {0})) (size : ℕ) (r : Answer) (states : List ℕ) : Type 0 where
+  pub answer : r ≡ answerOf f
+  pub filled : states ≡ statesAfter size f

@@ -1,99 +1,116 @@
--- The state list after a row is written: state i is what was written, the others are as they were; and states written in turn to a list
--- of zeros fill it as 01 says. Assumes nothing.
+-- A list after a stretch of it is written: that stretch is what was written, the others are as they were; and states written in turn to a
+-- list of zeros fill it as 01 says. Assumes nothing.
 use mathlib.Core.Path.{_≡_, refl, sym, ap, ap₂, _∙_}
 use mathlib.Core.Logic.{_≢_}
 use mathlib.Core.List.{List, [], _∷_, _++_, append-assoc, flatten}
 use mathlib.Core.List.{List·Memᴰ·head as here}
 use Prim.Native.Nat.{ℕ, zero, suc, _+_, _-_, _*_, _≤_, _<_}
+use native.Mathlib.Nat.{mul-le-mul-left, mul-add, mul-one}
 use native.Mathlib.Decide.{decLt}
 use native.Mathlib.Omega.{arith}
 use lib.ListN.{length, getD, take, drop, replicate, length-append, length-drop, take-append-drop}
-use lib.Seq.{take-at, drop-at, drop-drop, take-append-le, drop-append-le, drop-append-add, length-take-le, ext-getD}
-use Rattle.rules.specs.State.{State, wordCount}
+use lib.Seq.{take-at, drop-at, drop-drop, take-append-le, drop-append-le, drop-append-add, length-take-le, getD-take, getD-drop, ext-getD}
+use Rattle.rules.specs.State.{State, wordCount, word}
 use Rattle.rules.specs.Verdict.{filled}
 use Rattle.rules.proofs.Worded.{Worded}
-use Rattle.rules.proofs.Judgement.Each.{Each, each-tail}
-use Rattle.rows.specs.Rows.{putRow, rowAt, putRows}
+use Rattle.rules.specs.Refusals.{Each}
+use Rattle.rules.proofs.Judgement.Each.{each-tail}
+use Rattle.rows.specs.Rows.{stretchAt, putStretch, putRow, putRows}
 
 -- A list that agrees with another of its length below that length is the other: for the loop that writes a row.
 pub all-written : (ws l : List ℕ) (n : ℕ) → length l ≡ n → length ws ≡ n → ((k : ℕ) → k < n → getD l k 0 ≡ getD ws k 0) → l ≡ ws
 all-written ws l n e w all = ext-getD 0 l ws (e ∙ sym w) (λ k h. all k (omega arith))
 
--- ---- One row
+-- ---- One stretch, of any number of numbers
 
--- The middle part from the start of row i on: what stands there, and the list with a state put there.
-module _ (l : List ℕ) (i from : ℕ) (e : from ≡ wordCount * i) where
-  pub part-row : take (from + wordCount - from) (drop from l) ≡ rowAt l i
-  unfolding rowAt
-  part-row =
-      let k : from + wordCount - from ≡ wordCount = omega arith in
-      ap (λ (n : ℕ). take n (drop from l)) k ∙ ap (λ (n : ℕ). take wordCount (drop n l)) e
+-- An earlier stretch ends before a later one starts.
+stretch-ends : (n i j : ℕ) → i < j → n * i + n ≤ n * j
+stretch-ends n i j h =
+    let m : n * (i + 1) ≤ n * j = mul-le-mul-left n (omega arith) in
+    let e : n * (i + 1) ≡ n * i + n * 1 = mul-add n i 1 in
+    let o : n * 1 ≡ n = mul-one n in
+    omega arith
 
-  pub part-put : (s row : List ℕ) → row ≡ s → take from l ++ (row ++ drop (from + wordCount - from) (drop from l)) ≡ putRow l i s
-  unfolding putRow
-  part-put s row same =
-      let k : from + wordCount - from ≡ wordCount = omega arith in
-      ap (λ (n : ℕ). take from l ++ (row ++ drop n (drop from l))) k
-      ∙ ap (λ (x : List ℕ). take from l ++ (row ++ x)) (drop-drop wordCount from l)
-      ∙ ap₂ (λ (n : ℕ) (x : List ℕ). take n l ++ (x ++ drop (n + wordCount) l)) e same
+pub length-stretch : (n : ℕ) (l : List ℕ) (i : ℕ) → n * i + n ≤ length l → length (stretchAt n l i) ≡ n
+unfolding stretchAt
+length-stretch n l i h = length-take-le n (drop (n * i) l) (omega (arith, length-drop (n * i) l))
 
--- A row within the first of two lists.
-in-front : (a b : List ℕ) (j : ℕ) → wordCount * j + wordCount ≤ length a → rowAt (a ++ b) j ≡ rowAt a j
-unfolding rowAt wordCount
-in-front a b j h =
-    let m : wordCount ≤ length (drop (wordCount * j) a) = omega (arith, length-drop (wordCount * j) a) in
-    ap (take wordCount) (drop-append-le (wordCount * j) a b (omega arith)) ∙ take-append-le wordCount (drop (wordCount * j) a) b m
+-- Word i of stretch j.
+pub word-stretch : (n : ℕ) (l : List ℕ) (j i : ℕ) → i < n → word (stretchAt n l j) i ≡ word l (n * j + i)
+unfolding stretchAt
+word-stretch n l j i h = getD-take n (drop (n * j) l) i 0 h ∙ getD-drop (n * j) l i 0
 
-module _ (l : List ℕ) (i : ℕ) (s : State) (h : wordCount * i + wordCount ≤ length l) (w : length s ≡ wordCount) where
-  front : length (take (wordCount * i) l) ≡ wordCount * i
-  unfolding wordCount
-  front = length-take-le (wordCount * i) l (omega arith)
+-- The middle part from the start of stretch i on: what stands there, and the list with other numbers put there.
+module _ (n : ℕ) (l : List ℕ) (i from : ℕ) (e : from ≡ n * i) where
+  pub part-at : take (from + n - from) (drop from l) ≡ stretchAt n l i
+  unfolding stretchAt
+  part-at =
+      let k : from + n - from ≡ n = omega arith in
+      ap (λ (m : ℕ). take m (drop from l)) k ∙ ap (λ (m : ℕ). take n (drop m l)) e
 
-  -- State i is what was written.
-  pub row-put : rowAt (putRow l i s) i ≡ s
-  unfolding putRow rowAt
-  row-put =
-      ap (take wordCount) (drop-at (take (wordCount * i) l) (s ++ drop (wordCount * i + wordCount) l) (wordCount * i) front)
-      ∙ take-at s (drop (wordCount * i + wordCount) l) wordCount w
+  pub part-put : (s part : List ℕ) → part ≡ s → take from l ++ (part ++ drop (from + n - from) (drop from l)) ≡ putStretch n l i s
+  unfolding putStretch
+  part-put s part same =
+      let k : from + n - from ≡ n = omega arith in
+      ap (λ (m : ℕ). take from l ++ (part ++ drop m (drop from l))) k
+      ∙ ap (λ (x : List ℕ). take from l ++ (part ++ x)) (drop-drop n from l)
+      ∙ ap₂ (λ (m : ℕ) (x : List ℕ). take m l ++ (x ++ drop (m + n) l)) e same
 
-  pub put-length : length (putRow l i s) ≡ length l
-  unfolding putRow wordCount
-  put-length = simp (length-append, length-drop) (omega (arith, front))
+-- A stretch within the first of two lists.
+in-front : (n : ℕ) (a b : List ℕ) (j : ℕ) → n * j + n ≤ length a → stretchAt n (a ++ b) j ≡ stretchAt n a j
+unfolding stretchAt
+in-front n a b j h =
+    let m : n ≤ length (drop (n * j) a) = omega (arith, length-drop (n * j) a) in
+    ap (take n) (drop-append-le (n * j) a b (omega arith)) ∙ take-append-le n (drop (n * j) a) b m
 
-  before : (j : ℕ) → j < i → rowAt (putRow l i s) j ≡ rowAt l j
-  unfolding putRow wordCount
+module _ (n : ℕ) (l : List ℕ) (i : ℕ) (s : List ℕ) (h : n * i + n ≤ length l) (w : length s ≡ n) where
+  front : length (take (n * i) l) ≡ n * i
+  front = length-take-le (n * i) l (omega arith)
+
+  -- Stretch i is what was written.
+  pub at-put : stretchAt n (putStretch n l i s) i ≡ s
+  unfolding putStretch stretchAt
+  at-put = ap (take n) (drop-at (take (n * i) l) (s ++ drop (n * i + n) l) (n * i) front) ∙ take-at s (drop (n * i + n) l) n w
+
+  pub length-put : length (putStretch n l i s) ≡ length l
+  unfolding putStretch
+  length-put = simp (length-append, length-drop) (omega (arith, front))
+
+  before : (j : ℕ) → j < i → stretchAt n (putStretch n l i s) j ≡ stretchAt n l j
+  unfolding putStretch
   before j g =
-      in-front (take (wordCount * i) l) (s ++ drop (wordCount * i + wordCount) l) j (omega (arith, front))
-      ∙ sym (in-front (take (wordCount * i) l) (drop (wordCount * i) l) j (omega (arith, front)))
-      ∙ ap (λ (x : List ℕ). rowAt x j) (take-append-drop (wordCount * i) l)
+      in-front n (take (n * i) l) (s ++ drop (n * i + n) l) j (omega (arith, front, stretch-ends n j i g))
+      ∙ sym (in-front n (take (n * i) l) (drop (n * i) l) j (omega (arith, front, stretch-ends n j i g)))
+      ∙ ap (λ (x : List ℕ). stretchAt n x j) (take-append-drop (n * i) l)
 
-  after : (j : ℕ) → i < j → rowAt (putRow l i s) j ≡ rowAt l j
-  unfolding putRow rowAt wordCount
+  after : (j : ℕ) → i < j → stretchAt n (putStretch n l i s) j ≡ stretchAt n l j
+  unfolding putStretch stretchAt
   after j g =
-      let a : wordCount * j ≡ length (take (wordCount * i) l) + (wordCount * j - wordCount * i) = omega (arith, front) in
-      let b : wordCount * j - wordCount * i ≡ length s + (wordCount * j - wordCount * i - wordCount) = omega arith in
-      let c : wordCount * i + wordCount + (wordCount * j - wordCount * i - wordCount) ≡ wordCount * j = omega arith in
-      ap (take wordCount)
-      (ap (λ (n : ℕ). drop n (putRow l i s)) a
-      ∙ drop-append-add (take (wordCount * i) l) (s ++ drop (wordCount * i + wordCount) l) (wordCount * j - wordCount * i)
-      ∙ ap (λ (n : ℕ). drop n (s ++ drop (wordCount * i + wordCount) l)) b
-      ∙ drop-append-add s (drop (wordCount * i + wordCount) l) (wordCount * j - wordCount * i - wordCount)
-      ∙ drop-drop (wordCount * j - wordCount * i - wordCount) (wordCount * i + wordCount) l ∙ ap (λ (n : ℕ). drop n l) c)
+      let r : n * i + n ≤ n * j = stretch-ends n i j g in
+      let a : n * j ≡ length (take (n * i) l) + (n * j - n * i) = omega (arith, front) in
+      let b : n * j - n * i ≡ length s + (n * j - n * i - n) = omega arith in
+      let c : n * i + n + (n * j - n * i - n) ≡ n * j = omega arith in
+      ap (take n)
+      (ap (λ (m : ℕ). drop m (putStretch n l i s)) a
+      ∙ drop-append-add (take (n * i) l) (s ++ drop (n * i + n) l) (n * j - n * i)
+      ∙ ap (λ (m : ℕ). drop m (s ++ drop (n * i + n) l)) b
+      ∙ drop-append-add s (drop (n * i + n) l) (n * j - n * i - n)
+      ∙ drop-drop (n * j - n * i - n) (n * i + n) l ∙ ap (λ (m : ℕ). drop m l) c)
 
-  -- Any other state is as it was.
-  pub other-put : (j : ℕ) → j ≢ i → rowAt (putRow l i s) j ≡ rowAt l j
-  other-put j n = go (decLt j i) (decLt i j)
+  -- Any other stretch is as it was.
+  pub other-put : (j : ℕ) → j ≢ i → stretchAt n (putStretch n l i s) j ≡ stretchAt n l j
+  other-put j d = go (decLt j i) (decLt i j)
     where
-      go : Dec (j < i) → Dec (i < j) → rowAt (putRow l i s) j ≡ rowAt l j
+      go : Dec (j < i) → Dec (i < j) → stretchAt n (putStretch n l i s) j ≡ stretchAt n l j
       go (yes g) _ = before j g
       go (no _) (yes g) = after j g
-      go (no g) (no k) = let z : j ≡ i = omega arith in absurd (n z)
+      go (no g) (no k) = let z : j ≡ i = omega arith in absurd (d z)
 
 -- ---- States in turn
 
 -- A row that is written right after the first rows.
 put-after : (p rest : List ℕ) (i : ℕ) (s : State) → length p ≡ wordCount * i → putRow (p ++ rest) i s ≡ (p ++ s) ++ drop wordCount rest
-unfolding putRow
+unfolding putRow putStretch
 put-after p rest i s e =
     let n : wordCount * i + wordCount ≡ length p + wordCount = omega arith in
     ap₂ (λ (x y : List ℕ). x ++ (s ++ y)) (take-at p rest (wordCount * i) e)

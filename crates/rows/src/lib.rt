@@ -3,9 +3,9 @@
 ghost use mathlib.Core.Path.{_≡_};
 ghost use Prim.Native.Nat.{_+_, _*_, _≤_};
 ghost use lib.ListN.{length, replicate};
-ghost use Rattle.rules.specs.State.{wordCount, member};
+ghost use Rattle.rules.specs.State.{wordCount};
 ghost use Rattle.index.specs.Spans.{stateOf};
-ghost use Rattle.rows.specs.Rows.{putRow, rowAt};
+ghost use Rattle.rows.specs.Rows.{putRow, inRow};
 use index::StateNumber;
 use state::State;
 use state::WORDS;
@@ -42,7 +42,7 @@ pub fn put_row(states: &mut [u64], l: StateNumber, s: State)
 // Whether proposition p is in state l: the row for state l is lent on likewise.
 pub fn holds_at(states: &[u64], l: StateNumber, p: u32) -> bool
     requires { ⌜ wordCount * stateOf l + wordCount ≤ length (now states) ⌝ }
-    ensures { λ r. ⌜ r ≡ member (rowAt (now (states .entry)) (stateOf l)) p ⌝ }
+    ensures { λ r. ⌜ r ≡ inRow (now (states .entry)) p (stateOf l) ⌝ }
 {
     let from = row_start(l);
     let to = from + WORDS;

@@ -5,6 +5,9 @@ pub mod Members
 pub mod Spans
 pub mod Worded
 pub mod Outcomes
+-- The fields of a set that was read, and those of a worked case.
+pub mod Fields
+pub mod Worked
 -- The statements of the rules beside the tests of the verdict.
 pub mod Statements
 pub mod Reports

@@ -17,9 +17,13 @@ insert-all : (s : State) (ps : List ℕ) → length (insertAll s ps) ≡ length 
 insert-all s [] = refl
 insert-all s (p ∷ ps) = insert-all (insert s p) ps ∙ length-insert s p
 
+pub all-worded : (ps : List ℕ) → Worded (insertAll noPropositions ps)
+unfolding noPropositions
+all-worded ps = insert-all noPropositions ps ∙ length-tabulate wordCount 0 (λ i. 0)
+
 pub set-worded : (values : List Value) (i : ℕ) → Worded (setAt values i)
-unfolding setAt noPropositions
-set-worded values i = insert-all noPropositions (membersAt values i) ∙ length-tabulate wordCount 0 (λ i. 0)
+unfolding setAt
+set-worded values i = all-worded (membersAt values i)
 
 pub states-worded : (actions : List Action) (plan : List ℕ) (s : State) → Worded s → Each Worded (states actions plan s)
 unfolding states

@@ -6,6 +6,7 @@ pub mod Result
 pub mod Text
 pub mod Table
 pub mod Case
+pub mod Fields
 pub mod Tree
 pub mod Constraint
 pub mod Verdict

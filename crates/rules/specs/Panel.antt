@@ -20,11 +20,11 @@ use Rattle.rules.specs.Verdict.{Found, check, checkLists, answerOf}
 use Rattle.rules.specs.Line.{printed}
 
 -- The bytes of a text of characters below 128.
-abbrev bytes : String → List ℕ
+abbrev pub bytes : String → List ℕ
 bytes String.[] = []
 bytes (String._∷_ ch s) = code ch ∷ bytes s
 
-abbrev textOf : List String → List ℕ
+abbrev pub textOf : List String → List ℕ
 textOf [] = []
 textOf (l ∷ ls) = bytes l ++ (code "\n" ∷ textOf ls)
 
@@ -42,7 +42,7 @@ pub record Panel : Type 0 where
 abbrev panel : String → String → String → List String → String → Panel
 panel header initial plan nodes answer = record { lines = header ∷ initial ∷ model ++ (plan ∷ nodes); answer = answer }
 
-abbrev caseA : Panel
+abbrev pub caseA : Panel
 caseA = panel "N,3,3,2,3,3,2,4" "I,1,0" "P,1,2" ("D,0" ∷ "E,2,0" ∷ "L,1,1" ∷ "L,2,2" ∷ []) "Y,2,4"
 
 abbrev pub table : List Panel

@@ -5,12 +5,14 @@ use mathlib.Core.List.{List, [], _∷_}
 use mathlib.Core.Bool.{Bool, true, false}
 use Prim.Native.Nat.{ℕ, _+_, _-_, _*_, _≤_, _<_}
 use native.Mathlib.Numerals.{add-one}
+use native.Mathlib.Decide.{decLt}
+use native.Mathlib.Omega.{arith}
 use lib.ListN.{length, getD, drop, drop-of-length-le}
 use lib.Seq.{drop-cons}
 use borrow.Author.Tests.{eq-eqb, ne-eqb}
 use Rattle.rules.specs.Text.{isFeed, isComma, isDigit, endsField, fieldOf, notPlain, missing, numberIn, numberAfter, numberAt, letter, noLetter, letterOf, letterAt, ended, surplus, endingOf, endingAt}
 use Rattle.text.specs.Scan.{isOver, closed, continued}
-use Rattle.text.proofs.Scan.{field-over, field-on, over-here, letter-alone, letter-crowded, continued-over, step-digit, step-other, first-none, begin-zero, begin-digit, begin-other}
+use Rattle.text.proofs.Scan.{digit-range, digit-inside, field-over, field-on, over-here, closed-on, letter-alone, letter-crowded, step-digit, step-other, begin-zero, begin-digit, begin-other}
 
 module _ (t : List ℕ) (i : ℕ) where
   pub drop-out : length t ≤ i → drop i t ≡ []
@@ -23,15 +25,6 @@ module _ (t : List ℕ) (i : ℕ) where
   -- ---- the text is over
 
   module _ (h : length t ≤ i) where
-    pub over-out : isOver (fieldOf (drop i t)) ≡ true
-    over-out = ap (λ (l : List ℕ). isOver (fieldOf l)) (drop-out t i h)
-
-    pub digits-out : (v : ℕ) → v ≤ 4294967295 → continued v i (fieldOf (drop i t)) ≡ closed v i (fieldOf (drop i t))
-    digits-out v small = rw (drop-out t i h) (continued-over v i small)
-
-    pub plain-out : numberIn i (fieldOf (drop i t)) ≡ notPlain
-    plain-out = ap (λ (l : List ℕ). numberIn i (fieldOf l)) (drop-out t i h) ∙ first-none i
-
     pub number-out : numberAt t i ≡ missing
     unfolding numberAt
     number-out = ap (numberAfter i) (drop-out t i h)
@@ -116,3 +109,27 @@ module _ (t : List ℕ) (i : ℕ) where
 
       pub letter-more : isOver (fieldOf (drop (i + 1) t)) ≡ false → letterAt t i ≡ noLetter
       letter-more o = letter-on ∙ letter-crowded i (getD t i 0) (fieldOf (drop (i + 1) t)) o
+
+-- By the byte after the first digit: none, or another one.
+module _ (t : List ℕ) (i : ℕ) (h : i < length t) (further : i + 1 < length t) (d : isDigit (getD t i 0) ≡ true) where
+  pub plain-one : isDigit (getD t (i + 1) 0) ≡ false → numberIn i (fieldOf (drop i t)) ≡ closed (getD t i 0 - 48) (i + 1) (fieldOf (drop (i + 1) t))
+  plain-one e = go (digit-range (getD t i 0) d) (decLt 48 (getD t i 0))
+    where
+      go : (48 ≤ getD t i 0) × (getD t i 0 ≤ 57) → Dec (48 < getD t i 0)
+          → numberIn i (fieldOf (drop i t)) ≡ closed (getD t i 0 - 48) (i + 1) (fieldOf (drop (i + 1) t))
+      go r (yes n) = plain-digit t i h d (λ z. omega arith) ∙ digits-stop t (i + 1) further (getD t i 0 - 48) e (omega (arith, r .1))
+      go r (no n) =
+          let v : 0 ≡ getD t i 0 - 48 = omega arith in
+          plain-zero t i h d (omega (arith, r .0)) ∙ ap (λ (k : ℕ). closed k (i + 1) (fieldOf (drop (i + 1) t))) v
+
+  pub plain-led : getD t i 0 ≡ 48 → isDigit (getD t (i + 1) 0) ≡ true → numberIn i (fieldOf (drop i t)) ≡ notPlain
+  plain-led z e =
+      plain-zero t i h d z
+      ∙ closed-on 0 (i + 1) (fieldOf (drop (i + 1) t)) (over-in t (i + 1) further ∙ digit-inside (getD t (i + 1) 0) e)
+
+  pub plain-two : (getD t i 0 ≡ 48 → ⊥) → isDigit (getD t (i + 1) 0) ≡ true
+      → numberIn i (fieldOf (drop i t)) ≡ continued ((getD t i 0 - 48) * 10 + (getD t (i + 1) 0 - 48)) (i + 2) (fieldOf (drop (i + 2) t))
+  plain-two n e =
+      let v = (getD t i 0 - 48) * 10 + (getD t (i + 1) 0 - 48) in
+      let two : i + 1 + 1 ≡ i + 2 = omega arith in
+      plain-digit t i h d n ∙ (digits-on t (i + 1) further (getD t i 0 - 48) e ∙ ap (λ (k : ℕ). continued v k (fieldOf (drop k t))) two)

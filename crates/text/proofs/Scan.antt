@@ -26,7 +26,7 @@ unfolding isDigit
 digit-range b d = (leb-true 48 b (and-left (leb 48 b) (leb b 57) d), leb-true b 57 (and-right (leb 48 b) (leb b 57) d))
 
 -- A digit ends no field.
-digit-inside : (b : ℕ) → isDigit b ≡ true → endsField b ≡ false
+pub digit-inside : (b : ℕ) → isDigit b ≡ true → endsField b ≡ false
 unfolding endsField isComma isFeed
 digit-inside b d =
     let r = digit-range b d in

@@ -1,13 +1,14 @@
 // The fields of a case (01, "The case text"): "Lines end in a line feed; fields are in fixed order, parted by commas, no quoting."
-// Every answer is that of the definitions of `rules`, for any text and any place. Assumes nothing.
+// Every answer is that of the definitions of `rules`, for any text and any place that a line feed follows: what a scan looks for ends it
+// before the text does, so that no byte costs a test of the text's length. Assumes nothing.
 ghost use mathlib.Core.Path.{_≡_};
-ghost use mathlib.Core.Bool.{true};
-ghost use Prim.Native.Nat.{ℕ, _-_, _≤_};
+ghost use mathlib.Core.Bool.{true, false};
+ghost use Prim.Native.Nat.{ℕ, _+_, _-_, _≤_};
 ghost use lib.Dec.{ltb};
-ghost use lib.ListN.{length, drop};
+ghost use lib.ListN.{length, drop, getD};
 ghost use Rattle.rules.specs.Text.{isDigit, endsField, fieldOf, numberIn, numberAt, letterAt, endingAt, feedFollows};
 ghost use Rattle.text.specs.Cursor.{cursor, asField, asLetter, asEnding};
-ghost use Rattle.text.specs.Scan.{isOver, closed, continued};
+ghost use Rattle.text.specs.Scan.{closed, continued};
 
 // A place in the text: "fields are in fixed order, parted by commas, no quoting", so a line is read from left to right, each
 // method giving the field that it read with the cursor for the next. It stands at the start of a line, or at the byte that ended
@@ -56,23 +57,12 @@ fn digit_value(b: u8) -> u64
     (b - b'0') as u64
 }
 
-// Whether no byte of a field stands here: the field is over, or the text is.
-fn is_over(text: &[u8], at: usize) -> bool
-    ensures { λ r. ⌜ r ≡ isOver (fieldOf (drop at (now (text .entry)))) ⌝ }
-{
-    if at < text.len() {
-        ends_field(text[at])
-    } else {
-        true
-    }
-}
-
 // The number `value`, where its field is over here.
 fn close(text: &[u8], at: usize, value: u64) -> Field
-    requires { ⌜ value ≤ 4294967295 ⌝ }
+    requires { ⌜ (value ≤ 4294967295) × (feedFollows (now text) at ≡ true) ⌝ }
     ensures { λ r. ⌜ r ≡ asField (closed value at (fieldOf (drop at (now (text .entry))))) ⌝ }
 {
-    if is_over(text, at) {
+    if ends_field(text[at]) {
         Field::Number {
             value: value as u32,
             next: Cursor { at },
@@ -82,41 +72,48 @@ fn close(text: &[u8], at: usize, value: u64) -> Field
     }
 }
 
-// The number whose digits so far are `first`, which is not 0, and go on here. One load and three comparisons a digit.
+// The number whose digits so far are `first`, which is not 0, and go on here. One load and two comparisons a digit.
 fn digits(text: &[u8], from: usize, first: u64) -> Field
-    requires { ⌜ first ≤ 4294967295 ⌝ }
+    requires { ⌜ (first ≤ 4294967295) × (feedFollows (now text) from ≡ true) ⌝ }
     ensures { λ r. ⌜ r ≡ asField (continued first from (fieldOf (drop from (now (text .entry))))) ⌝ }
 {
     let mut at = from;
     let mut value = first;
-    while at < text.len() {
-        let b = text[at];
-        if is_digit(b) {
-            value = value * 10 + digit_value(b);
-            if 4294967295 < value {
-                return Field::NotPlain;
-            }
-            at += 1;
-        } else {
-            return close(text, at, value);
+    while is_digit(text[at]) {
+        value = value * 10 + digit_value(text[at]);
+        if 4294967295 < value {
+            return Field::NotPlain;
         }
+        at += 1;
     }
     close(text, at, value)
 }
 
-// The number that the field from here is. A leading zero is told from the first byte, so that the loop need not ask for it.
-fn plain(text: &[u8], from: usize) -> Field
+// The number whose first two digits stand here. A leading zero is told from the first.
+fn longer(text: &[u8], from: usize) -> Field
+    requires { ⌜ (isDigit (getD (now text) from 0) ≡ true) × (isDigit (getD (now text) (from + 1) 0) ≡ true) ⌝ }
+    requires { ⌜ feedFollows (now text) from ≡ true ⌝ }
     ensures { λ r. ⌜ r ≡ asField (numberIn from (fieldOf (drop from (now (text .entry))))) ⌝ }
 {
-    if text.len() <= from {
+    let b = text[from];
+    if b == b'0' {
         return Field::NotPlain;
     }
+    let value = digit_value(b) * 10 + digit_value(text[from + 1]);
+    digits(text, from + 2, value)
+}
+
+// The number that the field from here is: most have one digit or two, which need no test of the limit.
+fn plain(text: &[u8], from: usize) -> Field
+    requires { ⌜ feedFollows (now text) from ≡ true ⌝ }
+    ensures { λ r. ⌜ r ≡ asField (numberIn from (fieldOf (drop from (now (text .entry))))) ⌝ }
+{
     let b = text[from];
     if is_digit(b) {
-        if b == b'0' {
-            close(text, from + 1, 0)
+        if is_digit(text[from + 1]) {
+            longer(text, from)
         } else {
-            digits(text, from + 1, digit_value(b))
+            close(text, from + 1, digit_value(b))
         }
     } else {
         Field::NotPlain
@@ -130,21 +127,15 @@ impl Cursor {
         Cursor { at: 0 }
     }
 
-    // The letter of the line that starts here.
+    // The letter of the line that starts here, with a byte that ends no field.
     pub fn letter(self, text: &[u8]) -> Letter
+        requires { ⌜ (feedFollows (now text) (self .at) ≡ true) × (endsField (getD (now text) (self .at) 0) ≡ false) ⌝ }
         ensures { λ r. ⌜ r ≡ asLetter (letterAt (now (text .entry)) (self .at)) ⌝ }
     {
         let at = self.at;
-        if text.len() <= at {
-            return Letter::Wrong;
-        }
-        let byte = text[at];
-        if ends_field(byte) {
-            return Letter::Wrong;
-        }
-        if is_over(text, at + 1) {
+        if ends_field(text[at + 1]) {
             Letter::Byte {
-                byte,
+                byte: text[at],
                 next: Cursor { at: at + 1 },
             }
         } else {
@@ -154,12 +145,10 @@ impl Cursor {
 
     // The number after the comma here.
     pub fn number(self, text: &[u8]) -> Field
+        requires { ⌜ feedFollows (now text) (self .at) ≡ true ⌝ }
         ensures { λ r. ⌜ r ≡ asField (numberAt (now (text .entry)) (self .at)) ⌝ }
     {
         let at = self.at;
-        if text.len() <= at {
-            return Field::Missing;
-        }
         if text[at] == b',' {
             plain(text, at + 1)
         } else {
@@ -169,12 +158,10 @@ impl Cursor {
 
     // The start of the next line, past the line feed here.
     pub fn line_end(self, text: &[u8]) -> Ending
+        requires { ⌜ feedFollows (now text) (self .at) ≡ true ⌝ }
         ensures { λ r. ⌜ r ≡ asEnding (endingAt (now (text .entry)) (self .at)) ⌝ }
     {
         let at = self.at;
-        if text.len() <= at {
-            return Ending::Surplus;
-        }
         if text[at] == b'\n' {
             Ending::Line {
                 next: Cursor { at: at + 1 },

@@ -4,7 +4,7 @@ use mathlib.Core.Path.{_≡_, refl, sym, ap, _∙_}
 use mathlib.Core.Bool.{Bool, true, false, cond, _||_}
 use mathlib.Core.List.{List, _∷_}
 use mathlib.Core.Option.{Option, none, some}
-use Prim.Native.Nat.{ℕ, zero, suc, _+_, _-_, _≤_, _<_}
+use Prim.Native.Nat.{ℕ, zero, suc, _+_, _≤_, _<_}
 use native.Mathlib.Decide.{ℕ-discrete}
 use native.Mathlib.Numerals.{add-one}
 use native.Mathlib.Omega.{arith}
@@ -15,7 +15,7 @@ use lib.Seq.{slice, slice-cons, ext-getD, getD-set-same, getD-set-other}
 use Rattle.rules.specs.State.{tabulate}
 use Rattle.rules.specs.Tree.{isIn, leastUnclaimed}
 use Rattle.rules.proofs.Tables.{length-tabulate, getD-tabulate}
-use Rattle.tree.specs.Layout.{marksFrom, planFrom, marksOf, marksIn, planIn}
+use Rattle.tree.specs.Layout.{marksFrom, marksOf, marksIn}
 use Rattle.tree.specs.Marks.{leastUnmarked}
 use Rattle.tree.proofs.Stores.{slice-at}
 
@@ -68,9 +68,6 @@ module _ (k i : ℕ) (claimed w : List ℕ) (h : i < k) (m : marksIn k w ≡ mar
       go : (b : Bool) → (_≡_ {A = ℕ} (cond b 1 0) 0 → ⊥) → b ≡ true
       go true q = refl
       go false q = absurd (q refl)
-
-pub plan-at : (k i : ℕ) (plan w : List ℕ) → i < k → planIn k w ≡ plan → getD w (planFrom + i) 0 ≡ getD plan i 0
-plan-at k i plan w h e = slice-at planFrom (planFrom + k) w i (omega arith) ∙ ap (λ (l : List ℕ). getD l i 0) e
 
 -- ---- The least position without a mark
 

@@ -1,4 +1,4 @@
--- How a node's line fits: what the code reads of the node, and of the method that it names, settles the first step of the node's walk.
+-- How a node's line fits: what the code takes of the node, and of the method that it names, settles the first step of the node's walk.
 -- Assumes nothing.
 use mathlib.Core.Path.{_≡_, refl, sym, ap, ap₂, subst, _∙_}
 use mathlib.Core.Bool.{Bool, true, false, _&&_, not, and-false}
@@ -8,68 +8,24 @@ use native.Mathlib.Omega.{arith}
 use borrow.Author.Tests.{lt-ltb, le-leb, ltb-true, ltb-false, eqb-true, eqb-false, not-true}
 use lib.Dec.{eqb, leb, ltb}
 use lib.ListN.{length, getD, drop, drop-of-length-le}
-use lib.Seq.{drop-drop, drop-cons, getD-take}
+use lib.Seq.{drop-cons, getD-take}
 use Rattle.rules.specs.declared.Answer.{Answer}
 use Rattle.rules.specs.declared.Answer.the-variants.{WrongNode, TooDeep}
-use Rattle.rules.specs.Table as T
-use Rattle.rules.specs.Table.{Value, line}
 use Rattle.rules.specs.Result.{found, refused}
-use Rattle.rules.specs.Case.{NodeLine, D, E, L, Case, methodAt, noMethod, scalarAt, nodeOf, asNode, oneLine, many}
+use Rattle.rules.specs.Case.{NodeLine, D, E, L, Case, methodAt, noMethod}
 use Rattle.rules.specs.Tree.{Tree, empty, Walk, walkSubtasks, noSubtasks, isMethodOf, fits, ClaimTest, mayClaim, walkFitting, walkNode}
 use Rattle.rules.proofs.Judgement.Each.{each-at, both-true}
 use Rattle.rules.proofs.Judgement.Sound.{Sound, GoodMethod, GoodNode}
-use Rattle.reading.specs.declared.again.Again.{Again}
-use Rattle.reading.specs.Again.{asAgain, AgainAt}
-use Rattle.reading.specs.Directory.{methodsFrom}
+use Rattle.fields.specs.Directory.{methodsFrom}
 use Rattle.tree.specs.declared.fit.Place.{Place}
-use Rattle.tree.specs.declared.fit.Entry.{Entry}
-use Rattle.tree.specs.declared.fit.Entry.the-variants.{Task, Empty, Leaf}
 use Rattle.tree.specs.declared.fit.Fit.{Fit}
 use Rattle.tree.specs.declared.fit.Fit.the-variants.{Refused, Open, Empty as EmptyFit, Leaf as LeafFit}
-use Rattle.tree.specs.Layout.{marksFrom, directoryOf, NodesFrom}
-use Rattle.tree.specs.Fits.{lineAt, asEntry, nodeEntry, entryLine, headIn, pickFit, fitOf, deepFit, atLevel}
-use Rattle.tree.specs.Standing.{MethodsAt, nodeFrom, asTask, Beyond, Judged}
-use Rattle.tree.proofs.Numbers.{length-numbers, line-read, many-first, HeadIs, method-head}
+use Rattle.tree.specs.Layout.{marksFrom, directoryOf}
+use Rattle.tree.specs.Fits.{lineAt, asEntry, methodHead, headIn, pickFit, fitOf, deepFit, atLevel}
+use Rattle.tree.specs.Standing.{MethodsAt, ClaimWithin, nodeFrom, asTask, Beyond, Judged}
+use Rattle.tree.proofs.Entries.{HeadIs, head-is}
 
 -- ---- The node's line
-
-line-entry : (x : NodeLine) → entryLine (asEntry x) ≡ x
-line-entry (D m) = refl
-line-entry (E m g) = refl
-line-entry (L a i) = refl
-
-entry-line : (l : ℕ) (vs : List Value) (next : ℕ) → entryLine (nodeEntry (asAgain l vs next)) ≡ asNode (l, vs)
-unfolding nodeEntry asNode
-entry-line l vs next = line-entry (asNode (l, vs))
-
-drop-tail : {A : Type 0} (n : ℕ) (l : List A) (x : A) (xs : List A) → drop n l ≡ x ∷ xs → drop (n + 1) l ≡ xs
-drop-tail n l x xs e = sym (drop-drop 1 n l) ∙ ap (drop 1) e
-
--- The node lines from node n on: its own, read again, and those after it.
-pub record EntryHere (text : List ℕ) (k : Case) (n : ℕ) (a : Again) : Type 0 where
-  pub here : drop n (k .nodes) ≡ entryLine (nodeEntry a) ∷ drop (n + 1) (k .nodes)
-  pub rest : NodesFrom text k (n + 1) (a .next .at)
-
-pub entry-here : (text : List ℕ) (k : Case) (n place : ℕ) → NodesFrom text k n place → n < k .head .nodes → (a : Again) → AgainAt text place a
-    → EntryHere text k n a
-unfolding AgainAt
-entry-here text k n place f h a again =
-    let left : k .head .nodes - n ≡ suc (k .head .nodes - (n + 1)) = omega arith in
-    let each = oneLine text (k .head) T.node 0 asNode in
-    let m = many-first each (k .head .nodes - (n + 1)) (f .number) place (drop n (k .nodes)) (f .past) (f .next)
-    (sym (ap (λ (c : ℕ). many each c (f .number) place) left) ∙ f .reads) in
-    let (l, vs, reads, same) = line-read text (k .head) T.node asNode (f .number) place (m .0) (m .1) (m .2) (m .4) in
-    let tail : drop (n + 1) (k .nodes) ≡ m .3 = drop-tail n (k .nodes) (m .0) (m .3) (m .6) in
-    subst (EntryHere text k n) (sym (again T.node refl (k .head) 0 l vs (m .2) reads))
-    (record {
-      here = m .6 ∙ ap₂ _∷_ (sym (entry-line l vs (m .2) ∙ same)) (sym tail);
-      rest = record {
-        number = m .1;
-        past = f .past;
-        next = f .next;
-        reads = m .5 ∙ ap (λ (xs : List NodeLine). found (xs, f .past, f .next)) (sym tail);
-      };
-    })
 
 -- Each node's numbers are in their ranges.
 pub good-node : (k : Case) → Sound k → (n : ℕ) (x : NodeLine) (left : List NodeLine) → n < k .head .nodes → drop n (k .nodes) ≡ x ∷ left → GoodNode (k .head) x
@@ -87,16 +43,15 @@ and-implied : (a b : Bool) → (b ≡ true → a ≡ true) → (a && b) ≡ b
 and-implied a true f = ap (λ (x : Bool). x && true) (f refl)
 and-implied a false f = and-false a
 
-module _ (text : List ℕ) (k : Case) (w : List ℕ) (s : Sound k) (there-are : MethodsAt text k (directoryOf w)) (m : ℕ) (h : m < k .head .methods) where
-  head-here : HeadIs text (getD w (methodsFrom + m) 0) (methodAt (k .methods) m)
+module _ (k : Case) (fields : List ℕ) (w : List ℕ) (s : Sound k) (there-are : MethodsAt k fields (directoryOf w)) (m : ℕ) (h : m < k .head .methods) where
+  pub head-here : HeadIs fields (getD w (methodsFrom + m) 0) (methodAt (k .methods) m)
   unfolding methodsFrom marksFrom
   head-here =
       let few = s .head-good .few-methods in
-      let q = there-are m h in
-      subst (λ (p : ℕ). HeadIs text p (methodAt (k .methods) m)) (getD-take marksFrom w (methodsFrom + m) 0 (omega arith))
-      (method-head text (k .head) (q .0) (getD (directoryOf w) (methodsFrom + m) 0) (methodAt (k .methods) m) (q .1) (q .2) (q .3))
+      subst (λ (p : ℕ). HeadIs fields p (methodAt (k .methods) m)) (getD-take marksFrom w (methodsFrom + m) 0 (omega arith))
+      (head-is fields (getD (directoryOf w) (methodsFrom + m) 0) (methodAt (k .methods) m) (there-are m h))
 
-  is-method : (t : ℕ) → isMethodOf k m t ≡ eqb (headIn text w m .task) t
+  is-method : (t : ℕ) → isMethodOf k m t ≡ eqb (headIn fields w m .task) t
   unfolding isMethodOf methodAt
   is-method t =
       let room : m < length (k .methods) = omega (arith, s .methods-length) in
@@ -106,17 +61,15 @@ module _ (text : List ℕ) (k : Case) (w : List ℕ) (s : Sound k) (there-are : 
       ∙ and-implied (leb (k .head .actions) t) (eqb mt t) (λ e. le-leb (k .head .actions) t (let q = eqb-true mt t e in let l = good .task-least in omega arith))
       ∙ ap (λ (x : ℕ). eqb x t) (head-here .task)
 
-  no-subtasks : noSubtasks (methodAt (k .methods) m) ≡ eqb (headIn text w m .subtasks .count) 0
+  no-subtasks : noSubtasks (methodAt (k .methods) m) ≡ eqb (headIn fields w m .subtasks .count) 0
   unfolding noSubtasks
-  no-subtasks =
-      let c = headIn text w m .subtasks in
-      ap (λ (l : List ℕ). eqb (length l) 0) (head-here .subtasks) ∙ ap (λ (x : ℕ). eqb x 0) (length-numbers text (c .count) (c .at))
+  no-subtasks = ap (λ (x : ℕ). eqb x 0) (head-here .count)
 
-  fits-task : (t : ℕ) → fits k (D m) t ≡ (eqb (headIn text w m .task) t && not (eqb (headIn text w m .subtasks .count) 0))
+  fits-task : (t : ℕ) → fits k (D m) t ≡ (eqb (headIn fields w m .task) t && not (eqb (headIn fields w m .subtasks .count) 0))
   unfolding fits
   fits-task t = ap₂ (λ (a b : Bool). a && not b) (is-method t) no-subtasks
 
-  fits-empty : (t g : ℕ) → fits k (E m g) t ≡ (eqb (headIn text w m .task) t && eqb (headIn text w m .subtasks .count) 0)
+  fits-empty : (t g : ℕ) → fits k (E m g) t ≡ (eqb (headIn fields w m .task) t && eqb (headIn fields w m .subtasks .count) 0)
   unfolding fits
   fits-empty t g = ap₂ (λ (a b : Bool). a && b) (is-method t) no-subtasks
 
@@ -153,7 +106,7 @@ module _ (k : Case) (ok : ClaimTest) (t line : ℕ) (claimed : List ℕ) where
 
 -- ---- What the code's fit makes of it
 
-module _ (text : List ℕ) (k : Case) (p : Place) (t level : ℕ) where
+module _ (k : Case) (fields : List ℕ) (p : Place) (t level : ℕ) where
   abbrev n : ℕ
   n = p .node
 
@@ -169,18 +122,18 @@ module _ (text : List ℕ) (k : Case) (p : Place) (t level : ℕ) where
   abbrev deep : Answer
   deep = TooDeep here
 
-  pub judged-lacking : k .head .nodes ≤ n → Sound k → Judged text k p t level (Refused wrong)
+  pub judged-lacking : k .head .nodes ≤ n → Sound k → Judged k fields p t level (Refused wrong)
   judged-lacking h s claimed =
       let none : drop n (k .nodes) ≡ [] = drop-of-length-le (k .nodes) {i = n} (let l = s .nodes-length in omega arith) in
       ap (λ (l : List NodeLine). walkNode (65 - level) k ok t here l claimed) none ∙ walk-lacking k ok t here claimed (65 - level)
 
   module _ (x : NodeLine) (there : drop n (k .nodes) ≡ x ∷ drop (n + 1) (k .nodes)) where
-    misfits : fits k x t ≡ false → Judged text k p t level (Refused wrong)
+    misfits : fits k x t ≡ false → Judged k fields p t level (Refused wrong)
     misfits e claimed =
         ap (λ (l : List NodeLine). walkNode (65 - level) k ok t here l claimed) there
         ∙ walk-misfit k ok t here claimed x (drop (n + 1) (k .nodes)) (65 - level) e
 
-    too-deep : fits k x t ≡ true → ltb level 65 ≡ false → Judged text k p t level (Refused deep)
+    too-deep : fits k x t ≡ true → ltb level 65 ≡ false → Judged k fields p t level (Refused deep)
     too-deep e h claimed =
         let z : 65 - level ≡ zero = let q = ltb-false level 65 h in omega arith in
         ap (λ (l : List NodeLine). walkNode (65 - level) k ok t here l claimed) there
@@ -197,10 +150,10 @@ module _ (text : List ℕ) (k : Case) (p : Place) (t level : ℕ) where
 
     -- A fit f, if the test says so and a level is left.
     judged-by : (f : Fit) (b v : Bool) → fits k x t ≡ b → ltb level 65 ≡ v → deepFit f deep ≡ Refused deep
-        → (fits k x t ≡ true → ltb level 65 ≡ true → Judged text k p t level f)
-        → Judged text k p t level (pickFit v (pickFit b f (Refused wrong)) (deepFit (pickFit b f (Refused wrong)) deep))
+        → (fits k x t ≡ true → ltb level 65 ≡ true → Judged k fields p t level f)
+        → Judged k fields p t level (pickFit v (pickFit b f (Refused wrong)) (deepFit (pickFit b f (Refused wrong)) deep))
     judged-by f true true e h z w = w e h
-    judged-by f true false e h z w = subst (Judged text k p t level) (sym z) (too-deep e h)
+    judged-by f true false e h z w = subst (Judged k fields p t level) (sym z) (too-deep e h)
     judged-by f false true e h z w = misfits e
     judged-by f false false e h z w = misfits e
 
@@ -208,23 +161,25 @@ module _ (text : List ℕ) (k : Case) (p : Place) (t level : ℕ) where
   unfolding lineAt
   next-line = omega arith
 
-  module _ (w : List ℕ) (s : Sound k) (there-are : MethodsAt text k (directoryOf w)) where
-    open-judged : (m : ℕ) (next : Place) → drop n (k .nodes) ≡ D m ∷ drop (n + 1) (k .nodes) → m < k .head .methods → Beyond text k p next
-        → fits k (D m) t ≡ true → ltb level 65 ≡ true → Judged text k p t level (Open (headIn text w m .subtasks) next)
+  module _ (w : List ℕ) (s : Sound k) (there-are : MethodsAt k fields (directoryOf w)) where
+    open-judged : (m : ℕ) (next : Place) → drop n (k .nodes) ≡ D m ∷ drop (n + 1) (k .nodes) → m < k .head .methods → Beyond k fields p next
+        → fits k (D m) t ≡ true → ltb level 65 ≡ true → Judged k fields p t level (Open (headIn fields w m .subtasks) next)
+    unfolding methodHead
     open-judged m next there h b e v =
-        let c = headIn text w m .subtasks in
-        let test = sym (fits-task text k w s there-are m h t) ∙ e in
-        let some = eqb-false (c .count) 0 (not-true (eqb (c .count) 0) (both-true (eqb (headIn text w m .task) t) (not (eqb (c .count) 0)) test .1)) in (
+        let c = headIn fields w m .subtasks in
+        let head = head-here k fields w s there-are m h in
+        let test = sym (fits-task k fields w s there-are m h t) ∙ e in
+        let some = eqb-false (c .count) 0 (not-true (eqb (c .count) 0) (both-true (eqb (headIn fields w m .task) t) (not (eqb (c .count) 0)) test .1)) in (
           m,
           (λ claimed. goes (D m) there e v claimed
-              ∙ λ j. asTask m (walkSubtasks (walkNode (64 - level) k ok) (head-here text k w s there-are m h .subtasks j) (next-line j) (drop (n + 1) (k .nodes)) claimed)),
+              ∙ λ j. asTask m (walkSubtasks (walkNode (64 - level) k ok) (head .subtasks j) (next-line j) (drop (n + 1) (k .nodes)) claimed)),
           ltb-true level 65 v,
-          omega arith,
+          record { some = omega arith; inside = omega (arith, head .inside, head .count) },
           b,
         )
 
-    empty-judged : (m g : ℕ) (next : Place) → drop n (k .nodes) ≡ E m g ∷ drop (n + 1) (k .nodes) → g ≤ k .head .cues → Beyond text k p next
-        → fits k (E m g) t ≡ true → ltb level 65 ≡ true → Judged text k p t level (EmptyFit g next)
+    empty-judged : (m g : ℕ) (next : Place) → drop n (k .nodes) ≡ E m g ∷ drop (n + 1) (k .nodes) → g ≤ k .head .cues → Beyond k fields p next
+        → fits k (E m g) t ≡ true → ltb level 65 ≡ true → Judged k fields p t level (EmptyFit g next)
     empty-judged m g next there h b e v = (
       m,
       (λ claimed. goes (E m g) there e v claimed ∙ ap (λ (l : ℕ). found (empty m g, l, drop (n + 1) (k .nodes), claimed)) next-line),
@@ -232,30 +187,29 @@ module _ (text : List ℕ) (k : Case) (p : Place) (t level : ℕ) where
       b,
     )
 
-    leaf-judged : (a i : ℕ) (next : Place) → drop n (k .nodes) ≡ L a i ∷ drop (n + 1) (k .nodes) → 1 ≤ i → i ≤ k .head .cues → Beyond text k p next
-        → fits k (L a i) t ≡ true → ltb level 65 ≡ true → Judged text k p t level (LeafFit a i next)
-    leaf-judged a i next there h h′ b e v = (
+    leaf-judged : (a i : ℕ) (next : Place) → drop n (k .nodes) ≡ L a i ∷ drop (n + 1) (k .nodes) → ClaimWithin k n i → Beyond k fields p next
+        → fits k (L a i) t ≡ true → ltb level 65 ≡ true → Judged k fields p t level (LeafFit a i next)
+    leaf-judged a i next there h b e v = (
       (λ claimed. goes (L a i) there e v claimed
           ∙ ap (λ (l : ℕ). elim (ok a i claimed) as (λ z. Walk Tree) [
             | true ↦ found (Rattle.rules.specs.Tree.leaf a i, l, drop (n + 1) (k .nodes), i ∷ claimed)
             | false ↦ refused (Rattle.rules.specs.declared.Answer.the-variants.WrongClaim here i)
           ]) next-line),
       h,
-      h′,
       b,
     )
 
-    pub judged : (entry : Entry) (next : Place) → drop n (k .nodes) ≡ entryLine entry ∷ drop (n + 1) (k .nodes) → GoodNode (k .head) (entryLine entry)
-        → Beyond text k p next → Judged text k p t level (atLevel level (fitOf text w entry next t wrong) deep)
+    pub judged : (x : NodeLine) (next : Place) → drop n (k .nodes) ≡ x ∷ drop (n + 1) (k .nodes) → GoodNode (k .head) x → Beyond k fields p next
+        → Judged k fields p t level (atLevel level (fitOf fields w (asEntry x) next t wrong) deep)
     unfolding atLevel fitOf
-    judged (Task m) next there good b =
-        judged-by (D m) there (Open (headIn text w m .subtasks) next)
-        (eqb (headIn text w m .task) t && not (eqb (headIn text w m .subtasks .count) 0)) (ltb level 65)
-        (fits-task text k w s there-are m good t) refl refl (open-judged m next there good b)
-    judged (Empty m g) next there good b =
+    judged (D m) next there good b =
+        judged-by (D m) there (Open (headIn fields w m .subtasks) next)
+        (eqb (headIn fields w m .task) t && not (eqb (headIn fields w m .subtasks .count) 0)) (ltb level 65)
+        (fits-task k fields w s there-are m good t) refl refl (open-judged m next there good b)
+    judged (E m g) next there good b =
         judged-by (E m g) there (EmptyFit g next)
-        (eqb (headIn text w m .task) t && eqb (headIn text w m .subtasks .count) 0) (ltb level 65)
-        (fits-empty text k w s there-are m (good .0) t g) refl refl (empty-judged m g next there (good .1) b)
-    judged (Leaf a i) next there good b =
+        (eqb (headIn fields w m .task) t && eqb (headIn fields w m .subtasks .count) 0) (ltb level 65)
+        (fits-empty k fields w s there-are m (good .0) t g) refl refl (empty-judged m g next there (good .1) b)
+    judged (L a i) next there good b =
         judged-by (L a i) there (LeafFit a i next) (eqb a t) (ltb level 65) (fits-leaf k a i t (good .0)) refl refl
-        (leaf-judged a i next there (good .1) (good .2) b)
+        (leaf-judged a i next there (record { node = b .there; low = good .1; high = good .2 }) b)

@@ -1,5 +1,5 @@
 -- What the proofs of several functions use, and what later crates may rely on.
-pub mod Numbers
+mod Entries
 pub mod Stores
 pub mod Claimed
 mod Judging
@@ -8,3 +8,4 @@ mod Passing
 mod Siblings
 pub mod Within
 mod Whole
+pub mod Directory

@@ -7,8 +7,8 @@ use Prim.Native.Nat.{ℕ, _+_, _-_, _*_, _≤_, _<_}
 use native.Mathlib.Omega.{arith}
 use borrow.Author.Tests.{eq-eqb, ne-eqb}
 use lib.Dec.{eqb}
-use lib.ListN.{getD, set, drop}
-use lib.Seq.{sets}
+use lib.ListN.{length, getD, set, take, drop, length-drop}
+use lib.Seq.{sets, length-take-le}
 use Rattle.rules.specs.declared.Answer.{Answer}
 use Rattle.rules.specs.declared.Answer.the-variants.{WrongClaim}
 use Rattle.rules.specs.Index.{at, ofCue, ofGap, hull}
@@ -18,25 +18,30 @@ use Rattle.rules.specs.Tree.{Tree, Trees, leaf, span, spans, Walk, mayClaim, is
 use Rattle.tree.specs.declared.fit.Given.{Given}
 use Rattle.tree.specs.declared.fit.Place.{Place}
 use Rattle.tree.specs.declared.fit.Subtasks.{Subtasks}
-use Rattle.rules.specs.declared.Header.{Header}
 use Rattle.tree.specs.declared.rows.Walked.{Walked}
 use Rattle.tree.specs.declared.rows.Walked.the-variants.{Refused}
-use Rattle.tree.specs.Layout.{rowsFrom, marksFrom, planFrom, size, sizes, row, rows, rowsAll, marksOf, directoryOf, marksIn, planIn}
-use Rattle.tree.specs.Numbers.{numbersAt}
-use Rattle.tree.specs.Fits.{lineAt}
-use Rattle.tree.specs.Standing.{asTask, Steady, listFrom, claimFrom, Beyond, Judged, putRow, settled, noted, Told, ToldAll, ClaimTold, Claims, WalksNode, WalksList}
-use Rattle.tree.proofs.Stores.{in-front, row-rows, row-directory, row-marks, row-plan, mark-rows, mark-directory, mark-plan, mark-marks}
-use Rattle.tree.proofs.Claimed.{marks-claim, mark-clear, mark-set, plan-at}
+use Rattle.tree.specs.Layout.{rowsFrom, marksFrom, size, sizes, row, rows, rowsAll, marksOf, directoryOf, marksIn}
+use Rattle.tree.specs.Fits.{lineAt, SubtasksWithin, subtasksIn}
+use Rattle.tree.specs.Standing.{asTask, Steady, ClaimWithin, listFrom, claimFrom, Beyond, Judged, putRow, settled, noted, Told, ToldAll, ClaimTold, Claims, WalksNode, WalksList}
+use Rattle.tree.proofs.Stores.{in-front, row-rows, row-directory, row-marks, mark-rows, mark-directory, mark-marks}
+use Rattle.tree.proofs.Claimed.{marks-claim, mark-clear, mark-set}
 
 -- ---- A claim
 
-module _ (k : Case) (n a i : ℕ) (next : Place) (w : List ℕ) (low : 1 ≤ i) (high : i ≤ k .head .cues) (few : k .head .cues ≤ 1000) (plan : planIn (k .head .cues) w ≡ k .plan) where
-  -- What the code's two tests say of the claim.
-  planned : (b : Bool) → eqb (getD w (planFrom + (i - 1)) 0) a ≡ b → eqb (getD (k .plan) (i - 1) 0) a ≡ b
-  planned b e = ap (λ (x : ℕ). eqb x a) (sym (plan-at (k .head .cues) (i - 1) (k .plan) w (omega arith) plan)) ∙ e
+-- The plan has the action x at position i.
+module _ (k : Case) (n a i x : ℕ) (next : Place) (w : List ℕ) (c : ClaimWithin k n i) (few : k .head .cues ≤ 1000) (is : x ≡ getD (k .plan) (i - 1) 0) where
+  low : 1 ≤ i
+  low = c .low
+
+  high : i ≤ k .head .cues
+  high = c .high
+
+  -- What the code's test says of the claim.
+  planned : (b : Bool) → eqb x a ≡ b → eqb (getD (k .plan) (i - 1) 0) a ≡ b
+  planned b e = ap (λ (y : ℕ). eqb y a) (sym is) ∙ e
 
   same-place : 1 + (i - 1) ≡ i
-  same-place = omega arith
+  same-place = let l = low in omega arith
 
   abbrev byTest : List ℕ → Bool → Walk Tree
   byTest claimed b =
@@ -45,7 +50,7 @@ module _ (k : Case) (n a i : ℕ) (next : Place) (w : List ℕ) (low : 1 ≤ i) 
         | false ↦ refused (WrongClaim (lineAt (k .planLine) n) i)
       ]
 
-  pub claim-right : (r : Walked) (v : List ℕ) → getD w (planFrom + (i - 1)) 0 ≡ a → getD w (marksFrom + (i - 1)) 0 ≡ 0
+  pub claim-right : (r : Walked) (v : List ℕ) → x ≡ a → getD w (marksFrom + (i - 1)) 0 ≡ 0
       → r ≡ settled (ofCue i) next → v ≡ putRow n (at (ofCue i)) (next .node) (set w (marksFrom + (i - 1)) 1) → Claims k n a i next w r v
   unfolding mayClaim
   claim-right r v p q er ev claimed m =
@@ -61,41 +66,56 @@ module _ (k : Case) (n a i : ℕ) (next : Place) (w : List ℕ) (low : 1 ≤ i) 
             ∙ mark-marks w (i - 1) 1 (k .head .cues) (omega arith) ∙ ap (λ (l : List ℕ). set l (i - 1) 1) m
             ∙ marks-claim (k .head .cues) (i - 1) claimed (omega arith) ∙ ap (λ (x : ℕ). marksOf (k .head .cues) (x ∷ claimed)) same-place,
         ap directoryOf ev ∙ row-directory n (at (ofCue i)) (next .node) u ∙ mark-directory w (i - 1) 1,
-        ap (planIn (k .head .cues)) ev ∙ row-plan n (at (ofCue i)) (next .node) u (k .head .cues) few ∙ mark-plan w (i - 1) 1 (k .head .cues) (omega arith),
       )
 
   claim-wrong : (r : Walked) (v claimed : List ℕ) → mayClaim (k .plan) a i claimed ≡ false → r ≡ Refused (WrongClaim (lineAt (k .planLine) n) i)
       → ClaimTold k n a i next w (claimFrom k n a i claimed) r v
   claim-wrong r v claimed test er = subst (λ (b : Bool). ClaimTold k n a i next w (byTest claimed b) r v) (sym test) er
 
-  pub claim-other : (r : Walked) (v : List ℕ) → (getD w (planFrom + (i - 1)) 0 ≡ a → ⊥) → r ≡ Refused (WrongClaim (lineAt (k .planLine) n) i)
+  pub claim-other : (r : Walked) (v : List ℕ) → (x ≡ a → ⊥) → r ≡ Refused (WrongClaim (lineAt (k .planLine) n) i)
       → Claims k n a i next w r v
   unfolding mayClaim
   claim-other r v p er claimed m =
       claim-wrong r v claimed (ap (λ (b : Bool). b && not (isIn i claimed)) (planned false (ne-eqb _ _ p))) er
 
-  pub claim-taken : (r : Walked) (v : List ℕ) → getD w (planFrom + (i - 1)) 0 ≡ a → (getD w (marksFrom + (i - 1)) 0 ≡ 0 → ⊥)
+  pub claim-taken : (r : Walked) (v : List ℕ) → x ≡ a → (getD w (marksFrom + (i - 1)) 0 ≡ 0 → ⊥)
       → r ≡ Refused (WrongClaim (lineAt (k .planLine) n) i) → Claims k n a i next w r v
   unfolding mayClaim
   claim-taken r v p q er claimed m =
       let taken : isIn i claimed ≡ true = sym (ap (λ (x : ℕ). isIn x claimed) same-place) ∙ mark-set (k .head .cues) (i - 1) claimed w (omega arith) m q in
       claim-wrong r v claimed (ap (λ (b : Bool). b && not (isIn i claimed)) (planned true (eq-eqb _ _ p)) ∙ ap not taken) er
 
+-- ---- A method's subtasks, as the part of the fields that is lent
+
+module _ (fields : List ℕ) (s : Subtasks) where
+  lent-count : s .at + s .count - s .at ≡ s .count
+  lent-count = omega arith
+
+  pub lent-subtasks : take (s .at + s .count - s .at) (drop (s .at) fields) ≡ subtasksIn fields s
+  lent-subtasks = ap (λ (c : ℕ). take c (drop (s .at) fields)) lent-count
+
+  pub lent-some : SubtasksWithin fields s → 0 < length (take (s .at + s .count - s .at) (drop (s .at) fields))
+  lent-some h =
+      let o = h .some in
+      let i = h .inside in
+      let e = ap length lent-subtasks ∙ length-take-le (s .count) (drop (s .at) fields) (omega (arith, length-drop (s .at) fields)) in
+      omega arith
+
 -- ---- A node, by how it fits
 
-module _ (text : List ℕ) (k : Case) (t level : ℕ) (p : Place) (w : List ℕ) where
+module _ (k : Case) (fields : List ℕ) (t level : ℕ) (p : Place) (w : List ℕ) where
   abbrev n : ℕ
   n = p .node
 
   abbrev Here : Walked → List ℕ → Type 0
-  Here r v = WalksNode text k (65 - level) t n w r v
+  Here r v = WalksNode k fields (65 - level) t n w r v
 
-  pub refuses : (a : Answer) (v : List ℕ) → Judged text k p t level (Rattle.tree.specs.declared.fit.Fit.the-variants.Refused a) → Here (Refused a) v
-  refuses a v j claimed m = subst (λ (x : Walk Tree). Told text k n w x (Refused a) v) (sym (j claimed)) refl
+  pub refuses : (a : Answer) (v : List ℕ) → Judged k fields p t level (Rattle.tree.specs.declared.fit.Fit.the-variants.Refused a) → Here (Refused a) v
+  refuses a v j claimed m = subst (λ (x : Walk Tree). Told k fields n w x (Refused a) v) (sym (j claimed)) refl
 
-  module _ (next : Place) (b : Beyond text k p next) where
-    pub inside : (g : Given) → Steady text k g w → n < g .header .nodes
-    inside g st = let a = ap (λ (h : Header). h .nodes) (st .head) in let q = b .there in omega arith
+  module _ (next : Place) (b : Beyond k fields p next) where
+    pub inside : (g : Given) → Steady k fields g w → n < g .nodes
+    inside g st = let a = st .count in let q = b .there in omega arith
 
     step-line : (q : ℕ) → next .node ≡ q → lineAt (k .planLine) (n + 1) ≡ lineAt (k .planLine) (next .node)
     step-line q e = ap (lineAt (k .planLine)) (sym (b .one))
@@ -103,12 +123,12 @@ module _ (text : List ℕ) (k : Case) (t level : ℕ) (p : Place) (w : List ℕ)
     step-left : drop (n + 1) (k .nodes) ≡ drop (next .node) (k .nodes)
     step-left = ap (λ (m : ℕ). drop m (k .nodes)) (sym (b .one))
 
-    pub rests : (g : ℕ) (r : Walked) (v : List ℕ) → Judged text k p t level (Rattle.tree.specs.declared.fit.Fit.the-variants.Empty g next)
+    pub rests : (g : ℕ) (r : Walked) (v : List ℕ) → Judged k fields p t level (Rattle.tree.specs.declared.fit.Fit.the-variants.Empty g next)
         → k .head .cues ≤ 1000 → r ≡ settled (ofGap g) next → v ≡ putRow n (at (ofGap g)) (next .node) w → Here r v
     unfolding span size rows
     rests g r v j few er ev claimed m =
         let s = at (ofGap g) in
-        subst (λ (x : Walk Tree). Told text k n w x r v) (sym (j .1 claimed))
+        subst (λ (x : Walk Tree). Told k fields n w x r v) (sym (j .1 claimed))
         (record {
           next = next;
           answer = er;
@@ -119,7 +139,6 @@ module _ (text : List ℕ) (k : Case) (t level : ℕ) (p : Place) (w : List ℕ)
           rowed = ap (drop rowsFrom) ev ∙ row-rows n s (next .node) w ∙ ap (λ (x : ℕ). sets (drop rowsFrom w) (3 * n) (row s x)) (b .one);
           marked = ap (marksIn (k .head .cues)) ev ∙ row-marks n s (next .node) w (k .head .cues) few ∙ m;
           directory = ap directoryOf ev ∙ row-directory n s (next .node) w;
-          plan = ap (planIn (k .head .cues)) ev ∙ row-plan n s (next .node) w (k .head .cues) few;
         })
 
     leaf-told : (a i : ℕ) (claimed : List ℕ) (c : Bool) (r : Walked) (v : List ℕ)
@@ -127,7 +146,7 @@ module _ (text : List ℕ) (k : Case) (t level : ℕ) (p : Place) (w : List ℕ)
           | true ↦ found (leaf a i, lineAt (k .planLine) (n + 1), drop (n + 1) (k .nodes), i ∷ claimed)
           | false ↦ refused (WrongClaim (lineAt (k .planLine) n) i)
         ]) r v
-        → Told text k n w (elim c [
+        → Told k fields n w (elim c [
           | true ↦ found (leaf a i, lineAt (k .planLine) (n + 1), drop (n + 1) (k .nodes), i ∷ claimed)
           | false ↦ refused (WrongClaim (lineAt (k .planLine) n) i)
         ]) r v
@@ -143,18 +162,17 @@ module _ (text : List ℕ) (k : Case) (t level : ℕ) (p : Place) (w : List ℕ)
           rowed = h .1 ∙ ap (λ (x : ℕ). sets (drop rowsFrom w) (3 * n) (row (at (ofCue i)) x)) (b .one);
           marked = h .2;
           directory = h .3;
-          plan = h .4;
         }
     leaf-told a i claimed false r v h = h
 
-    pub claims : (a i : ℕ) (r : Walked) (v : List ℕ) → Judged text k p t level (Rattle.tree.specs.declared.fit.Fit.the-variants.Leaf a i next)
+    pub claims : (a i : ℕ) (r : Walked) (v : List ℕ) → Judged k fields p t level (Rattle.tree.specs.declared.fit.Fit.the-variants.Leaf a i next)
         → Claims k n a i next w r v → Here r v
     claims a i r v j h claimed m =
-        subst (λ (x : Walk Tree). Told text k n w x r v) (sym (j .0 claimed)) (leaf-told a i claimed (mayClaim (k .plan) a i claimed) r v (h claimed m))
+        subst (λ (x : Walk Tree). Told k fields n w x r v) (sym (j .0 claimed)) (leaf-told a i claimed (mayClaim (k .plan) a i claimed) r v (h claimed m))
 
     -- The task whose subtasks are walked, from the node after its own.
-    task-told : (m : ℕ) (ws : Walk Trees) (r : Walked) (u v : List ℕ) → k .head .cues ≤ 1000 → ToldAll text k (next .node) w ws r u → v ≡ noted n r u
-        → Told text k n w (asTask m ws) r v
+    task-told : (m : ℕ) (ws : Walk Trees) (r : Walked) (u v : List ℕ) → k .head .cues ≤ 1000 → ToldAll k fields (next .node) w ws r u → v ≡ noted n r u
+        → Told k fields n w (asTask m ws) r v
     unfolding span size rows
     task-told m (found (ts, line, left, claimed)) r u v few h ev =
         let f = h .1 in
@@ -176,13 +194,12 @@ module _ (text : List ℕ) (k : Case) (t level : ℕ) (p : Place) (w : List ℕ)
               ∙ in-front (rowsAll ts (n + 1)) (drop rowsFrom w) n s (n + 1 + sizes ts);
           marked = ap (marksIn (k .head .cues)) e ∙ row-marks n s (f .next .node) u (k .head .cues) few ∙ f .marked;
           directory = ap directoryOf e ∙ row-directory n s (f .next .node) u ∙ f .directory;
-          plan = ap (planIn (k .head .cues)) e ∙ row-plan n s (f .next .node) u (k .head .cues) few ∙ f .plan;
         }
     task-told m (refused a) r u v few h ev = h
 
-    pub opens : (s : Subtasks) (r : Walked) (u v : List ℕ) → Judged text k p t level (Rattle.tree.specs.declared.fit.Fit.the-variants.Open s next)
-        → k .head .cues ≤ 1000 → WalksList text k (64 - level) (numbersAt text (s .count) (s .at)) (next .node) w r u → v ≡ noted n r u → Here r v
+    pub opens : (s : Subtasks) (r : Walked) (u v : List ℕ) → Judged k fields p t level (Rattle.tree.specs.declared.fit.Fit.the-variants.Open s next)
+        → k .head .cues ≤ 1000 → WalksList k fields (64 - level) (subtasksIn fields s) (next .node) w r u → v ≡ noted n r u → Here r v
     opens s r u v j few h ev claimed m =
-        subst (λ (x : Walk Tree). Told text k n w x r v) (sym (j .1 claimed))
-        (task-told (j .0) (listFrom k (64 - level) (numbersAt text (s .count) (s .at)) (n + 1) claimed) r u v few
-        (subst (λ (x : ℕ). ToldAll text k (next .node) w (listFrom k (64 - level) (numbersAt text (s .count) (s .at)) x claimed) r u) (b .one) (h claimed m)) ev)
+        subst (λ (x : Walk Tree). Told k fields n w x r v) (sym (j .1 claimed))
+        (task-told (j .0) (listFrom k (64 - level) (subtasksIn fields s) (n + 1) claimed) r u v few
+        (subst (λ (x : ℕ). ToldAll k fields (next .node) w (listFrom k (64 - level) (subtasksIn fields s) x claimed) r u) (b .one) (h claimed m)) ev)

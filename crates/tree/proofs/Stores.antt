@@ -1,22 +1,18 @@
 -- The areas of the work space after a run of stores, and the sizes of a tree's rows. Assumes nothing.
 use mathlib.Core.Path.{_≡_, refl, sym, ap, _∙_}
 use mathlib.Core.List.{List, [], _∷_, _++_}
-use Prim.Native.Nat.{ℕ, zero, suc, _+_, _-_, _*_, _≤_, _<_}
-use native.Mathlib.Nat.{add-suc, suc-add, add-zero, zero-add}
+use Prim.Native.Nat.{ℕ, zero, suc, _+_, _*_, _≤_, _<_}
+use native.Mathlib.Nat.{add-suc, suc-add, zero-add}
 use native.Mathlib.Numerals.{add-one, add-two}
 use native.Mathlib.Omega.{arith}
 use lib.ListN.{length, getD, take, drop, set, length-append}
 use lib.Seq.{sets, slice, sets-eq, take-nil, take-append-seam, set-comm, take-set-le, take-set-lt, drop-set-lt, drop-set-add, getD-take, getD-drop}
 use Rattle.rules.specs.Index.{Span}
 use Rattle.rules.specs.Tree.{Tree, leaf, empty, task, Trees, noTree, more}
-use Rattle.tree.specs.Layout.{rowsFrom, planFrom, marksFrom, size, sizes, row, rows, rowsAll, directoryOf, marksIn, planIn}
+use Rattle.tree.specs.Layout.{rowsFrom, marksFrom, size, sizes, row, rows, rowsAll, directoryOf, marksIn}
 use Rattle.tree.specs.Standing.{putRow}
 
 -- ---- Runs of stores
-
-pub sets-append : (xs ys l : List ℕ) (i : ℕ) → sets l i (xs ++ ys) ≡ sets (sets l i xs) (i + length xs) ys
-sets-append [] ys l i = rw add-zero
-sets-append (x ∷ xs) ys l i = sets-append xs ys (set l i x) (suc i) ∙ rw (suc-add i (length xs), ← add-suc i (length xs))
 
 set-before : (vs l : List ℕ) (i j v : ℕ) → j < i → set (sets l i vs) j v ≡ sets (set l j v) i vs
 set-before [] l i j v h = refl
@@ -94,10 +90,6 @@ module _ (n : ℕ) (s : Span) (after : ℕ) (w : List ℕ) where
   unfolding marksFrom rowsFrom
   row-marks k h = row-slice marksFrom (marksFrom + k) (omega arith)
 
-  pub row-plan : (k : ℕ) → k ≤ 1000 → planIn k (putRow n s after w) ≡ planIn k w
-  unfolding planFrom rowsFrom
-  row-plan k h = row-slice planFrom (planFrom + k) (omega arith)
-
 -- ---- A mark
 
 module _ (w : List ℕ) (i v : ℕ) where
@@ -108,10 +100,6 @@ module _ (w : List ℕ) (i v : ℕ) where
   pub mark-directory : directoryOf (set w (marksFrom + i) v) ≡ directoryOf w
   unfolding marksFrom
   mark-directory = take-set-le marksFrom w (marksFrom + i) v (omega arith)
-
-  pub mark-plan : (k : ℕ) → i < 1000 → planIn k (set w (marksFrom + i) v) ≡ planIn k w
-  unfolding marksFrom planFrom
-  mark-plan k h = slice-set-before planFrom (planFrom + k) w (marksFrom + i) v (omega arith) (omega arith)
 
   pub mark-marks : (k : ℕ) → i < k → marksIn k (set w (marksFrom + i) v) ≡ set (marksIn k w) i v
   mark-marks k h = slice-set-in marksFrom (marksFrom + k) w i v (omega arith)

@@ -1,85 +1,71 @@
 -- The root's walk, told of the whole claimed tree: one law for each way out of `walk_tree`. Assumes nothing.
 use mathlib.Core.Path.{_≡_, refl, sym, ap, subst, _∙_}
-use mathlib.Core.List.{List, []}
-use Prim.Native.Nat.{ℕ, _+_, _-_, _*_, _≤_, _<_}
+use mathlib.Core.List.{List, [], _∷_}
+use Prim.Native.Nat.{ℕ, _+_, _*_, _≤_, _<_}
 use native.Mathlib.Omega.{arith}
 use lib.ListN.{take, drop, length-drop, drop-of-length-le}
 use lib.Seq.{sets, take-take, drop-cons, getD-take}
 use Rattle.rules.specs.declared.Answer.{Answer}
 use Rattle.rules.specs.declared.Answer.the-variants.{WrongNode}
 use Rattle.rules.specs.declared.Header.{Header}
-use Rattle.rules.specs.Table as T
 use Rattle.rules.specs.Result.{Result, found, refused, _>>=_, _>>_}
-use Rattle.rules.specs.Case.{NodeLine, D, Case, asNode, oneLine, many, oneMethod}
+use Rattle.rules.specs.Case.{NodeLine, D, Case, methodAt}
+use Rattle.rules.specs.Fields.{linesFields, methodLines}
 use Rattle.rules.specs.Tree.{Tree, Walk, mayClaim, walkNode, noneOver, levelCount, walkTree}
 use Rattle.rules.proofs.Judgement.Sound.{Sound, sound}
 use Rattle.index.specs.declared.Span.{Span}
-use Rattle.reading.specs.Directory.{methodsFrom}
+use Rattle.fields.specs.Standing.{Stands}
+use Rattle.fields.specs.Directory.{methodsFrom}
 use Rattle.tree.specs.declared.fit.Given.{Given}
 use Rattle.tree.specs.declared.fit.Place.{Place}
 use Rattle.tree.specs.declared.rows.Walked.{Walked}
 use Rattle.tree.specs.declared.rows.Walked.the-variants.{Next, Refused}
 use Rattle.tree.specs.declared.walk.TreeWalk.{TreeWalk}
 use Rattle.tree.specs.declared.walk.TreeWalk.the-variants.{Right, Refused as TreeRefused}
-use Rattle.text.specs.declared.Cursor.{Cursor}
 use Rattle.tree.specs.Layout.{marksFrom, rowsFrom, rowsPast, size, rows, directoryOf, rowsIn}
 use Rattle.tree.specs.Fits.{lineAt, Follows}
-use Rattle.tree.specs.Standing.{MethodsAt, Steady, nodeFrom, Told, WalksNode}
+use Rattle.tree.specs.Standing.{MethodsAt, Steady, nodeFrom, listFrom, Told, ToldAll, WalksList}
 use Rattle.tree.specs.Whole.{WalkReady, TreeTold}
-use Rattle.tree.proofs.Siblings.{refused-next}
+use Rattle.tree.proofs.Siblings.{refused-next, alone-told}
 use Rattle.tree.proofs.Stores.{drop-take, take-sets-all, length-rows}
-use Rattle.tree.proofs.Within.{plan-line-low}
+use Rattle.tree.proofs.Within.{plan-line-few}
 
 -- ---- What the root's walk stands on
 
-module _ (text : List ℕ) (k : Case) (header : Header) (planLine : ℕ) (nodes : Cursor) (w : List ℕ) (rd : WalkReady text k header planLine (nodes .at) w) where
+module _ (k : Case) (fields : List ℕ) (header : Header) (planLine plan nodes : ℕ) (w : List ℕ) (rd : WalkReady k fields header planLine plan nodes w) where
   abbrev given : Given
-  given = record { header = header; line = planLine }
+  given = record { nodes = header .nodes; line = planLine; plan = plan }
 
   root-sound : Sound k
-  root-sound = sound text k (rd .reads)
+  root-sound = sound (rd .read .text) k (rd .read .reads)
 
-  methods-at : MethodsAt text k (directoryOf w)
+  methods-at : MethodsAt k fields (directoryOf w)
   unfolding methodsFrom marksFrom
   methods-at m h =
       let few = root-sound .head-good .few-methods in
-      let q = rd .finds .methodLine m h in
-      let e = getD-take marksFrom w (methodsFrom + m) 0 (omega arith) in
-      (q .0, q .1, q .2, ap (λ (p : ℕ). oneMethod text (k .head) (q .0) p) e ∙ q .3)
+      subst (λ (p : ℕ). Stands fields p (linesFields (methodLines (methodAt (k .methods) m))))
+      (sym (getD-take marksFrom w (methodsFrom + m) 0 (omega arith))) (rd .finds .methodHere m h)
 
-  pub root-steady : Steady text k given w
+  pub root-steady : Steady k fields given w
   root-steady = record {
-    reads = rd .reads;
-    head = rd .head;
+    read = rd .read;
+    count = ap (λ (y : Header). y .nodes) (rd .head);
     planned = rd .planned;
-    low = let a = plan-line-low text k (rd .reads) in let b = rd .short in omega arith;
+    plan = rd .finds .planHere;
     room = rd .room;
     methods = methods-at;
-    plan = rd .cues;
     claimed = [];
     marks = rd .unmarked;
   }
 
-  pub root-follows : Follows text k (record { node = 0; at = nodes })
-  root-follows = record {
-    nodes =
-        let q = rd .finds .nodeLines in
-        let z : k .head .nodes - 0 ≡ k .head .nodes = omega arith in
-        record {
-          number = k .planLine + 1;
-          past = q .0;
-          next = q .1;
-          reads = ap (λ (c : ℕ). many (oneLine text (k .head) T.node 0 asNode) c (k .planLine + 1) (nodes .at)) z ∙ q .2;
-        };
-    within = omega arith;
-  }
+  pub root-follows : Follows k fields (record { node = 0; at = nodes })
+  root-follows = record { nodes = rd .finds .nodesHere; within = omega arith }
 
   pub root-line : (n : ℕ) → n < header .nodes → planLine + n < 4294967295
   root-line n h =
       let e = ap (λ (y : Header). y .nodes) (rd .head) in
       let f = root-sound .head-good .few-nodes in
-      let a = plan-line-low text k (rd .reads) in
-      let b = rd .short in
+      let a = plan-line-few k (rd .read) in
       let c = rd .planned in
       omega arith
 
@@ -111,7 +97,7 @@ module _ (text : List ℕ) (k : Case) (header : Header) (planLine : ℕ) (nodes 
       let e : k .planLine + 1 ≡ k .planLine + 1 + 0 = omega arith in
       ap (λ (l : ℕ). noneLeft (walkNode 64 k (mayClaim (k .plan)) (k .head .goal) l (k .nodes) [])) e
 
-  takes-all : (x : Walk Tree) (next : Place) (s : Span) (v : List ℕ) → Told text k 0 w x (Next next s) v → k .head .nodes ≤ next .node
+  takes-all : (x : Walk Tree) (next : Place) (s : Span) (v : List ℕ) → Told k fields 0 w x (Next next s) v → k .head .nodes ≤ next .node
       → TreeTold k w (noneLeft x) Right v
   takes-all (found (t, line, left, claimed)) next s v f h =
       let same : next ≡ f .next = cc (f .answer) in
@@ -126,11 +112,10 @@ module _ (text : List ℕ) (k : Case) (header : Header) (planLine : ℕ) (nodes 
         rowed = rows-kept t v (let a = f .after in omega arith) (f .rowed);
         marked = f .marked;
         directory = f .directory;
-        plan = f .plan;
       })
   takes-all (refused a) next s v f h = absurd (refused-next f)
 
-  leaves-some : (x : Walk Tree) (next : Place) (s : Span) (v : List ℕ) (l : ℕ) → Told text k 0 w x (Next next s) v → next .node < k .head .nodes
+  leaves-some : (x : Walk Tree) (next : Place) (s : Span) (v : List ℕ) (l : ℕ) → Told k fields 0 w x (Next next s) v → next .node < k .head .nodes
       → l ≡ lineAt (k .planLine) (next .node) → TreeTold k w (noneLeft x) (TreeRefused (WrongNode l)) v
   leaves-some (found (t, line, left, claimed)) next s v l f h e =
       let same : next ≡ f .next = cc (f .answer) in
@@ -141,15 +126,16 @@ module _ (text : List ℕ) (k : Case) (header : Header) (planLine : ℕ) (nodes 
       (ap (λ (y : ℕ). TreeRefused (WrongNode y)) (e ∙ ap (lineAt (k .planLine)) there ∙ sym (f .lines)))
   leaves-some (refused a) next s v l f h e = absurd (refused-next f)
 
-  is-refused : (x : Walk Tree) (a : Answer) (v : List ℕ) → Told text k 0 w x (Refused a) v → TreeTold k w (noneLeft x) (TreeRefused a) v
+  is-refused : (x : Walk Tree) (a : Answer) (v : List ℕ) → Told k fields 0 w x (Refused a) v → TreeTold k w (noneLeft x) (TreeRefused a) v
   is-refused (found (t, line, left, claimed)) a v f = absurd (refused-next (sym (f .answer)))
   is-refused (refused b) a v f = ap TreeRefused (let q : a ≡ b = cc f in q)
 
-  module _ (r : Walked) (v : List ℕ) (told : WalksNode text k 64 (header .goal) 0 w r v) where
-    root-told : (r′ : Walked) → r ≡ r′ → Told text k 0 w root r′ v
+  module _ (r : Walked) (v : List ℕ) (tells : Steady k fields given w → Follows k fields (record { node = 0; at = nodes }) → WalksList k fields 64 (header .goal ∷ []) 0 w r v) where
+    root-told : (r′ : Walked) → r ≡ r′ → Told k fields 0 w root r′ v
     root-told r′ e =
-        subst (λ (y : Walked). Told text k 0 w root y v) e
-        (subst (λ (h : Header). Told text k 0 w (nodeFrom k 64 (h .goal) 0 []) r v) (rd .head) (told [] (rd .unmarked)))
+        alone-told k fields 0 w r′ v root
+        (subst (λ (y : Walked). ToldAll k fields 0 w (listFrom k 64 (k .head .goal ∷ []) 0 []) y v) e
+        (subst (λ (h : Header). ToldAll k fields 0 w (listFrom k 64 (h .goal ∷ []) 0 []) r v) (rd .head) (tells root-steady root-follows [] (rd .unmarked))))
 
     abbrev Whole : TreeWalk → Type 0
     Whole a = TreeTold k w (walkTree k (mayClaim (k .plan))) a v

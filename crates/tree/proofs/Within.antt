@@ -16,7 +16,12 @@ use Rattle.rules.specs.Table.{Role, Item, one, Row, rowOf, roleNumber, inRange,
 use Rattle.rules.specs.Result.{Result, found, refused, _>>=_, _>>_}
 use Rattle.rules.specs.Case.{Case, Constraint, Method, NodeLine, Valued, scalarAt, headerOf, initialOf, actionOf, asConstraint, planOf, asNode, Read, readAs, oneLine, many, oneMethod, noSurplus, readBody, noHeader, readFrom, readCase}
 use Rattle.rules.specs.State.{Action}
-use Rattle.reading.proofs.Turns.{apart}
+use Rattle.rules.specs.Verdict.{textMost}
+use Rattle.fields.specs.Directory.{IsRead}
+
+-- Two readings that differ are not the same.
+apart : {A : Type 0} → _≡_ {A = ℕ} 0 1 → A
+apart z = absurd (omega arith)
 
 -- ---- A field and an item move on
 
@@ -260,3 +265,7 @@ plan-line-low text k e = go (readFrom text 1 0) (from-low text) e
     go : (r : Read Case) → Tells (PlanLow text) r → (r >>= λ (c, n, place). noSurplus text n place >> found c) ≡ found k → k .planLine ≤ length text
     go (found (c, n, place)) t e = subst (λ (x : Case). x .planLine ≤ length text) (over c (noSurplus text n place) e) t
     go (refused a) t e = apart (cc)
+
+pub plan-line-few : (k : Case) → IsRead k → k .planLine ≤ 65535
+unfolding textMost
+plan-line-few k r = let a = plan-line-low (r .text) k (r .reads) in let b = r .short in omega arith

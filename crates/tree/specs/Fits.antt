@@ -1,16 +1,12 @@
--- A node's line, a method's line, and how the one fits the task expected there, as the code reads them. Assumes nothing.
+-- A node's line, a method's line, and how the one fits the task expected there, as the code takes them from the fields. Assumes nothing.
 use mathlib.Core.Bool.{Bool, true, false, _&&_, not}
 use mathlib.Core.List.{List}
-use Prim.Native.Nat.{ℕ, _+_, _-_, _≤_, _<_}
+use Prim.Native.Nat.{ℕ, _+_, _≤_, _<_}
 use lib.Dec.{eqb, ltb}
-use lib.ListN.{getD}
+use lib.ListN.{length, getD, take, drop}
 use Rattle.rules.specs.declared.Answer.{Answer}
 use Rattle.rules.specs.Case.{NodeLine, D, E, L, nodeOf, Case}
-use Rattle.text.specs.declared.Cursor.{Cursor}
-use Rattle.text.specs.Cursor.{cursor}
-use Rattle.reading.specs.declared.again.Again.{Again}
-use Rattle.reading.specs.Again.{pastLetter, numberHere}
-use Rattle.reading.specs.Directory.{methodsFrom}
+use Rattle.fields.specs.Directory.{methodsFrom}
 use Rattle.tree.specs.declared.fit.Place.{Place}
 use Rattle.tree.specs.declared.fit.Subtasks.{Subtasks}
 use Rattle.tree.specs.declared.fit.Entry.{Entry}
@@ -18,57 +14,43 @@ use Rattle.tree.specs.declared.fit.Entry.the-variants.{Task, Empty, Leaf
 use Rattle.tree.specs.declared.fit.MethodHead.{MethodHead}
 use Rattle.tree.specs.declared.fit.Fit.{Fit}
 use Rattle.tree.specs.declared.fit.Fit.the-variants.{Refused, Open, Empty as EmptyFit, Leaf as LeafFit}
-use Rattle.tree.specs.declared.walk.First.{First}
 use Rattle.tree.specs.Layout.{NodesFrom}
 
 -- The line of a node, where the P line has the number `plan`.
 unfoldable pub lineAt : ℕ → ℕ → ℕ
 lineAt plan n = plan + 1 + n
 
--- A place from which the node lines are read, from its node on.
-pub record Follows (text : List ℕ) (k : Case) (p : Place) : Type 0 where
-  pub nodes : NodesFrom text k (p .node) (p .at .at)
+-- A place where the node lines stand, from its node on.
+pub record Follows (k : Case) (fields : List ℕ) (p : Place) : Type 0 where
+  pub nodes : NodesFrom k fields (p .node) (p .at)
   pub within : p .node ≤ k .head .nodes
 
--- A node line as an entry, and one read again.
+-- A node line as an entry, and the one that stands at a place: its letter and two numbers, of which D has only the first.
 abbrev pub asEntry : NodeLine → Entry
 asEntry (D m) = Task m
 asEntry (E m g) = Empty m g
 asEntry (L a i) = Leaf a i
 
-unfoldable pub nodeEntry : Again → Entry
-nodeEntry a = asEntry (nodeOf (a .letter) (a .first) (a .second))
+unfoldable pub entryAt : List ℕ → ℕ → Entry
+entryAt fields at = asEntry (nodeOf (getD fields at 0) (getD fields (at + 1) 0) (getD fields (at + 2) 0))
 
--- The line that an entry is.
-abbrev pub entryLine : Entry → NodeLine
-entryLine (Task m) = D m
-entryLine (Empty m g) = E m g
-entryLine (Leaf a i) = L a i
-
--- A method that an entry names is below a bound.
-abbrev pub WithMethod : ℕ → Entry → Type 0
-WithMethod n (Task m) = m < n
-WithMethod n (Empty m g) = m < n
-WithMethod n (Leaf a i) = Unit {0}
-
--- Where the compound task of a method line is, where its subtask count, and where its subtasks start.
-abbrev pub taskPlace : List ℕ → ℕ → Cursor
-taskPlace text place = cursor (pastLetter text place)
-
-abbrev pub countPlace : List ℕ → ℕ → Cursor
-countPlace text place = numberHere text (taskPlace text place) .next
-
-abbrev pub subtaskPlace : List ℕ → ℕ → Cursor
-subtaskPlace text place = numberHere text (countPlace text place) .next
-
+-- The method line at a place: its letter, its compound task, its subtask count, its subtasks.
 unfoldable pub methodHead : List ℕ → ℕ → MethodHead
-methodHead text place = record {
-  task = numberHere text (taskPlace text place) .value;
-  subtasks = record { count = numberHere text (countPlace text place) .value; at = subtaskPlace text place };
-}
+methodHead fields at = record { task = getD fields (at + 1) 0; subtasks = record { count = getD fields (at + 2) 0; at = at + 3 } }
 
 abbrev pub headIn : List ℕ → List ℕ → ℕ → MethodHead
-headIn text directory m = methodHead text (getD directory (methodsFrom + m) 0)
+headIn fields directory m = methodHead fields (getD directory (methodsFrom + m) 0)
+
+-- The directory has a place for method m, and the head of a method line lies inside the fields there.
+pub record HeadWithin (fields directory : List ℕ) (m : ℕ) : Type 0 where
+  pub low : m < 2048
+  pub room : 3072 ≤ length directory
+  pub inside : getD directory (methodsFrom + m) 0 + 3 ≤ length fields
+
+abbrev pub MethodWithin : List ℕ → List ℕ → Entry → Type 0
+MethodWithin fields directory (Task m) = HeadWithin fields directory m
+MethodWithin fields directory (Empty m g) = HeadWithin fields directory m
+MethodWithin fields directory (Leaf a i) = Unit {0}
 
 abbrev pub pickFit : Bool → Fit → Fit → Fit
 pickFit true f g = f
@@ -76,12 +58,12 @@ pickFit false f g = g
 
 -- "an action leaf for an action; for a compound task one of its own methods", not empty for D and empty for E
 unfoldable pub fitOf : List ℕ → List ℕ → Entry → Place → ℕ → Answer → Fit
-fitOf text directory (Task m) next task wrong =
-    pickFit (eqb (headIn text directory m .task) task && not (eqb (headIn text directory m .subtasks .count) 0))
-    (Open (headIn text directory m .subtasks) next) (Refused wrong)
-fitOf text directory (Empty m g) next task wrong =
-    pickFit (eqb (headIn text directory m .task) task && eqb (headIn text directory m .subtasks .count) 0) (EmptyFit g next) (Refused wrong)
-fitOf text directory (Leaf a i) next task wrong = pickFit (eqb a task) (LeafFit a i next) (Refused wrong)
+fitOf fields directory (Task m) next task wrong =
+    pickFit (eqb (headIn fields directory m .task) task && not (eqb (headIn fields directory m .subtasks .count) 0))
+    (Open (headIn fields directory m .subtasks) next) (Refused wrong)
+fitOf fields directory (Empty m g) next task wrong =
+    pickFit (eqb (headIn fields directory m .task) task && eqb (headIn fields directory m .subtasks .count) 0) (EmptyFit g next) (Refused wrong)
+fitOf fields directory (Leaf a i) next task wrong = pickFit (eqb a task) (LeafFit a i next) (Refused wrong)
 
 -- At level 65 nothing fits.
 abbrev pub deepFit : Fit → Answer → Fit
@@ -93,9 +75,11 @@ deepFit (LeafFit a i next) deep = Refused deep
 unfoldable pub atLevel : ℕ → Fit → Answer → Fit
 atLevel level fit deep = pickFit (ltb level 65) fit (deepFit fit deep)
 
--- The first of a method's subtasks, and the others.
-abbrev pub firstOf : List ℕ → Subtasks → First
-firstOf text s = record {
-  task = numberHere text (s .at) .value;
-  rest = record { count = s .count - 1; at = numberHere text (s .at) .next };
-}
+-- The subtasks: the numbers that stand there.
+abbrev pub subtasksIn : List ℕ → Subtasks → List ℕ
+subtasksIn fields s = take (s .count) (drop (s .at) fields)
+
+-- There is one at least, and all lie inside the fields.
+pub record SubtasksWithin (fields : List ℕ) (s : Subtasks) : Type 0 where
+  pub some : 0 < s .count
+  pub inside : s .at + s .count ≤ length fields

@@ -1,27 +1,27 @@
 -- How the walk keeps the claimed tree in the lent work space: a mark for each position, and a row for each node. Assumes nothing.
-use mathlib.Core.Path.{_≡_}
 use mathlib.Core.Bool.{cond}
-use mathlib.Core.List.{List, [], _∷_, _++_}
-use Prim.Native.Nat.{ℕ, _+_, _-_}
+use mathlib.Core.List.{List, [], _∷_, _++_, map}
+use Prim.Native.Nat.{ℕ, _+_}
 use lib.ListN.{drop}
 use lib.Seq.{slice}
 use Rattle.rules.specs.State.{tabulate}
 use Rattle.rules.specs.Index.{Span}
-use Rattle.rules.specs.Table as T
 use Rattle.rules.specs.Result.{Result, found, refused}
-use Rattle.rules.specs.Case.{Case, asNode, oneLine, many}
+use Rattle.rules.specs.Case.{Case}
+use Rattle.rules.specs.Fields.{linesFields, nodeLine}
 use Rattle.rules.specs.Tree.{Tree, leaf, empty, task, Trees, noTree, more, span, isIn}
+use Rattle.fields.specs.Standing.{Stands}
 
 -- The areas of the work space, after the directory of lines (0 to 3,072): marks of the positions (1,000), the subtasks' nodes of the
--- node under test (32), the plan's actions (1,000), the constraints of the loaded method (256), rows of three numbers for up to 3,000 nodes.
+-- node under test (32), rows of three numbers for up to 3,000 nodes.
 unfoldable pub marksFrom : ℕ
 marksFrom = 3072
 
 unfoldable pub subtasksFrom : ℕ
 subtasksFrom = 4072
 
-unfoldable pub planFrom : ℕ
-planFrom = 4104
+unfoldable pub subtasksPast : ℕ
+subtasksPast = 4104
 
 unfoldable pub rowsFrom : ℕ
 rowsFrom = 7168
@@ -65,18 +65,12 @@ directoryOf work = slice 0 marksFrom work
 abbrev pub marksIn : ℕ → List ℕ → List ℕ
 marksIn k work = slice marksFrom (marksFrom + k) work
 
-abbrev pub planIn : ℕ → List ℕ → List ℕ
-planIn k work = slice planFrom (planFrom + k) work
-
 abbrev pub rowsIn : List ℕ → List ℕ
 rowsIn work = slice rowsFrom rowsPast work
 
--- The node lines from node n on are read from a place on.
-pub record NodesFrom (text : List ℕ) (k : Case) (n place : ℕ) : Type 0 where
-  pub number : ℕ
-  pub past : ℕ
-  pub next : ℕ
-  pub reads : many (oneLine text (k .head) T.node 0 asNode) (k .head .nodes - n) number place ≡ found (drop n (k .nodes), past, next)
+-- The node lines from node n on stand among the fields from a place on.
+abbrev pub NodesFrom : Case → List ℕ → ℕ → ℕ → Type 0
+NodesFrom k fields n place = Stands fields place (linesFields (map nodeLine (drop n (k .nodes))))
 
 -- The tree that node lines claim, asked of trees that are walked.
 unfoldable pub treeOf : Result (Tree × List ℕ) → Tree

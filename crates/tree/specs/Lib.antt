@@ -1,6 +1,5 @@
 pub mod Layout
 pub mod Marks
-pub mod Numbers
 pub mod Fits
 pub mod Standing
 pub mod Whole

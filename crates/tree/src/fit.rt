@@ -3,33 +3,31 @@
 ghost use mathlib.Core.Path.{_≡_};
 ghost use Prim.Native.Nat.{_+_, _≤_, _<_};
 ghost use lib.ListN.{length, getD};
-ghost use Rattle.reading.specs.Directory.{methodsFrom};
-ghost use Rattle.reading.specs.TheCase.{caseOf};
-ghost use Rattle.tree.specs.Fits.{nodeEntry, methodHead, fitOf, WithMethod, atLevel, Follows, lineAt};
+ghost use Rattle.rules.specs.Case.{Case};
+ghost use Rattle.fields.specs.Directory.{methodsFrom, nodeSize};
+ghost use Rattle.tree.specs.Fits.{entryAt, methodHead, fitOf, HeadWithin, MethodWithin, atLevel, Follows, lineAt};
 ghost use Rattle.tree.specs.Standing.{Steady, Judged};
-use reading::Again;
-use reading::METHODS_FROM;
-use reading::read_again;
+use fields::METHODS_FROM;
+use fields::node_size;
 use rules::Answer;
-use rules::Header;
-use text::Cursor;
 
-// What a walk goes by: the header's numbers, and the number of the P line.
+// What a walk goes by: how many nodes there are, the number of the P line, and where that stands.
 pub struct Given {
-    pub header: Header,
+    pub nodes: u32,
     pub line: u32,
+    pub plan: usize,
 }
 
-// A node's number, from 0, and where its line starts.
+// A node's number, from 0, and where its line stands.
 pub struct Place {
     pub node: u32,
-    pub at: Cursor,
+    pub at: usize,
 }
 
-// How many subtasks are left of a method's, and where the next stands in its line.
+// How many subtasks a method has, and where they stand.
 pub struct Subtasks {
     pub count: u32,
-    pub at: Cursor,
+    pub at: usize,
 }
 
 // A node's line: "D,m (method m, not empty); E,m,g (empty method m in gap g, 0 to k); L,a,i (action a at position i, 1 to k)".
@@ -65,54 +63,59 @@ pub enum Fit {
     },
 }
 
-// A node line read again, by its letter.
-fn entry_of(a: Again) -> Entry
-    ensures { λ r. ⌜ r ≡ nodeEntry a ⌝ }
+// The letters of a node line, D and E, as fields; any other is L.
+const TASK: u32 = 68;
+
+const EMPTY: u32 = 69;
+
+// The node line that stands here, by its letter. A D line has two fields, and may be the last.
+fn entry_at(fields: &[u32], at: usize) -> Entry
+    requires { ⌜ at + nodeSize (getD (now fields) at 0) ≤ length (now fields) ⌝ }
+    ensures { λ r. ⌜ r ≡ entryAt (now (fields .entry)) at ⌝ }
 {
-    if a.letter == b'D' {
-        return Entry::Task { method: a.first };
+    let letter = fields[at];
+    let first = fields[at + 1];
+    if letter == TASK {
+        return Entry::Task { method: first };
     }
-    if a.letter == b'E' {
+    let second = fields[at + 2];
+    if letter == EMPTY {
         Entry::Empty {
-            method: a.first,
-            gap: a.second,
+            method: first,
+            gap: second,
         }
     } else {
         Entry::Leaf {
-            action: a.first,
-            position: a.second,
+            action: first,
+            position: second,
         }
     }
 }
 
 // Method m's line, through the directory.
-fn method_head(text: &[u8], work: &[u32], m: u32) -> MethodHead
-    requires { ⌜ (m < 2048) × (3072 ≤ length (now work)) ⌝ }
-    ensures { λ r. ⌜ r ≡ methodHead (now (text .entry)) (getD (now (work .entry)) (methodsFrom + m) 0) ⌝ }
+fn method_head(fields: &[u32], work: &[u32], m: u32) -> MethodHead
+    requires { ⌜ HeadWithin (now fields) (now work) m ⌝ }
+    ensures { λ r. ⌜ r ≡ methodHead (now (fields .entry)) (getD (now (work .entry)) (methodsFrom + m) 0) ⌝ }
 {
     let i = METHODS_FROM + m as usize;
     let at = work[i] as usize;
-    let c = reading::after_letter(text, Cursor { at });
-    let task = reading::number_again(text, c);
-    let count = reading::number_again(text, task.next);
-    let at = count.next;
     MethodHead {
-        task: task.value,
+        task: fields[at + 1],
         subtasks: Subtasks {
-            count: count.value,
-            at,
+            count: fields[at + 2],
+            at: at + 3,
         },
     }
 }
 
 // How a line fits the task, where `wrong` answers that it doesn't.
-fn fit_entry(text: &[u8], work: &[u32], entry: Entry, next: Place, task: u32, wrong: Answer) -> Fit
-    requires { ⌜ WithMethod 2048 entry × (3072 ≤ length (now work)) ⌝ }
-    ensures { λ r. ⌜ r ≡ fitOf (now (text .entry)) (now (work .entry)) entry next task wrong ⌝ }
+fn fit_of(fields: &[u32], work: &[u32], entry: Entry, next: Place, task: u32, wrong: Answer) -> Fit
+    requires { ⌜ MethodWithin (now fields) (now work) entry ⌝ }
+    ensures { λ r. ⌜ r ≡ fitOf (now (fields .entry)) (now (work .entry)) entry next task wrong ⌝ }
 {
     match entry {
         Entry::Task { method } => {
-            let head = method_head(text, work, method);
+            let head = method_head(fields, work, method);
             let subtasks = head.subtasks;
             if head.task == task {
                 if subtasks.count != 0 {
@@ -122,7 +125,7 @@ fn fit_entry(text: &[u8], work: &[u32], entry: Entry, next: Place, task: u32, wr
             Fit::Refused { answer: wrong }
         }
         Entry::Empty { method, gap } => {
-            let head = method_head(text, work, method);
+            let head = method_head(fields, work, method);
             let subtasks = head.subtasks;
             if head.task == task {
                 if subtasks.count == 0 {
@@ -176,23 +179,21 @@ pub fn line_at(g: Given, node: u32) -> u32
 }
 
 // The node here, where `task` is expected at `level`: 6, then 7.
-pub fn judge(text: &[u8], g: Given, work: &[u32], p: Place, task: u32, level: u32) -> Fit
-    requires { ⌜ Steady (now text) (caseOf (now text)) g (now work) × Follows (now text) (caseOf (now text)) p ⌝ }
-    ensures { λ r. ⌜ Judged (now (text .entry)) (caseOf (now (text .entry))) p task level r ⌝ }
+pub fn judge(fields: &[u32], g: Given, work: &[u32], p: Place, task: u32, level: u32) -> Fit
+    requires { ⌜ ((k : Case) × Steady k (now fields) g (now work) × Follows k (now fields) p) ⌝ }
+    ensures { λ r. ⌜ ((k : Case) → Steady k (now (fields .entry)) g (now (work .entry)) → Follows k (now (fields .entry)) p → Judged k (now (fields .entry)) p task level r) ⌝ }
 {
-    let header = g.header;
     let line = line_at(g, p.node);
     let wrong = Answer::WrongNode { line };
-    if header.nodes <= p.node {
+    if g.nodes <= p.node {
         return Fit::Refused { answer: wrong };
     }
-    let here = p.at;
-    let a = read_again(text, here);
-    let at = a.next;
+    let at = p.at;
+    let entry = entry_at(fields, at);
     let next = Place {
         node: p.node + 1,
-        at,
+        at: at + node_size(fields[at]),
     };
-    let fit = fit_entry(text, work, entry_of(a), next, task, wrong);
+    let fit = fit_of(fields, work, entry, next, task, wrong);
     at_level(level, fit, Answer::TooDeep { line })
 }

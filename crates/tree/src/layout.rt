@@ -6,8 +6,5 @@ pub const MARKS: usize = 3072;
 // The nodes of the subtasks of the node under test.
 pub const SUBTASKS: usize = 4072;
 
-// The plan's actions.
-pub const PLAN: usize = 4104;
-
 // A row of three numbers for each node: doubled start, doubled end, the node after its subtree.
 pub const ROWS: usize = 7168;

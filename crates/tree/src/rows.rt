@@ -4,15 +4,14 @@ ghost use Prim.Native.Nat.{_+_, _*_, _≤_, _<_};
 ghost use lib.ListN.{length};
 ghost use Rattle.index.specs.Spans.{indexIn, spanOf};
 ghost use Rattle.rules.specs.Index.{ofGap, at};
-ghost use Rattle.reading.specs.TheCase.{caseOf};
+ghost use Rattle.rules.specs.Case.{Case};
 ghost use Rattle.rules.specs.declared.Answer.the-variants.{WrongClaim};
 ghost use Rattle.tree.specs.Fits.{lineAt};
-ghost use Rattle.tree.specs.Standing.{putRow, settled, noted, joined, Steady, Claims};
+ghost use Rattle.tree.specs.Standing.{putRow, settled, noted, joined, Steady, ClaimWithin, Claims};
 use crate::fit;
 use crate::fit::Given;
 use crate::fit::Place;
 use crate::layout::MARKS;
-use crate::layout::PLAN;
 use crate::layout::ROWS;
 use index::Doubled;
 use index::Span;
@@ -70,7 +69,7 @@ fn taken(g: Given, node: u32, position: u32) -> Walked
 
 // A leaf claims its position, where the plan has its action there and no leaf before it has claimed it.
 pub fn claim(
-    text: &[u8],
+    fields: &[u32],
     g: Given,
     work: &mut [u32],
     node: u32,
@@ -78,14 +77,13 @@ pub fn claim(
     position: u32,
     next: Place,
 ) -> Walked
-    requires { ⌜ Steady (now text) (caseOf (now text)) g (now work) ⌝ }
-    requires { ⌜ (node < g .header .nodes) × (1 ≤ position) × (position ≤ g .header .cues) ⌝ }
-    ensures { λ r. ⌜ Claims (caseOf (now (text .entry))) node action position next (now (work .entry)) r (now (work .exit)) ⌝ }
+    requires { ⌜ ((k : Case) × Steady k (now fields) g (now work) × ClaimWithin k node position) ⌝ }
+    ensures { λ r. ⌜ ((k : Case) → Steady k (now (fields .entry)) g (now (work .entry)) → ClaimWithin k node position → Claims k node action position next (now (work .entry)) r (now (work .exit))) ⌝ }
 {
-    let i = position as usize - 1;
-    let planned = PLAN + i;
-    let mark = MARKS + i;
-    if work[planned] == action {
+    let i = position as usize;
+    let planned = g.plan + i;
+    let mark = MARKS + (i - 1);
+    if fields[planned] == action {
         if work[mark] == 0 {
             work[mark] = 1;
             settle(work, node, Doubled::of_cue(position), next)
@@ -108,16 +106,10 @@ pub fn note(work: &mut [u32], node: u32, walked: Walked)
     }
 }
 
-// The span of the subtasks so far joined to that of the last one walked: "the least start and [..] the greatest end of its subtasks, empty
-// ones counted".
-pub fn join(span: Span, walked: Walked) -> Walked
-    ensures { λ r. ⌜ r ≡ joined (spanOf span) walked ⌝ }
+// The span of the first subtasks, so many of them, joined to that of the next: "the least start and [..] the greatest end of its subtasks,
+// empty ones counted". Of none there is no span yet.
+pub fn join(count: usize, span: Span, last: Span) -> Span
+    ensures { λ r. ⌜ spanOf r ≡ joined count (spanOf span) (spanOf last) ⌝ }
 {
-    match walked {
-        Walked::Next { next, span: last } => Walked::Next {
-            next,
-            span: span.join(last),
-        },
-        Walked::Refused { answer } => Walked::Refused { answer },
-    }
+    if count == 0 { last } else { span.join(last) }
 }

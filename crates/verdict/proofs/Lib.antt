@@ -1,8 +1,10 @@
--- Lemmas that say nothing of the crate: several clauses, a slice lent again, a local array lent.
+-- Lemmas that say nothing of the crate: several clauses, a slice lent again, a local array lent, small steps of a walk.
 pub mod Clauses
 pub mod Again
 pub mod Local
--- What `fill` writes, and why those are the records of the case.
+pub mod Steps
+-- What the loops write, and why those are the records of the case.
+pub mod Zero
 pub mod Written
 pub mod Records
 -- The call of `check`, for whoever makes it.

@@ -11,63 +11,54 @@ use rules::STATES;
 use rules::WORK;
 use state::WORDS;
 ghost use mathlib.Core.Path.{_≡_};
-ghost use Prim.Native.Nat.{_+_};
-ghost use lib.ListN.{length, getD};
-ghost use Rattle.rules.specs.Verdict.{check, answerOf, reported};
+ghost use Prim.Native.Nat.{ℕ, _+_, _≤_, _<_};
+ghost use lib.ListN.{length, take};
+ghost use Rattle.rules.specs.Verdict.{check, answerOf, reported, filled, noNode};
 ghost use Rattle.rules.specs.Demands.{borrowed, lentBy, asAsked, Demand1, Demand2, Demand3};
-ghost use Rattle.records.specs.Records.{recordAt, upTo};
-ghost use Rattle.verdict.specs.Nodes.{nodeFrom};
-
-// Number i of the column that starts at `column`; zero past the end of the list.
-fn number(work: &[u32], column: usize, i: usize) -> u32
-    ensures { λ r. ⌜ r ≡ getD (now (work .entry)) (column + i) 0 ⌝ }
-{
-    if i < work.len() {
-        if column < work.len() - i {
-            return work[column + i];
-        }
-    }
-    0
-}
+ghost use Rattle.records.specs.Records.{placesFrom, recordAt, upTo};
 
 // Record i, gathered from the columns.
-pub fn node_at(work: &[u32], i: usize) -> Node
+fn node_at(work: &[u32], i: usize) -> Node
+    requires { ⌜ placesFrom + i < length (now work) ⌝ }
     ensures { λ r. ⌜ r ≡ recordAt (now (work .entry)) i ⌝ }
 {
     Node {
-        letter: number(work, LETTERS, i),
-        label: number(work, LABELS, i),
-        place: number(work, PLACES, i),
-        start: number(work, STARTS, i),
-        end: number(work, ENDS, i),
+        letter: work[LETTERS + i],
+        label: work[LABELS + i],
+        place: work[PLACES + i],
+        start: work[STARTS + i],
+        end: work[ENDS + i],
     }
 }
 
-// What stands at i in the node list: record i below the count, "the rest is zero".
-fn node_or_zero(work: &[u32], count: usize, i: usize) -> Node
-    ensures { λ r. ⌜ r ≡ nodeFrom (now (work .entry)) count i ⌝ }
+// The zero record from the count on, "the rest is zero": stores of zero alone, which compile to one call of memset.
+fn clear_from(nodes: &mut [Node], count: usize)
+    ensures { λ _. ⌜ now (nodes .exit) ≡ filled (length (now (nodes .entry))) noNode (take count (now (nodes .entry))) ⌝ }
 {
-    if i < count {
-        return node_at(work, i);
-    }
-    Node {
-        letter: 0,
-        label: 0,
-        place: 0,
-        start: 0,
-        end: 0,
-    }
-}
-
-// The node list, however long it is. The only loop over records.
-pub fn fill(nodes: &mut [Node], work: &[u32], count: usize)
-    ensures { λ _. ⌜ now (nodes .exit) ≡ upTo (nodeFrom (now (work .entry)) count) (length (now (nodes .entry))) ⌝ }
-{
-    let mut i = 0;
+    let mut i = count;
     while i < nodes.len() {
-        nodes[i] = node_or_zero(work, count, i);
+        nodes[i] = Node {
+            letter: 0,
+            label: 0,
+            place: 0,
+            start: 0,
+            end: 0,
+        };
         i += 1;
     }
+}
+
+// The node list: the records below the count, which all stand in the columns and all fit, then the rest. No element is stored to twice.
+fn fill(nodes: &mut [Node], work: &[u32], count: usize)
+    requires { ⌜ (count ≤ length (now nodes)) × ((i : ℕ) → i < count → placesFrom + i < length (now work)) ⌝ }
+    ensures { λ _. ⌜ now (nodes .exit) ≡ filled (length (now (nodes .entry))) noNode (upTo (recordAt (now (work .entry))) count) ⌝ }
+{
+    let mut i = 0;
+    while i < count {
+        nodes[i] = node_at(work, i);
+        i += 1;
+    }
+    clear_from(nodes, count);
 }
 
 // How many records an answer comes with: the n of an acceptance, none for a refusal.

@@ -2,17 +2,12 @@
 //!
 //! Compares the linked check call with the plain one.
 
-use harness::{compare, plain};
+use harness::compare;
 
 fn main() {
-    compare::run(
-        |text, lists, lengths| {
-            let (states, nodes, work) = lists.lend(lengths);
-            plain::check(text, states, nodes, work)
-        },
-        |text, lists, lengths| {
-            let (states, nodes, work) = lists.lend(lengths);
-            cuecheck::check(text, states, nodes, work)
-        },
-    );
+    let linked: compare::Call = |text, lists, lengths| {
+        let (states, nodes, work) = lists.lend(lengths);
+        cuecheck::check(text, states, nodes, work)
+    };
+    compare::run(compare::PLAIN_CHECK, linked, "linked");
 }

@@ -2,17 +2,12 @@
 //!
 //! Compares the linked replay call with the plain one.
 
-use harness::{compare, plain};
+use harness::compare;
 
 fn main() {
-    compare::run(
-        |text, lists, lengths| {
-            let (states, _, work) = lists.lend(lengths);
-            plain::replay(text, states, work)
-        },
-        |text, lists, lengths| {
-            let (states, _, work) = lists.lend(lengths);
-            cuecheck::replay(text, states, work)
-        },
-    );
+    let linked: compare::Call = |text, lists, lengths| {
+        let (states, _, work) = lists.lend(lengths);
+        cuecheck::replay(text, states, work)
+    };
+    compare::run(compare::PLAIN_REPLAY, linked, "linked");
 }

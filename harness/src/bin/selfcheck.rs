@@ -1,7 +1,8 @@
-//! Runs the plain check on a folder of cases, then on generated inputs, and shows what came up.
+//! Runs both plain checks on a folder of cases, then the clear one on generated inputs, and shows what came up.
 //!
 //! selfcheck CASES-FOLDER [COUNT SEED]
 
+use harness::fast;
 use harness::gen::{extremes, Inputs};
 use harness::lists::{Dirt, Lengths, Lists};
 use harness::plain::{check, replay, Reply};
@@ -32,7 +33,13 @@ fn checked(text: &[u8]) -> Reply {
     check(text, states, nodes, work)
 }
 
-/// Runs every `.case` beside its `.expect`; gives back how many differ.
+fn fast_checked(text: &[u8]) -> Reply {
+    let mut lists = Lists::default();
+    let (states, nodes, work) = lists.lend(Lengths::EXACT);
+    fast::check(text, states, nodes, work)
+}
+
+/// Runs every `.case` beside its `.expect`; gives back how many answers differ.
 fn run_cases(folder: &Path) -> usize {
     let mut cases: Vec<PathBuf> = std::fs::read_dir(folder)
         .expect("a folder of cases")
@@ -42,11 +49,13 @@ fn run_cases(folder: &Path) -> usize {
     cases.sort();
     let mut differing = 0;
     for case in &cases {
-        let answer = printed(checked(&std::fs::read(case).expect("a case")));
+        let text = std::fs::read(case).expect("a case");
         let expected = std::fs::read_to_string(case.with_extension("expect")).expect("an expected answer");
-        if answer != expected.trim_end() {
-            differing += 1;
-            println!("{}: {answer}, expected {}", case.display(), expected.trim_end());
+        for (name, answer) in [("plain", checked(&text)), ("fast", fast_checked(&text))] {
+            if printed(answer) != expected.trim_end() {
+                differing += 1;
+                println!("{}: {name} {}, expected {}", case.display(), printed(answer), expected.trim_end());
+            }
         }
     }
     println!("{} cases, {differing} differences", cases.len());

@@ -97,6 +97,71 @@ pub fn typical(seed: u64, cues: usize, weave: Weave) -> Draft {
     draft
 }
 
+/// 01's panel case a: four nodes.
+pub fn four_nodes() -> Draft {
+    let (convert, load, take, panel, in_kmh) = (0, 1, 2, 3, 4);
+    let methods = vec![method(panel, vec![in_kmh, load, take]), method(in_kmh, vec![convert]), method(in_kmh, vec![])];
+    let mut draft = skeleton(3, 3, 2, methods);
+    draft.initial = vec![0];
+    draft.actions[0] = [vec![], vec![0], vec![0], vec![]];
+    draft.actions[1] = [vec![], vec![], vec![1], vec![]];
+    draft.actions[2] = [vec![1], vec![], vec![2], vec![1]];
+    draft.methods[0].constraints = vec![Constraint::Order(0, 2), Constraint::Order(1, 2), Constraint::Between(1, 0, 4)];
+    draft.methods[2].constraints = vec![Constraint::Before(0, 0)];
+    draft.plan = vec![load, take];
+    draft.lines = vec![Line::D(0), Line::E(2, 0), Line::L(load, 1), Line::L(take, 2)];
+    draft
+}
+
+/// A show of 60 or 1,000 cues with 200 methods in mixed order: no two nodes in turn, leaves left out, use the same one.
+/// Each has a before, a between and an after, and an order if it has subtasks.
+pub fn mixed(cues: usize) -> Draft {
+    let rng = &mut Rng::new(cues as u64);
+    let actions = 150;
+    let (g, s, x, z) = (150, 151, 152, 153);
+    let panels = cues / 2;
+    let sections = (panels / 10).min(25);
+    // Method 0 is the goal's, 1 to 39 are of sections, 40 to 159 of panels, 160 to 199 of tasks done already.
+    let mut draft = skeleton(96, actions, 4, vec![method(g, vec![s; sections])]);
+    for _ in 1..40 {
+        draft.methods.push(method(s, vec![x; panels / sections]));
+    }
+    for _ in 40..160 {
+        draft.methods.push(method(x, vec![rng.below(actions) as u32, z, rng.below(actions) as u32]));
+    }
+    draft.methods.resize(200, method(z, vec![]));
+    for number in 0..200 {
+        let stays = |n: usize| (32 + (7 * number + n) % 64) as u32;
+        let constraints = match draft.methods[number].subtasks.len() {
+            0 => vec![
+                Constraint::Before(stays(0), 0),
+                Constraint::Between(0, stays(1), 0),
+                Constraint::After(stays(2), 0),
+            ],
+            _ => vec![
+                Constraint::Order(0, 2),
+                Constraint::Before(stays(0), 2),
+                Constraint::Between(1, stays(1), 4),
+                Constraint::After(stays(2), 0),
+            ],
+        };
+        draft.methods[number].constraints = constraints;
+    }
+    let (mut turns, steps) = ([0; 4], [0, 17, 77, 27]);
+    let (first, count) = ([0, 1, 40, 160], [1, 39, 120, 40]);
+    let mut tree = grow(&draft, &mut |task, _, _| {
+        let group = (task - g) as usize;
+        turns[group] += steps[group];
+        (first[group] + turns[group] % count[group]) as u32
+    });
+    place(rng, &mut draft, &mut tree, Weave::Ordered);
+    // The constraints speak of propositions that stay as they are, the actions of the others.
+    draft.palette.truncate(32);
+    animate(rng, &mut draft, 10);
+    draft.initial.extend(32..96);
+    draft
+}
+
 // ---------------------------------------------------------------- the dearest cases
 
 /// 64 betweens over 1,000 states on each of 648 nodes, in a tree of 2,999.
@@ -138,6 +203,76 @@ pub fn betweens() -> Draft {
             late = !late;
         }
     }
+    draft
+}
+
+/// 64 betweens over half of 930 states or more on each of 930 nodes.
+pub fn long_betweens() -> Draft {
+    let (a, g, s, early, late, z) = (0, 1, 2, 3, 4, 5);
+    let methods = vec![
+        method(g, vec![s; 30]),
+        method(s, vec![early; 31]),
+        method(s, vec![late; 31]),
+        method(early, vec![a, z]),
+        method(late, vec![z, a]),
+        method(z, vec![]),
+    ];
+    let mut draft = skeleton(256, 1, 5, methods);
+    // From the leaf to the empty task at the end, or from the empty task at the start to the leaf.
+    for x in [3, 4] {
+        draft.methods[x].constraints = (0..64).map(|n| Constraint::Between(1, 4 * n + 1, 2)).collect();
+    }
+    draft.initial = (0..256).collect();
+    let mut ss = 0;
+    let mut tree = grow(&draft, &mut |task, _, _| match task {
+        1 => 0,
+        2 => {
+            ss += 1;
+            1 + u32::from(ss > 15)
+        }
+        other => other,
+    });
+    place(&mut Rng::new(0), &mut draft, &mut tree, Weave::Ordered);
+    let cues = draft.plan.len() as u32;
+    for line in &mut draft.lines {
+        if let Line::E(_, gap) = line {
+            *gap = if 2 * *gap <= cues { cues } else { 0 };
+        }
+    }
+    draft
+}
+
+/// 64 befores and afters, of the whole task or of one subtask, on each of 2,980 nodes; the other 20 are leaves.
+pub fn befores_afters() -> Draft {
+    let (a, g, s, x, z) = (0, 1, 2, 3, 4);
+    let methods = vec![
+        method(g, [vec![s; 20], vec![z; 4]].concat()),
+        method(s, [vec![a], vec![x; 30]].concat()),
+        method(s, [vec![a], vec![x; 29]].concat()),
+        method(x, vec![z; 4]),
+        method(z, vec![]),
+    ];
+    let mut draft = skeleton(256, 1, 4, methods);
+    draft.initial = (0..256).collect();
+    for method in &mut draft.methods {
+        let subtasks = method.subtasks.len();
+        let set = |n: usize| if n % 4 < 2 || subtasks == 0 { 0 } else { 1 << (n % subtasks) };
+        let condition = |n: usize| match n % 2 {
+            0 => Constraint::Before(4 * n as u32, set(n)),
+            _ => Constraint::After(4 * n as u32, set(n)),
+        };
+        method.constraints = (0..64).map(condition).collect();
+    }
+    let mut ss = 0;
+    let mut tree = grow(&draft, &mut |task, _, _| match task {
+        1 => 0,
+        2 => {
+            ss += 1;
+            1 + u32::from(ss > 11)
+        }
+        other => other,
+    });
+    place(&mut Rng::new(0), &mut draft, &mut tree, Weave::Ordered);
     draft
 }
 
@@ -316,7 +451,12 @@ pub fn all() -> Vec<(&'static str, Vec<u8>)> {
         ("60 cues, woven", typical(61, 60, Weave::Woven).text()),
         ("1000 cues, ordered", typical(1_000, 1_000, Weave::Ordered).text()),
         ("1000 cues, woven", typical(1_001, 1_000, Weave::Woven).text()),
+        ("four nodes", four_nodes().text()),
+        ("60 cues, mixed", mixed(60).text()),
+        ("1000 cues, mixed", mixed(1_000).text()),
         ("betweens", betweens().text()),
+        ("long betweens", long_betweens().text()),
+        ("befores and afters", befores_afters().text()),
         ("sets of 32", sets_of_32().text()),
         ("64 levels", levels_64().text()),
         ("32000 fields", fields_32000().text()),

@@ -1,29 +1,36 @@
 -- `judge_constraints`: every constraint holds and the records are written; or one does not, and the state list is cleared. Assumes nothing.
+use Prim.Native.Nat.{ℕ, _*_}
+use Rattle.columns.specs.Columns.{columnCount, columnWords}
 use Rattle.judge.proofs.Constrained.{constraints-ready, kept-not, records-ask, nodes-ask, records-done}
 use Rattle.judge.proofs.Phases.{refused-all}
 use Rattle.judge.proofs.judge_constraints.Statement.{statement}
 use Rattle.judge.proofs.judge_constraints.Tie as tie
-use Rattle.reading.specs.TheCase.{caseOf}
-use Rattle.rules.proofs.Judgement.Rows.{fromTree}
+use Rattle.rules.specs.State.{wordCount}
 use borrow.Author.Needs.{needs}
-use lib.ListN.{length}
-use mathlib.Core.Path.{_∙_}
+use lib.ListN.{length-replicate}
+use mathlib.Core.Path.{refl}
+
+slice-aggregate-first-broken : tie.Need-slice-aggregate-first-broken
+slice-aggregate-first-broken c = search needs
+
+slice-aggregate-first-broken-2 : tie.Need-slice-aggregate-first-broken-2
+slice-aggregate-first-broken-2 c = search needs
 
 first-broken-requires : tie.Need-first-broken-requires
-first-broken-requires c κs = let a = c .before .before .before .before .before .before .before .args in
-    constraints-ready (a .text .now) (a .o) (a .states .now) (a .work .now) (c .before .before .before .before .before .before .before .pre)
+unfolding wordCount columnCount columnWords
+first-broken-requires c κs =
+    let (k, p) = c .before .before .before .before .before .before .before .before .pre in
+    ((k, p .walked .tree, constraints-ready p), (length-replicate {A = ℕ} (columnCount * columnWords) 0, refl))
 
 enum-told : tie.Need-enum-told
 enum-told c = search needs
 
 write-records-requires : tie.Need-write-records-requires
-write-records-requires c κs = let a = c .before .before .before .before .before .before .before .before .before .before .before .before .before .args in
-    let b = c .before .before .before .before .before .first-broken in
-    let p = c .before .before .before .before .before .before .before .before .before .before .before .before .before .pre in
-    let v = b .last .1 .1 .1 .1 .1 .0 in (
-      records-ask (a .text .now) (a .o) (a .states .now) (a .work .now) p (b .result) (b .ensures .0) v (b .ensures .1),
-      nodes-ask (a .text .now) (a .o) (a .states .now) (a .work .now) p (b .result) (b .ensures .0) v (b .ensures .1),
-    )
+write-records-requires c κs =
+    let (k, p) = c .before .before .before .before .before .before .before .before .before .before .before .before .before .before .before .before .pre in
+    let b = c .before .before .before .before .before .before .before .first-broken in
+    let said = b .ensures .0 k (p .walked .tree) (constraints-ready p) in
+    (records-ask p said (b .ensures .1), (k .nodes, nodes-ask p said))
 
 enum-known-kept : tie.Need-enum-known-kept
 enum-known-kept c = search needs
@@ -38,12 +45,12 @@ same-length-2 : tie.Need-same-length-2
 same-length-2 c = search needs
 
 returns : tie.Need-returns
-returns c = let a = c .before .before .before .before .before .before .before .before .before .before .before .before .before .before .before .before .args in
-    let b = c .before .before .before .before .before .before .before .before .first-broken in
-    let p = c .before .before .before .before .before .before .before .before .before .before .before .before .before .before .before .before .pre in
-    let v = b .last .1 .1 .1 .1 .1 .0 in
-    let r = records-done (a .text .now) (a .o) (a .states .now) (a .work .now) p (b .result) (b .ensures .0) v (b .ensures .1) (c .before .before .before .before .enum-told .given .1) (c .before .before .write-records .last .1 .1 .1 .0) (c .before .before .write-records .ensures) in
-    (r .0, (r .1, r .2))
+returns c =
+    let b = c .before .before .before .before .before .before .before .before .before .before .first-broken in
+    let z = c .before .before .write-records in
+    λ k p.
+    let said = b .ensures .0 k (p .walked .tree) (constraints-ready p) in
+    records-done p said (b .ensures .1) (c .before .before .before .before .enum-told .given .1) (z .last .1 .1 .1 .0) (z .ensures (k .nodes) (nodes-ask p said))
 
 same-length-3 : tie.Need-same-length-3
 same-length-3 c = search needs
@@ -52,19 +59,20 @@ same-length-4 : tie.Need-same-length-4
 same-length-4 c = search needs
 
 returns-2 : tie.Need-returns-2
-returns-2 c = let a = c .before .before .before .before .before .before .before .before .before .before .before .before .before .before .before .before .before .args in
-    let b = c .before .before .before .before .before .before .before .before .before .first-broken in
-    let p = c .before .before .before .before .before .before .before .before .before .before .before .before .before .before .before .before .before .pre in
+returns-2 c =
+    let b = c .before .before .before .before .before .before .before .before .before .before .before .first-broken in
     let x = c .before .before .before .before .before .kept .given in
     let z = c .before .before .refuse in
-    let q = kept-not (a .text .now) (a .o) (a .states .now) (a .work .now) p (b .result) (b .ensures .0) (x .0 .0) (x .1) in
-    let r = refused-all (length (a .states .now)) (fromTree (caseOf (a .text .now))) (x .0 .0) q in
-    (z .ensures .0 ∙ r .0, (z .ensures .1 ∙ r .1, r .2 _))
+    λ k p.
+    let said = b .ensures .0 k (p .walked .tree) (constraints-ready p) in
+    refused-all (x .0 .0) (kept-not p said (x .0 .0) (x .1)) (z .ensures .0) (z .ensures .1)
 
 pub judge-constraints-spec : {M : Type 1} → statement M
 judge-constraints-spec =
     tie.close
     (tie.spec
+    slice-aggregate-first-broken
+    slice-aggregate-first-broken-2
     first-broken-requires
     enum-told
     write-records-requires

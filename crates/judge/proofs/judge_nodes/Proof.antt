@@ -1,33 +1,46 @@
--- `judge_nodes`: the walk finds the tree, and the claims follow; or it refuses, and the state list is cleared. Assumes nothing.
-use Rattle.judge.proofs.Phases.{refused-all, plan-stored, walk-ready, walk-refuses, walk-finds}
+-- `judge_nodes`: no position is marked, the walk finds the tree, and the claims follow; or it refuses, and the state list is cleared.
+-- Assumes nothing.
+use Rattle.judge.proofs.Frames.{marks-cleared}
+use Rattle.judge.proofs.Phases.{refused-all, open-sound, walk-ready, walk-refuses, walk-finds}
 use Rattle.judge.proofs.Verdicts.{tree-refused}
 use Rattle.judge.proofs.judge_nodes.Statement.{statement}
 use Rattle.judge.proofs.judge_nodes.Tie as tie
-use Rattle.reading.specs.TheCase.{caseOf}
-use Rattle.rules.proofs.Judgement.Rows.{fromTree}
+use Rattle.rules.specs.Verdict.{workNeed}
 use borrow.Author.Needs.{needs}
-use lib.ListN.{length}
-use mathlib.Core.Path.{_∙_}
+use native.Mathlib.Omega.{arith}
 
-store-plan-requires : tie.Need-store-plan-requires
-store-plan-requires c κs = let a = c .before .before .before .before .before .before .before .args in
-    let p = c .before .before .before .before .before .before .before .pre in
-    plan-stored (a .text .now) (a .o) (p .initial) (a .work .now) (p .opens)
+sub-clear-work : tie.Need-sub-clear-work
+sub-clear-work c = search needs
+
+part-clear-work-start : tie.Need-part-clear-work-start
+part-clear-work-start c = search needs
+
+part-clear-work-end : tie.Need-part-clear-work-end
+unfolding workNeed
+part-clear-work-end c = let room = c .before .before .before .before .pre .1 .opens .workRoom in omega arith
+
+clear-work-requires : tie.Need-clear-work-requires
+clear-work-requires c κs = search needs
 
 walk-tree-requires : tie.Need-walk-tree-requires
-walk-tree-requires c κs = let a = c .before .before .before .before .before .before .before .before .before .before .before .args in
-    let p = c .before .before .before .before .before .before .before .before .before .before .before .pre in
-    walk-ready (a .text .now) (a .o) (p .initial) (a .work .now) (p .opens) (c .before .before .before .store-plan .last .1 .1 .1 .0) (c .before .before .before .store-plan .ensures) (p .unused)
+walk-tree-requires c κs =
+    let s = c .before .before .before .before .before .before .before .before .before in
+    let a = s .args in
+    let (k, p) = s .pre in
+    let clear = marks-cleared (k .head .cues) (a .work .now) (c .before .before .before .clear-work .last .0) (open-sound (p .opens) .head-good .few-cues) (p .opens .workRoom) (c .before .before .before .clear-work .ensures) in
+    (k, walk-ready (p .opens) clear)
 
 enum-told : tie.Need-enum-told
 enum-told c = search needs
 
 judge-claims-requires : tie.Need-judge-claims-requires
-judge-claims-requires c κs = let a = c .before .before .before .before .before .before .before .before .before .before .before .before .before .before .before .before .before .before .args in
-    let p = c .before .before .before .before .before .before .before .before .before .before .before .before .before .before .before .before .before .before .pre in
+judge-claims-requires c κs =
+    let s = c .before .before .before .before .before .before .before .before .before .before .before .before .before .before .before .before in
+    let a = s .args in
+    let (k, p) = s .pre in
     let b = c .before .before .before .before .before .before .walk-tree in
-    walk-finds (a .text .now) (a .o) (p .initial) (a .work .now) (p .opens) (c .before .before .before .before .before .before .before .before .before .before .store-plan .last .1 .1 .1 .0) (c .before .before .before .before .before .before .before .before .before .before .store-plan .ensures) (p .unused)
-    (b .result) (b .last .1 .1 .1 .1 .0) (b .ensures) (a .states .now) (c .before .before .enum-told .given .1) (b .kept .1 .1 .1 .1 .0) (p .run)
+    let clear = marks-cleared (k .head .cues) (a .work .now) (c .before .before .before .before .before .before .before .before .before .before .clear-work .last .0) (open-sound (p .opens) .head-good .few-cues) (p .opens .workRoom) (c .before .before .before .before .before .before .before .before .before .before .clear-work .ensures) in
+    (k, walk-finds (p .opens) clear (b .last .1 .1 .1 .1 .1 .0) (b .ensures k (walk-ready (p .opens) clear)) (a .states .now) (c .before .before .enum-told .given .1) (b .kept .1 .1 .1 .1 .1 .0) (p .run))
 
 enum-known-answer : tie.Need-enum-known-answer
 enum-known-answer c = search needs
@@ -42,7 +55,14 @@ same-length-2 : tie.Need-same-length-2
 same-length-2 c = search needs
 
 returns : tie.Need-returns
-returns c = c .before .before .before .before .judge-claims .ensures
+returns c =
+    let s = c .before .before .before .before .before .before .before .before .before .before .before .before .before .before .before .before .before .before .before .before .before in
+    let a = s .args in
+    let b = c .before .before .before .before .before .before .before .before .before .before .before .walk-tree in
+    λ k p.
+    let clear = marks-cleared (k .head .cues) (a .work .now) (c .before .before .before .before .before .before .before .before .before .before .before .before .before .before .before .clear-work .last .0) (open-sound (p .opens) .head-good .few-cues) (p .opens .workRoom) (c .before .before .before .before .before .before .before .before .before .before .before .before .before .before .before .clear-work .ensures) in
+    c .before .before .before .before .judge-claims .ensures k
+    (walk-finds (p .opens) clear (b .last .1 .1 .1 .1 .1 .0) (b .ensures k (walk-ready (p .opens) clear)) (a .states .now) (c .before .before .before .before .before .before .before .enum-told .given .1) (b .kept .1 .1 .1 .1 .1 .0) (p .run))
 
 same-length-3 : tie.Need-same-length-3
 same-length-3 c = search needs
@@ -51,23 +71,25 @@ same-length-4 : tie.Need-same-length-4
 same-length-4 c = search needs
 
 returns-2 : tie.Need-returns-2
-returns-2 c = let a = c .before .before .before .before .before .before .before .before .before .before .before .before .before .before .before .before .before .before .before .before .before .args in
-    let p = c .before .before .before .before .before .before .before .before .before .before .before .before .before .before .before .before .before .before .before .before .before .pre in
+returns-2 c =
+    let s = c .before .before .before .before .before .before .before .before .before .before .before .before .before .before .before .before .before .before .before in
+    let a = s .args in
     let b = c .before .before .before .before .before .before .before .before .before .walk-tree in
     let x = c .before .before .before .before .before .answer .given in
     let z = c .before .before .refuse in
-    let k = caseOf (a .text .now) in
-    let refuses = walk-refuses (a .text .now) (a .o) (p .initial) (a .work .now) (p .opens) (c .before .before .before .before .before .before .before .before .before .before .before .before .before .store-plan .last .1 .1 .1 .0) (c .before .before .before .before .before .before .before .before .before .before .before .before .before .store-plan .ensures) (p .unused)
-    (b .result) (b .last .1 .1 .1 .1 .0) (b .ensures) (x .0 .0) (x .1) in
-    let q = tree-refused k (x .0 .0) refuses in
-    let r = refused-all (length (a .states .now)) (fromTree k) (x .0 .0) q in
-    (z .ensures .0 ∙ r .0, (z .ensures .1 ∙ r .1, r .2 _))
+    λ k p.
+    let clear = marks-cleared (k .head .cues) (a .work .now) (c .before .before .before .before .before .before .before .before .before .before .before .before .before .clear-work .last .0) (open-sound (p .opens) .head-good .few-cues) (p .opens .workRoom) (c .before .before .before .before .before .before .before .before .before .before .before .before .before .clear-work .ensures) in
+    let refuses = walk-refuses (p .opens) clear (b .last .1 .1 .1 .1 .1 .0) (b .ensures k (walk-ready (p .opens) clear)) (x .0 .0) (x .1) in
+    refused-all (x .0 .0) (tree-refused k (x .0 .0) refuses) (z .ensures .0) (z .ensures .1)
 
 pub judge-nodes-spec : {M : Type 1} → statement M
 judge-nodes-spec =
     tie.close
     (tie.spec
-    store-plan-requires
+    sub-clear-work
+    part-clear-work-start
+    part-clear-work-end
+    clear-work-requires
     walk-tree-requires
     enum-told
     judge-claims-requires

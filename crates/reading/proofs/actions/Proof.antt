@@ -1,94 +1,138 @@
 -- `actions`: the A lines, with the places listed from the directory's start on (Progress). Assumes nothing.
 use Prim.Native.Nat.{_-_}
-use Rattle.reading.proofs.Progress.{Listing, list-begins, list-goes-on, list-stops, list-ends}
-use Rattle.reading.proofs.Turns.{stays-line}
+use lib.ListN.{getD}
+use Rattle.rules.specs.Case.{headerIn}
+use Rattle.reading.proofs.Progress.{Listing, list-begins, list-goes-on, list-stops, list-ends, stops, ends}
+use Rattle.reading.proofs.Turns.{line-goes}
+use Rattle.reading.specs.Groups.{valuedLine}
+use Rattle.rules.specs.Fields.{lineFields}
+use Rattle.rules.specs.Table as T
+use Rattle.fields.specs.Directory.{directorySize}
+use borrow.Author.Needs.{needs}
+use mathlib.Core.Path.{_∙_}
+use native.Mathlib.Omega.{arith}
 use Rattle.reading.proofs.actions.Statement.{statement}
 use Rattle.reading.proofs.actions.Tie as tie
-use Rattle.reading.specs.Groups.{valuedLine}
-use Rattle.rules.specs.Table as T
-use borrow.Author.Needs.{needs}
-use native.Mathlib.Omega.{arith}
 
 abbrev Inv-loop : tie.InvT-loop
-Inv-loop text past directory₀ x count at₀ i₀ directory at i = Listing text past (valuedLine text (x .header) T.action 0) (x .header .actions) at₀ 0 directory₀ at directory i
+Inv-loop text past x fields₀ directory₀ count at₀ i₀ fields directory at i =
+    Listing text past lineFields (valuedLine text (headerIn x) T.action (getD x 7 0)) (getD x 1 0) at₀ fields₀ 0 directory₀ at fields directory i
 
 abbrev μ-loop : tie.MeasureT-loop
-μ-loop text past directory₀ x count at₀ i₀ directory at i = count - i
+μ-loop text past x fields₀ directory₀ count at₀ i₀ fields directory at i = count - i
+
+-- src/lib.rt:162:17
+element-copy-out-count : tie.Need-element-copy-out-count Inv-loop μ-loop
+element-copy-out-count c = search needs
 
 cast-count : tie.Need-cast-count Inv-loop μ-loop
 cast-count c = search needs
 
+-- src/lib.rt:165:5
 loop-holds : tie.Need-loop-holds Inv-loop μ-loop
 loop-holds c =
-    let s = c .before .before .before in
+    let s = c .before .before .before .before in
     let a = s .args in
-    let one = valuedLine (a .text .now) (a .header) T.action 0 in
-    let stays = stays-line (a .text .now) (a .header) T.action 0 (λ x. x) in
-    list-begins (a .text .now) (a .past) one stays (a .header .actions) (a .from) 0 (a .directory .now) (s .pre .0)
+    let one = valuedLine (a .text .now) (headerIn (a .x .now)) T.action (getD (a .x .now) 7 0) in
+    list-begins (a .text .now) (a .past) lineFields one (getD (a .x .now) 1 0) (a .from) (a .fields .now) 0 (a .directory .now) (s .pre .0)
 
+-- src/lib.rt:167:15
 one-line-requires : tie.Need-one-line-requires Inv-loop μ-loop
-one-line-requires c κs = c .before .loop .inv .progress .due
+one-line-requires c κs = c .before .before .loop .inv .progress .due
 
+-- src/lib.rt:168:27
 enum-known-next : tie.Need-enum-known-next Inv-loop μ-loop
 enum-known-next c = search needs
 
-place-requires : tie.Need-place-requires Inv-loop μ-loop
-place-requires c κs = let d = c .before .before .before .before .before .loop .inv .progress .due in omega arith
+-- src/lib.rt:169:32
+cast-directory : tie.Need-cast-directory Inv-loop μ-loop
+cast-directory c =
+    let d = c .before .before .before .before .before .before .before .before .loop .inv .progress .due in
+    let x = d .ahead in
+    let y = d .inside in
+    let z = d .short in
+    omega arith
 
+-- src/lib.rt:169:17
 mul-directory : tie.Need-mul-directory Inv-loop μ-loop
-mul-directory c = let k = c .before .before .before .before .before .before .loop .inv .kept in let p = c .before .before .before .before .before .before .before .before .before .before .pre .1 in omega arith
+unfolding directorySize
+mul-directory c =
+    let k = c .before .before .before .before .before .before .before .before .loop .inv .size in
+    let p = c .before .before .before .before .before .before .before .before .before .before .before .before .before .pre .1 in
+    let t = c .before .before .before .before .before .before .before .loop-test .taken in
+    omega (arith, p .0, p .1)
 
+-- src/lib.rt:169:17
 slice-write-directory : tie.Need-slice-write-directory Inv-loop μ-loop
-slice-write-directory c = let k = c .before .before .before .before .before .before .loop .inv .kept in let p = c .before .before .before .before .before .before .before .before .before .before .pre .1 in omega arith
+unfolding directorySize
+slice-write-directory c =
+    let k = c .before .before .before .before .before .before .before .before .loop .inv .size in
+    let p = c .before .before .before .before .before .before .before .before .before .before .before .before .before .pre .1 in
+    let t = c .before .before .before .before .before .before .before .loop-test .taken in
+    omega (arith, p .0, p .1)
 
+-- src/lib.rt:171:17
 add-i : tie.Need-add-i Inv-loop μ-loop
 add-i c = search needs
 
+-- src/lib.rt:165:5
 loop-less : tie.Need-loop-less Inv-loop μ-loop
 loop-less c = search needs
 
+-- src/lib.rt:165:5
 loop-again : tie.Need-loop-again Inv-loop μ-loop
 loop-again c =
-    let s = c .before .before .before .before .before .before .before .before .before .before in
+    let s = c .before .before .before .before .before .before .before .before .before .before .before .before .before in
     let a = s .args in
-    let one = valuedLine (a .text .now) (a .header) T.action 0 in
-    let stays = stays-line (a .text .now) (a .header) T.action 0 (λ x. x) in
-    let l = c .before .before .before .before .before .before .loop in
-    let r = c .before .before .before .before .one-line in
-    let n = c .before .before .next .given in
-    let p = c .place in
-    list-goes-on (a .text .now) (a .past) one stays (a .header .actions) (a .from) 0 (a .directory .now) (l .at) (l .directory) (l .i) (l .inv) (c .before .before .before .before .before .loop-test .taken)
-    (r .result) (r .ensures) (n .0 .0) (l .i) (p .result) (n .1) (omega arith) (p .ensures)
+    let one = valuedLine (a .text .now) (headerIn (a .x .now)) T.action (getD (a .x .now) 7 0) in
+    let l = c .before .before .before .before .before .before .before .before .loop in
+    let r = c .before .before .before .before .before .one-line in
+    let n = c .before .next .given in
+    list-goes-on (a .text .now) (a .past) lineFields one (getD (a .x .now) 1 0) (a .from) (a .fields .now) (line-goes (a .text .now) (headerIn (a .x .now)) T.action (getD (a .x .now) 7 0)) (l .at) (l .fields) (l .i) (l .inv .progress) (c .before .before .before .before .before .before .before .loop-test .taken) (r .result) _ (r .ensures) 0 (a .directory .now) (l .directory) (l .inv .size) (l .inv .placed) (n .0 .0) (l .i) (n .1) (omega arith)
 
+-- src/lib.rt:173:30
 enum-known-answer : tie.Need-enum-known-answer Inv-loop μ-loop
 enum-known-answer c = search needs
 
+-- src/lib.rt:173:42
 same-length : tie.Need-same-length Inv-loop μ-loop
-same-length c = c .before .before .before .before .before .loop .inv .kept
+same-length c = c .before .before .before .before .before .one-line .kept .1 .1 .1 .1 .1 .0 ∙ c .before .before .before .before .before .before .before .before .loop .inv .progress .kept
 
+-- src/lib.rt:173:42
+same-length-2 : tie.Need-same-length-2 Inv-loop μ-loop
+same-length-2 c = c .before .before .before .before .before .before .before .before .loop .inv .size
+
+-- src/lib.rt:173:42
 returns : tie.Need-returns Inv-loop μ-loop
 returns c =
-    let s = c .before .before .before .before .before .before .before .before .before in
+    let s = c .before .before .before .before .before .before .before .before .before .before .before .before .before in
     let a = s .args in
-    let one = valuedLine (a .text .now) (a .header) T.action 0 in
-    let stays = stays-line (a .text .now) (a .header) T.action 0 (λ x. x) in
-    let l = c .before .before .before .before .before .loop in
-    let r = c .before .before .before .one-line in
-    let e = c .before .answer .given in
-    list-stops (a .text .now) (a .past) one stays (a .header .actions) (a .from) 0 (a .directory .now) (l .at) (l .directory) (l .i) (l .inv) (c .before .before .before .before .loop-test .taken)
-    (r .result) (r .ensures) (e .0 .0) (e .1)
+    let one = valuedLine (a .text .now) (headerIn (a .x .now)) T.action (getD (a .x .now) 7 0) in
+    let l = c .before .before .before .before .before .before .before .before .loop in
+    let r = c .before .before .before .before .before .one-line in
+    let e = c .before .answer .given in (
+      stops (a .text .now) (a .past) lineFields one (getD (a .x .now) 1 0) (a .from) (a .fields .now) (line-goes (a .text .now) (headerIn (a .x .now)) T.action (getD (a .x .now) 7 0)) (l .at) (l .fields) (l .i) (l .inv .progress) (c .before .before .before .before .before .before .before .loop-test .taken) (r .result) _ (r .ensures) (e .0 .0) (e .1) _,
+      list-stops (a .text .now) (a .past) lineFields one (getD (a .x .now) 1 0) (a .from) (a .fields .now) (line-goes (a .text .now) (headerIn (a .x .now)) T.action (getD (a .x .now) 7 0)) (l .at) (l .fields) (l .i) (l .inv .progress) (c .before .before .before .before .before .before .before .loop-test .taken) (r .result) _ (r .ensures) 0 (a .directory .now) (l .directory) (l .inv .size) (l .inv .placed) (e .0 .0) (e .1) _,
+    )
 
-same-length-2 : tie.Need-same-length-2 Inv-loop μ-loop
-same-length-2 c = c .before .loop .inv .kept
+-- src/lib.rt:146:1
+same-length-3 : tie.Need-same-length-3 Inv-loop μ-loop
+same-length-3 c = c .before .loop .inv .progress .kept
 
+-- src/lib.rt:146:1
+same-length-4 : tie.Need-same-length-4 Inv-loop μ-loop
+same-length-4 c = c .before .loop .inv .size
+
+-- src/lib.rt:146:1
 returns-2 : tie.Need-returns-2 Inv-loop μ-loop
 returns-2 c =
-    let s = c .before .before .before .before .before in
+    let s = c .before .before .before .before .before .before in
     let a = s .args in
-    let one = valuedLine (a .text .now) (a .header) T.action 0 in
-    let stays = stays-line (a .text .now) (a .header) T.action 0 (λ x. x) in
-    let l = c .before .loop in
-    list-ends (a .text .now) (a .past) one stays (a .header .actions) (a .from) 0 (a .directory .now) (l .at) (l .directory) (l .i) (l .inv) (c .loop-test .left)
+    let one = valuedLine (a .text .now) (headerIn (a .x .now)) T.action (getD (a .x .now) 7 0) in
+    let l = c .before .loop in (
+      ends (a .text .now) (a .past) lineFields one (getD (a .x .now) 1 0) (a .from) (a .fields .now) (line-goes (a .text .now) (headerIn (a .x .now)) T.action (getD (a .x .now) 7 0)) (l .at) (l .fields) (l .i) (l .inv .progress) (c .loop-test .left),
+      list-ends (a .text .now) (a .past) lineFields one (getD (a .x .now) 1 0) (a .from) (a .fields .now) (line-goes (a .text .now) (headerIn (a .x .now)) T.action (getD (a .x .now) 7 0)) (l .at) (l .fields) (l .i) (l .inv .progress) 0 (a .directory .now) (l .directory) (l .inv .placed) (c .loop-test .left),
+    )
 
 pub actions-spec : {M : Type 1} → statement M
 actions-spec =
@@ -96,11 +140,12 @@ actions-spec =
     (tie.spec
     Inv-loop
     μ-loop
+    element-copy-out-count
     cast-count
     loop-holds
     one-line-requires
     enum-known-next
-    place-requires
+    cast-directory
     mul-directory
     slice-write-directory
     add-i
@@ -108,6 +153,8 @@ actions-spec =
     loop-again
     enum-known-answer
     same-length
-    returns
     same-length-2
+    returns
+    same-length-3
+    same-length-4
     returns-2)

@@ -1,48 +1,62 @@
 -- `after`: by the three ways in which a line ends. Assumes nothing.
-use Rattle.reading.proofs.after.Statement.{statement}
-use Rattle.reading.proofs.after.Tie as tie
-use Rattle.reading.specs.Groups.{FieldBelow, afterLine}
-use borrow.Author.Needs.{needs}
+use Rattle.reading.specs.Groups.{Fits, afterLine}
 use mathlib.Core.Path.{sym, ap, subst}
 use native.Mathlib.Omega.{arith}
+use borrow.Author.Needs.{needs}
+use Rattle.reading.proofs.after.Statement.{statement}
+use Rattle.reading.proofs.after.Tie as tie
 
+-- src/lib.rt:56:24
 enum-known-finish : tie.Need-enum-known-finish
 enum-known-finish c = search needs
 
-add-t7 : tie.Need-add-t7
-add-t7 c = search needs
+-- src/lib.rt:58:23
+add-t9 : tie.Need-add-t9
+add-t9 c = search needs
 
+-- src/lib.rt:60:23
+add-t10 : tie.Need-add-t10
+add-t10 c = let h = subst (Fits (c .before .before .before .args .from)) (c .before .finish .given .1) (c .before .before .before .pre .1) in omega arith
+
+-- src/lib.rt:63:23
 enum-known-finish-2 : tie.Need-enum-known-finish-2
 enum-known-finish-2 c = search needs
 
-cast-t9 : tie.Need-cast-t9
-cast-t9 c = let h = subst (FieldBelow 65536) (c .before .finish2 .given .1) (c .before .before .before .pre .1) in omega arith
+-- src/lib.rt:66:24
+cast-t12 : tie.Need-cast-t12
+cast-t12 c = let h = subst (Fits (c .before .before .before .args .from)) (c .before .finish2 .given .1) (c .before .before .before .pre .1) in omega arith
 
+-- src/lib.rt:69:25
 enum-known-finish-3 : tie.Need-enum-known-finish-3
 enum-known-finish-3 c = search needs
 
-cast-t11 : tie.Need-cast-t11
-cast-t11 c = let h = subst (FieldBelow 65536) (c .before .finish3 .given .1) (c .before .before .before .pre .1) in omega arith
+-- src/lib.rt:72:24
+cast-t14 : tie.Need-cast-t14
+cast-t14 c = let h = subst (Fits (c .before .before .before .args .from)) (c .before .finish3 .given .1) (c .before .before .before .pre .1) in omega arith
 
+-- src/lib.rt:51:1
 returns : tie.Need-returns
-returns c = ap (afterLine (c .before .before .before .args .line)) (sym (c .before .finish .given .1))
+returns c = ap (afterLine (c .before .before .before .args .line) (c .before .before .before .args .from)) (sym (c .before .finish .given .1))
 
+-- src/lib.rt:51:1
 returns-2 : tie.Need-returns-2
-returns-2 c = ap (afterLine (c .before .before .before .args .line)) (sym (c .before .finish2 .given .1))
+returns-2 c = ap (afterLine (c .before .before .before .args .line) (c .before .before .before .args .from)) (sym (c .before .finish2 .given .1))
 
+-- src/lib.rt:51:1
 returns-3 : tie.Need-returns-3
-returns-3 c = ap (afterLine (c .before .before .before .args .line)) (sym (c .before .finish3 .given .1))
+returns-3 c = ap (afterLine (c .before .before .before .args .line) (c .before .before .before .args .from)) (sym (c .before .finish3 .given .1))
 
 pub after-spec : {M : Type 1} → statement M
 after-spec =
     tie.close
     (tie.spec
     enum-known-finish
-    add-t7
+    add-t9
+    add-t10
     enum-known-finish-2
-    cast-t9
+    cast-t12
     enum-known-finish-3
-    cast-t11
+    cast-t14
     returns
     returns-2
     returns-3)

@@ -1,72 +1,90 @@
--- `lines_of`: the lines from the first on read as those from here on do (Progress). Assumes nothing.
+-- `lines_of`: what the lines from here on leave is what all leave (Progress). Assumes nothing.
 use Prim.Native.Nat.{_-_}
+use lib.ListN.{getD}
+use Rattle.rules.specs.Case.{headerIn}
 use Rattle.lines.specs.Reading.{roleOf}
 use Rattle.reading.proofs.Progress.{Progress, begins, goes-on, stops, ends}
-use Rattle.reading.proofs.Turns.{stays-line}
+use Rattle.reading.proofs.Turns.{line-goes}
+use Rattle.reading.specs.Groups.{valuedLine}
+use Rattle.rules.specs.Fields.{lineFields}
+use borrow.Author.Needs.{needs}
+use mathlib.Core.Path.{_∙_}
 use Rattle.reading.proofs.lines_of.Statement.{statement}
 use Rattle.reading.proofs.lines_of.Tie as tie
-use Rattle.reading.specs.Groups.{valuedLine}
-use borrow.Author.Needs.{needs}
 
 abbrev Inv-loop : tie.InvT-loop
-Inv-loop text past due x count at₀ i₀ at i = Progress text past (valuedLine text (x .header) (roleOf due) (x .subtasks)) count at₀ at i
+Inv-loop text past due x count fields₀ at₀ i₀ fields at i =
+    Progress text past lineFields (valuedLine text (headerIn x) (roleOf due) (getD x 7 0)) count at₀ fields₀ at fields i
 
 abbrev μ-loop : tie.MeasureT-loop
-μ-loop text past due x count at₀ i₀ at i = count - i
+μ-loop text past due x count fields₀ at₀ i₀ fields at i = count - i
 
+-- src/lib.rt:111:5
 loop-holds : tie.Need-loop-holds Inv-loop μ-loop
 loop-holds c =
-    let s = c .before in
+    let s = c .before .before in
     let a = s .args in
-    let one = valuedLine (a .text .now) (a .x .header) (roleOf (a .due)) (a .x .subtasks) in
-    let stays = stays-line (a .text .now) (a .x .header) (roleOf (a .due)) (a .x .subtasks) (λ x. x) in
-    begins (a .text .now) (a .past) one stays (a .count) (a .from) (s .pre)
+    let one = valuedLine (a .text .now) (headerIn (a .x .now)) (roleOf (a .due)) (getD (a .x .now) 7 0) in
+    begins (a .text .now) (a .past) lineFields one (a .count) (a .from) (a .fields .now) (s .pre)
 
-one-line-requires : tie.Need-one-line-requires Inv-loop μ-loop
-one-line-requires c κs = c .before .loop .inv .due
+-- src/lib.rt:112:15
+next-line-requires : tie.Need-next-line-requires Inv-loop μ-loop
+next-line-requires c κs = c .before .before .loop .inv .due
 
+-- src/lib.rt:113:27
 enum-known-next : tie.Need-enum-known-next Inv-loop μ-loop
 enum-known-next c = search needs
 
+-- src/lib.rt:115:17
 add-i : tie.Need-add-i Inv-loop μ-loop
 add-i c = search needs
 
+-- src/lib.rt:111:5
 loop-less : tie.Need-loop-less Inv-loop μ-loop
 loop-less c = search needs
 
+-- src/lib.rt:111:5
 loop-again : tie.Need-loop-again Inv-loop μ-loop
 loop-again c =
-    let s = c .before .before .before .before .before .before .before in
+    let s = c .before .before .before .before .before .before .before .before .before .before .before in
     let a = s .args in
-    let one = valuedLine (a .text .now) (a .x .header) (roleOf (a .due)) (a .x .subtasks) in
-    let stays = stays-line (a .text .now) (a .x .header) (roleOf (a .due)) (a .x .subtasks) (λ x. x) in
-    let l = c .before .before .before .before .before .loop in
-    let r = c .before .before .before .one-line in
+    let one = valuedLine (a .text .now) (headerIn (a .x .now)) (roleOf (a .due)) (getD (a .x .now) 7 0) in
+    let l = c .before .before .before .before .before .before .before .before .loop in
+    let r = c .before .before .before .before .before .next-line in
     let n = c .before .next .given in
-    goes-on (a .text .now) (a .past) one stays (a .count) (a .from) (l .at) (l .i) (l .inv) (c .before .before .before .before .loop-test .taken) (r .result) (r .ensures) (n .0 .0) (n .1)
+    goes-on (a .text .now) (a .past) lineFields one (a .count) (a .from) (a .fields .now) (line-goes (a .text .now) (headerIn (a .x .now)) (roleOf (a .due)) (getD (a .x .now) 7 0)) (l .at) (l .fields) (l .i) (l .inv) (c .before .before .before .before .before .before .before .loop-test .taken) (r .result) _ (r .ensures) (n .0 .0) (n .1)
 
+-- src/lib.rt:117:30
 enum-known-answer : tie.Need-enum-known-answer Inv-loop μ-loop
 enum-known-answer c = search needs
 
+-- src/lib.rt:117:42
+same-length : tie.Need-same-length Inv-loop μ-loop
+same-length c = c .before .before .before .before .before .next-line .kept .1 .1 .1 .1 .1 .0 ∙ c .before .before .before .before .before .before .before .before .loop .inv .kept
+
+-- src/lib.rt:117:42
 returns : tie.Need-returns Inv-loop μ-loop
 returns c =
-    let s = c .before .before .before .before .before .before .before in
+    let s = c .before .before .before .before .before .before .before .before .before .before .before in
     let a = s .args in
-    let one = valuedLine (a .text .now) (a .x .header) (roleOf (a .due)) (a .x .subtasks) in
-    let stays = stays-line (a .text .now) (a .x .header) (roleOf (a .due)) (a .x .subtasks) (λ x. x) in
-    let l = c .before .before .before .before .before .loop in
-    let r = c .before .before .before .one-line in
+    let one = valuedLine (a .text .now) (headerIn (a .x .now)) (roleOf (a .due)) (getD (a .x .now) 7 0) in
+    let l = c .before .before .before .before .before .before .before .before .loop in
+    let r = c .before .before .before .before .before .next-line in
     let e = c .before .answer .given in
-    stops (a .text .now) (a .past) one stays (a .count) (a .from) (l .at) (l .i) (l .inv) (c .before .before .before .before .loop-test .taken) (r .result) (r .ensures) (e .0 .0) (e .1)
+    stops (a .text .now) (a .past) lineFields one (a .count) (a .from) (a .fields .now) (line-goes (a .text .now) (headerIn (a .x .now)) (roleOf (a .due)) (getD (a .x .now) 7 0)) (l .at) (l .fields) (l .i) (l .inv) (c .before .before .before .before .before .before .before .loop-test .taken) (r .result) _ (r .ensures) (e .0 .0) (e .1) _
 
+-- src/lib.rt:97:1
+same-length-2 : tie.Need-same-length-2 Inv-loop μ-loop
+same-length-2 c = c .before .loop .inv .kept
+
+-- src/lib.rt:97:1
 returns-2 : tie.Need-returns-2 Inv-loop μ-loop
 returns-2 c =
-    let s = c .before .before .before in
+    let s = c .before .before .before .before in
     let a = s .args in
-    let one = valuedLine (a .text .now) (a .x .header) (roleOf (a .due)) (a .x .subtasks) in
-    let stays = stays-line (a .text .now) (a .x .header) (roleOf (a .due)) (a .x .subtasks) (λ x. x) in
+    let one = valuedLine (a .text .now) (headerIn (a .x .now)) (roleOf (a .due)) (getD (a .x .now) 7 0) in
     let l = c .before .loop in
-    ends (a .text .now) (a .past) one stays (a .count) (a .from) (l .at) (l .i) (l .inv) (c .loop-test .left)
+    ends (a .text .now) (a .past) lineFields one (a .count) (a .from) (a .fields .now) (line-goes (a .text .now) (headerIn (a .x .now)) (roleOf (a .due)) (getD (a .x .now) 7 0)) (l .at) (l .fields) (l .i) (l .inv) (c .loop-test .left)
 
 pub lines-of-spec : {M : Type 1} → statement M
 lines-of-spec =
@@ -75,11 +93,13 @@ lines-of-spec =
     Inv-loop
     μ-loop
     loop-holds
-    one-line-requires
+    next-line-requires
     enum-known-next
     add-i
     loop-less
     loop-again
     enum-known-answer
+    same-length
     returns
+    same-length-2
     returns-2)

@@ -1,100 +1,148 @@
--- `methods`: the methods, with the places of their M lines listed from index 1024 on (Progress). Assumes nothing.
+-- `methods`: the methods, with the places listed after those of the A lines (Progress). Assumes nothing.
 use Prim.Native.Nat.{_+_, _-_}
-use Rattle.reading.proofs.Progress.{Listing, list-begins, list-goes-on, list-stops, list-ends}
-use Rattle.reading.proofs.Turns.{stays-method}
+use lib.ListN.{getD}
+use Rattle.reading.proofs.Progress.{Listing, list-begins, list-goes-on, list-stops, list-ends, stops, ends}
+use Rattle.reading.proofs.MethodLines.{method-goes}
+use Rattle.reading.specs.Groups.{methodFields}
+use Rattle.rules.specs.Case.{headerIn, oneMethod}
+use Rattle.fields.specs.Directory.{methodsFrom, directorySize}
+use borrow.Author.Needs.{needs}
+use mathlib.Core.Path.{_∙_}
+use native.Mathlib.Omega.{arith}
 use Rattle.reading.proofs.methods.Statement.{statement}
 use Rattle.reading.proofs.methods.Tie as tie
-use Rattle.reading.specs.Directory.{methodsFrom}
-use Rattle.rules.specs.Case.{oneMethod}
-use borrow.Author.Needs.{needs}
-use mathlib.Core.Path.{refl}
-use native.Mathlib.Omega.{arith}
 
 abbrev Inv-loop : tie.InvT-loop
-Inv-loop text past header directory₀ count at₀ i₀ directory at i = Listing text past (oneMethod text header) (header .methods) at₀ 1024 directory₀ at directory i
+Inv-loop text past x fields₀ directory₀ count at₀ i₀ fields directory at i =
+    Listing text past methodFields (oneMethod text (headerIn x)) (getD x 3 0) at₀ fields₀ methodsFrom directory₀ at fields directory i
 
 abbrev μ-loop : tie.MeasureT-loop
-μ-loop text past header directory₀ count at₀ i₀ directory at i = count - i
+μ-loop text past x fields₀ directory₀ count at₀ i₀ fields directory at i = count - i
+
+-- src/lib.rt:194:17
+element-copy-out-count : tie.Need-element-copy-out-count Inv-loop μ-loop
+element-copy-out-count c = search needs
 
 cast-count : tie.Need-cast-count Inv-loop μ-loop
 cast-count c = search needs
 
+-- src/lib.rt:197:5
 loop-holds : tie.Need-loop-holds Inv-loop μ-loop
 loop-holds c =
-    let s = c .before .before .before in
+    let s = c .before .before .before .before in
     let a = s .args in
-    let one = oneMethod (a .text .now) (a .header) in
-    let stays = stays-method (a .text .now) (a .header) in
-    list-begins (a .text .now) (a .past) one stays (a .header .methods) (a .from) 1024 (a .directory .now) (s .pre .0)
+    let one = oneMethod (a .text .now) (headerIn (a .x .now)) in
+    list-begins (a .text .now) (a .past) methodFields one (getD (a .x .now) 3 0) (a .from) (a .fields .now) methodsFrom (a .directory .now) (s .pre .0)
 
+-- src/lib.rt:199:15
 one-method-requires : tie.Need-one-method-requires Inv-loop μ-loop
-one-method-requires c κs = c .before .loop .inv .progress .due
+one-method-requires c κs = (c .before .before .loop .inv .progress .due, c .before .before .before .before .before .before .before .pre .1 .2)
 
+-- src/lib.rt:200:27
 enum-known-next : tie.Need-enum-known-next Inv-loop μ-loop
 enum-known-next c = search needs
 
-place-requires : tie.Need-place-requires Inv-loop μ-loop
-place-requires c κs = let d = c .before .before .before .before .before .loop .inv .progress .due in omega arith
+-- src/lib.rt:201:47
+cast-directory : tie.Need-cast-directory Inv-loop μ-loop
+cast-directory c =
+    let d = c .before .before .before .before .before .before .before .before .loop .inv .progress .due in
+    let x = d .ahead in
+    let y = d .inside in
+    let z = d .short in
+    omega arith
 
+-- src/lib.rt:201:27
 add-directory : tie.Need-add-directory Inv-loop μ-loop
-add-directory c = search needs
+unfolding directorySize
+add-directory c =
+    let k = c .before .before .before .before .before .before .before .before .loop .inv .size in
+    let p = c .before .before .before .before .before .before .before .before .before .before .before .before .before .pre .1 in
+    let t = c .before .before .before .before .before .before .before .loop-test .taken in
+    omega (arith, p .0, p .1)
 
+-- src/lib.rt:201:17
 mul-directory : tie.Need-mul-directory Inv-loop μ-loop
-mul-directory c = let k = c .before .before .before .before .before .before .loop .inv .kept in let p = c .before .before .before .before .before .before .before .before .before .before .pre .1 in omega arith
+unfolding directorySize
+mul-directory c =
+    let k = c .before .before .before .before .before .before .before .before .loop .inv .size in
+    let p = c .before .before .before .before .before .before .before .before .before .before .before .before .before .pre .1 in
+    let t = c .before .before .before .before .before .before .before .loop-test .taken in
+    omega (arith, p .0, p .1)
 
+-- src/lib.rt:201:17
 slice-write-directory : tie.Need-slice-write-directory Inv-loop μ-loop
-slice-write-directory c = let k = c .before .before .before .before .before .before .loop .inv .kept in let p = c .before .before .before .before .before .before .before .before .before .before .pre .1 in omega arith
+unfolding directorySize
+slice-write-directory c =
+    let k = c .before .before .before .before .before .before .before .before .loop .inv .size in
+    let p = c .before .before .before .before .before .before .before .before .before .before .before .before .before .pre .1 in
+    let t = c .before .before .before .before .before .before .before .loop-test .taken in
+    omega (arith, p .0, p .1)
 
+-- src/lib.rt:203:17
 add-i : tie.Need-add-i Inv-loop μ-loop
 add-i c = search needs
 
+-- src/lib.rt:197:5
 loop-less : tie.Need-loop-less Inv-loop μ-loop
 loop-less c = search needs
 
+-- src/lib.rt:197:5
 loop-again : tie.Need-loop-again Inv-loop μ-loop
+unfolding methodsFrom
 loop-again c =
-    let s = c .before .before .before .before .before .before .before .before .before .before in
+    let s = c .before .before .before .before .before .before .before .before .before .before .before .before .before in
     let a = s .args in
-    let one = oneMethod (a .text .now) (a .header) in
-    let stays = stays-method (a .text .now) (a .header) in
-    let l = c .before .before .before .before .before .before .loop in
-    let r = c .before .before .before .before .one-method in
-    let n = c .before .before .next .given in
-    let p = c .place in
-    list-goes-on (a .text .now) (a .past) one stays (a .header .methods) (a .from) 1024 (a .directory .now) (l .at) (l .directory) (l .i) (l .inv) (c .before .before .before .before .before .loop-test .taken)
-    (r .result) (r .ensures) (n .0 .0) (1024 + l .i) (p .result) (n .1) refl (p .ensures)
+    let one = oneMethod (a .text .now) (headerIn (a .x .now)) in
+    let l = c .before .before .before .before .before .before .before .before .loop in
+    let r = c .before .before .before .before .before .one-method in
+    let n = c .before .next .given in
+    list-goes-on (a .text .now) (a .past) methodFields one (getD (a .x .now) 3 0) (a .from) (a .fields .now) (method-goes (a .text .now) (headerIn (a .x .now))) (l .at) (l .fields) (l .i) (l .inv .progress) (c .before .before .before .before .before .before .before .loop-test .taken) (r .result) _ (r .ensures) methodsFrom (a .directory .now) (l .directory) (l .inv .size) (l .inv .placed) (n .0 .0) (methodsFrom + l .i) (n .1) (omega arith)
 
+-- src/lib.rt:205:30
 enum-known-answer : tie.Need-enum-known-answer Inv-loop μ-loop
 enum-known-answer c = search needs
 
+-- src/lib.rt:205:42
 same-length : tie.Need-same-length Inv-loop μ-loop
-same-length c = c .before .before .before .before .before .loop .inv .kept
+same-length c = c .before .before .before .before .before .one-method .kept .1 .1 .1 .1 .0 ∙ c .before .before .before .before .before .before .before .before .loop .inv .progress .kept
 
+-- src/lib.rt:205:42
+same-length-2 : tie.Need-same-length-2 Inv-loop μ-loop
+same-length-2 c = c .before .before .before .before .before .before .before .before .loop .inv .size
+
+-- src/lib.rt:205:42
 returns : tie.Need-returns Inv-loop μ-loop
 unfolding methodsFrom
 returns c =
-    let s = c .before .before .before .before .before .before .before .before .before in
+    let s = c .before .before .before .before .before .before .before .before .before .before .before .before .before in
     let a = s .args in
-    let one = oneMethod (a .text .now) (a .header) in
-    let stays = stays-method (a .text .now) (a .header) in
-    let l = c .before .before .before .before .before .loop in
-    let r = c .before .before .before .one-method in
-    let e = c .before .answer .given in
-    list-stops (a .text .now) (a .past) one stays (a .header .methods) (a .from) 1024 (a .directory .now) (l .at) (l .directory) (l .i) (l .inv) (c .before .before .before .before .loop-test .taken)
-    (r .result) (r .ensures) (e .0 .0) (e .1)
+    let one = oneMethod (a .text .now) (headerIn (a .x .now)) in
+    let l = c .before .before .before .before .before .before .before .before .loop in
+    let r = c .before .before .before .before .before .one-method in
+    let e = c .before .answer .given in (
+      stops (a .text .now) (a .past) methodFields one (getD (a .x .now) 3 0) (a .from) (a .fields .now) (method-goes (a .text .now) (headerIn (a .x .now))) (l .at) (l .fields) (l .i) (l .inv .progress) (c .before .before .before .before .before .before .before .loop-test .taken) (r .result) _ (r .ensures) (e .0 .0) (e .1) _,
+      list-stops (a .text .now) (a .past) methodFields one (getD (a .x .now) 3 0) (a .from) (a .fields .now) (method-goes (a .text .now) (headerIn (a .x .now))) (l .at) (l .fields) (l .i) (l .inv .progress) (c .before .before .before .before .before .before .before .loop-test .taken) (r .result) _ (r .ensures) methodsFrom (a .directory .now) (l .directory) (l .inv .size) (l .inv .placed) (e .0 .0) (e .1) _,
+    )
 
-same-length-2 : tie.Need-same-length-2 Inv-loop μ-loop
-same-length-2 c = c .before .loop .inv .kept
+-- src/lib.rt:181:1
+same-length-3 : tie.Need-same-length-3 Inv-loop μ-loop
+same-length-3 c = c .before .loop .inv .progress .kept
 
+-- src/lib.rt:181:1
+same-length-4 : tie.Need-same-length-4 Inv-loop μ-loop
+same-length-4 c = c .before .loop .inv .size
+
+-- src/lib.rt:181:1
 returns-2 : tie.Need-returns-2 Inv-loop μ-loop
 unfolding methodsFrom
 returns-2 c =
-    let s = c .before .before .before .before .before in
+    let s = c .before .before .before .before .before .before in
     let a = s .args in
-    let one = oneMethod (a .text .now) (a .header) in
-    let stays = stays-method (a .text .now) (a .header) in
-    let l = c .before .loop in
-    list-ends (a .text .now) (a .past) one stays (a .header .methods) (a .from) 1024 (a .directory .now) (l .at) (l .directory) (l .i) (l .inv) (c .loop-test .left)
+    let one = oneMethod (a .text .now) (headerIn (a .x .now)) in
+    let l = c .before .loop in (
+      ends (a .text .now) (a .past) methodFields one (getD (a .x .now) 3 0) (a .from) (a .fields .now) (method-goes (a .text .now) (headerIn (a .x .now))) (l .at) (l .fields) (l .i) (l .inv .progress) (c .loop-test .left),
+      list-ends (a .text .now) (a .past) methodFields one (getD (a .x .now) 3 0) (a .from) (a .fields .now) (method-goes (a .text .now) (headerIn (a .x .now))) (l .at) (l .fields) (l .i) (l .inv .progress) methodsFrom (a .directory .now) (l .directory) (l .inv .placed) (c .loop-test .left),
+    )
 
 pub methods-spec : {M : Type 1} → statement M
 methods-spec =
@@ -102,11 +150,12 @@ methods-spec =
     (tie.spec
     Inv-loop
     μ-loop
+    element-copy-out-count
     cast-count
     loop-holds
     one-method-requires
     enum-known-next
-    place-requires
+    cast-directory
     add-directory
     mul-directory
     slice-write-directory
@@ -115,6 +164,8 @@ methods-spec =
     loop-again
     enum-known-answer
     same-length
-    returns
     same-length-2
+    returns
+    same-length-3
+    same-length-4
     returns-2)

@@ -1,53 +1,137 @@
 -- `one_method`: the M line's numbers say which constraint lines follow. Assumes nothing.
-use Rattle.reading.proofs.Turns.{entry-group, method-on, method-stopped, stays-line, due-next}
+use lib.ListN.{getD}
+use Rattle.rules.specs.Case.{headerIn}
+use Rattle.reading.proofs.MethodLines.{method-zero, method-own, inside-fields, method-refused}
+use Rattle.reading.proofs.Turns.{line-goes, due-next}
+use Rattle.reading.specs.Groups.{valuedLine}
+use Rattle.rules.specs.Fields.{lineFields}
+use Rattle.rules.specs.Table as T
+use native.Mathlib.Omega.{arith}
+use borrow.Author.Needs.{needs}
 use Rattle.reading.proofs.one_method.Statement.{statement}
 use Rattle.reading.proofs.one_method.Tie as tie
-use Rattle.reading.specs.Groups.{valuedLine}
-use Rattle.rules.specs.Table as T
-use borrow.Author.Needs.{needs}
 
-valued-line-requires : tie.Need-valued-line-requires
-valued-line-requires c κs = search needs
+-- src/lib.rt:133:11
+one-line-requires : tie.Need-one-line-requires
+one-line-requires c κs = search needs
 
-enum-known-group : tie.Need-enum-known-group
-enum-known-group c = search needs
+-- src/lib.rt:134:23
+enum-known-next : tie.Need-enum-known-next
+enum-known-next c = search needs
 
-array-read-lines-of : tie.Need-array-read-lines-of
-array-read-lines-of c = search needs
+-- src/lib.rt:136:35
+add-subtasks : tie.Need-add-subtasks
+add-subtasks c = search needs
 
-array-read-lines-of-2 : tie.Need-array-read-lines-of-2
-array-read-lines-of-2 c = search needs
+-- src/lib.rt:136:28
+mul-subtasks : tie.Need-mul-subtasks
+mul-subtasks c = search needs
 
+-- src/lib.rt:136:28
+slice-read-subtasks : tie.Need-slice-read-subtasks
+slice-read-subtasks c =
+    let s = c .before .before .before .before .before .before .before .before .before .before in
+    let a = s .args in
+    let r = c .before .before .before .before .before .before .one-line in
+    let read = method-zero (a .text .now) (headerIn (a .x .now)) (getD (a .x .now) 7 0) (a .at .line) (a .at .start .at) (a .at .from) (a .fields .now) (r .result) _ (s .pre .1 .1) (r .ensures) in
+    let n = c .before .before .next .given in
+    inside-fields (a .text .now) (headerIn (a .x .now)) (a .past) (a .at) (n .0 .0) (a .fields .now) _ (r .result) (s .pre .0) read (n .1) .0
+
+-- src/lib.rt:137:32
+sub-count : tie.Need-sub-count
+sub-count c =
+    let s = c .before .before .before .before .before .before .before .before .before .before .before in
+    let a = s .args in
+    let r = c .before .before .before .before .before .before .before .one-line in
+    let read = method-zero (a .text .now) (headerIn (a .x .now)) (getD (a .x .now) 7 0) (a .at .line) (a .at .start .at) (a .at .from) (a .fields .now) (r .result) _ (s .pre .1 .1) (r .ensures) in
+    let n = c .before .before .before .next .given in
+    inside-fields (a .text .now) (headerIn (a .x .now)) (a .past) (a .at) (n .0 .0) (a .fields .now) _ (r .result) (s .pre .0) read (n .1) .1
+
+-- src/lib.rt:137:25
+mul-count : tie.Need-mul-count
+mul-count c =
+    let s = c .before .before .before .before .before .before .before .before .before .before .before in
+    let a = s .args in
+    let r = c .before .before .before .before .before .before .before .one-line in
+    let read = method-zero (a .text .now) (headerIn (a .x .now)) (getD (a .x .now) 7 0) (a .at .line) (a .at .start .at) (a .at .from) (a .fields .now) (r .result) _ (s .pre .1 .1) (r .ensures) in
+    let n = c .before .before .before .next .given in
+    let i = inside-fields (a .text .now) (headerIn (a .x .now)) (a .past) (a .at) (n .0 .0) (a .fields .now) _ (r .result) (s .pre .0) read (n .1) in
+    let l = r .kept .1 .1 .1 .1 .1 .0 in
+    omega arith
+
+-- src/lib.rt:137:25
+slice-read-count : tie.Need-slice-read-count
+slice-read-count c =
+    let s = c .before .before .before .before .before .before .before .before .before .before .before .before in
+    let a = s .args in
+    let r = c .before .before .before .before .before .before .before .before .one-line in
+    let read = method-zero (a .text .now) (headerIn (a .x .now)) (getD (a .x .now) 7 0) (a .at .line) (a .at .start .at) (a .at .from) (a .fields .now) (r .result) _ (s .pre .1 .1) (r .ensures) in
+    let n = c .before .before .before .before .next .given in
+    inside-fields (a .text .now) (headerIn (a .x .now)) (a .past) (a .at) (n .0 .0) (a .fields .now) _ (r .result) (s .pre .0) read (n .1) .2
+
+array-write-own : tie.Need-array-write-own
+array-write-own c = search needs
+
+-- src/lib.rt:139:13
 lines-of-requires : tie.Need-lines-of-requires
 lines-of-requires c κs =
-    let a = c .before .before .before .before .before .before .args in
-    let one = valuedLine (a .text .now) (a .header) T.method 0 in
-    let e = c .before .before .before .before .valued-line in
-    due-next (a .text .now) one (stays-line (a .text .now) (a .header) T.method 0 (λ x. x)) (a .past) (a .at) (c .before .group .given .0 .0) (e .result .group) (c .before .before .before .before .before .before .pre) (c .before .group .given .1)
-    (entry-group (e .result) (one (a .at .line) (a .at .start .at)) (e .ensures))
+    let s = c .before .before .before .before .before .before .before .before .before .before .before .before .before .before .before in
+    let a = s .args in
+    let r = c .before .before .before .before .before .before .before .before .before .before .before .one-line in
+    let read = method-zero (a .text .now) (headerIn (a .x .now)) (getD (a .x .now) 7 0) (a .at .line) (a .at .start .at) (a .at .from) (a .fields .now) (r .result) _ (s .pre .1 .1) (r .ensures) in
+    let n = c .before .before .before .before .before .before .before .next .given in
+    let one = valuedLine (a .text .now) (headerIn (a .x .now)) T.method 0 in
+    due-next lineFields (a .text .now) (a .past) (a .fields .now) _ (a .at) (n .0 .0) (one (a .at .line) (a .at .start .at)) (r .result) (s .pre .0)
+    (line-goes (a .text .now) (headerIn (a .x .now)) T.method 0 (a .at .line) (a .at .start .at) (a .at .from) (s .pre .0 .ahead) (s .pre .0 .inside)) read (n .1)
 
-enum-known-group-2 : tie.Need-enum-known-group-2
-enum-known-group-2 c = search needs
+-- src/lib.rt:141:26
+enum-known-answer : tie.Need-enum-known-answer
+enum-known-answer c = search needs
 
+-- src/lib.rt:124:1
+same-length : tie.Need-same-length
+same-length c = search needs
+
+-- src/lib.rt:124:1
 returns : tie.Need-returns
 returns c =
-    let a = c .before .before .before .before .before .before .before .args in
-    method-on (a .text .now) (a .header) (a .at) (c .before .before .before .before .before .valued-line .result) (c .before .before .before .before .before .valued-line .ensures) (c .before .before .group .given .0 .0) (c .lines-of .result) (c .before .before .group .given .1) (c .lines-of .ensures)
+    let s = c .before .before .before .before .before .before .before .before .before .before .before .before .before .before .before .before .before .before in
+    let a = s .args in
+    let r = c .before .before .before .before .before .before .before .before .before .before .before .before .before .before .one-line in
+    let read = method-zero (a .text .now) (headerIn (a .x .now)) (getD (a .x .now) 7 0) (a .at .line) (a .at .start .at) (a .at .from) (a .fields .now) (r .result) _ (s .pre .1 .1) (r .ensures) in
+    let n = c .before .before .before .before .before .before .before .before .before .before .next .given in
+    method-own (a .text .now) (a .x .now) (a .past) (a .at) (n .0 .0) (a .fields .now) _ (r .result) (s .pre .0) read (n .1) (s .pre .1 .0) _ _ (c .before .before .lines-of .ensures)
 
+-- src/lib.rt:124:1
+same-length-2 : tie.Need-same-length-2
+same-length-2 c = search needs
+
+-- src/lib.rt:124:1
 returns-2 : tie.Need-returns-2
 returns-2 c =
-    let a = c .before .before .before .before .before .before .args in
-    method-stopped (a .text .now) (a .header) (a .at) (c .before .before .before .before .valued-line .result) (c .before .before .before .before .valued-line .ensures) (c .before .group2 .given .0 .0) (c .before .group2 .given .1)
+    let s = c .before .before .before .before .before .before .before .before .before in
+    let a = s .args in
+    let r = c .before .before .before .before .before .one-line in
+    let read = method-zero (a .text .now) (headerIn (a .x .now)) (getD (a .x .now) 7 0) (a .at .line) (a .at .start .at) (a .at .from) (a .fields .now) (r .result) _ (s .pre .1 .1) (r .ensures) in
+    let e = c .before .answer .given in
+    method-refused (a .text .now) (headerIn (a .x .now)) (a .past) (a .at) (a .at) (a .fields .now) _ (r .result) (s .pre .0) read (e .0 .0) (e .1) _
 
 pub one-method-spec : {M : Type 1} → statement M
 one-method-spec =
     tie.close
     (tie.spec
-    valued-line-requires
-    enum-known-group
-    array-read-lines-of
-    array-read-lines-of-2
+    one-line-requires
+    enum-known-next
+    add-subtasks
+    mul-subtasks
+    slice-read-subtasks
+    sub-count
+    mul-count
+    slice-read-count
+    array-write-own
     lines-of-requires
-    enum-known-group-2
+    enum-known-answer
+    same-length
     returns
+    same-length-2
     returns-2)

@@ -1,91 +1,116 @@
--- `read_case`: the header line, then the body by its numbers (First). Assumes nothing.
-use Rattle.reading.proofs.First.{first-due, first-refused, header-small, body-due, case-read}
+-- `read_case`: the header line, and the case as it goes on from there (Cases). Assumes nothing.
+use Rattle.reading.proofs.Cases.{start-due, first-left, first-refused, good, header-is, header-room, body-due, case-read}
+use Rattle.rules.specs.Case.{noHeader}
+use Rattle.rules.proofs.Judgement.Sound.{GoodHeader}
+use mathlib.Core.Path.{sym, subst, _∙_}
+use borrow.Author.Needs.{needs}
 use Rattle.reading.proofs.read_case.Statement.{statement}
 use Rattle.reading.proofs.read_case.Tie as tie
-use Rattle.reading.specs.Directory.{directorySize}
-use borrow.Author.Needs.{needs}
 
+-- src/lib.rt:294:9
 past-last-feed-requires : tie.Need-past-last-feed-requires
 past-last-feed-requires c κs = search needs
 
-header-of-requires : tie.Need-header-of-requires
-header-of-requires c κs = search needs
-
+-- src/lib.rt:309:9
 new-requires : tie.Need-new-requires
 new-requires c κs = search needs
 
-valued-line-requires : tie.Need-valued-line-requires
-valued-line-requires c κs =
-    let s = c .before .before .before .before .before in
-    let text = s .args .text .now in
-    let p = c .before .before .past-last-feed in
-    let h = c .before .header-of in
-    let n = c .new in
-    first-due text (p .result) (h .result) (h .ensures) (n .result) (n .ensures) (p .ensures .0) (s .pre .0)
+-- src/lib.rt:315:11
+one-line-requires : tie.Need-one-line-requires
+unfolding noHeader
+one-line-requires c κs =
+    let s = c .before .before .before .before .before .before .before in
+    let a = s .args in
+    let f = c .before .before .before .past-last-feed in
+    let z = c .before .before .new in
+    start-due (a .text .now) (f .result) (a .fields .now) (a .directory .now) (f .ensures .0) (s .pre .0) (s .pre .1) (s .pre .2) (z .result) (z .ensures)
 
-enum-known-group : tie.Need-enum-known-group
-enum-known-group c = search needs
+-- src/lib.rt:316:23
+enum-known-next : tie.Need-enum-known-next
+enum-known-next c = search needs
 
-header-of-requires-2 : tie.Need-header-of-requires-2
-header-of-requires-2 c κs = search needs
+-- src/lib.rt:317:17
+header-of-requires : tie.Need-header-of-requires
+unfolding noHeader
+header-of-requires c κs =
+    let s = c .before .before .before .before .before .before .before .before .before .before .before .before .before .before in
+    let a = s .args in
+    let f = c .before .before .before .before .before .before .before .before .before .before .past-last-feed in
+    let z = c .before .before .before .before .before .before .before .before .before .new in
+    let r = c .before .before .before .before .before .before .one-line in
+    let n = c .before .before .next .given in
+    header-room (a .text .now) (f .result) (a .fields .now) (a .directory .now) (f .ensures .0) (s .pre .0) (s .pre .1) (s .pre .2) (r .result) _ (first-left (a .text .now) (f .result) (a .fields .now) (a .directory .now) (f .ensures .0) (s .pre .0) (s .pre .1) (s .pre .2) (z .result) (z .ensures) (r .result) _ (r .ensures)) (n .0 .0) (n .1)
 
+-- src/lib.rt:318:13
 body-requires : tie.Need-body-requires
-unfolding directorySize
+unfolding noHeader
 body-requires c κs =
-    let s = c .before .before .before .before .before .before .before .before .before .before .before .before in
-    let text = s .args .text .now in
-    let p = c .before .before .before .before .before .before .before .before .before .past-last-feed in
-    let h = c .before .before .before .before .before .before .before .before .header-of in
-    let n = c .before .before .before .before .before .before .before .new in
-    let v = c .before .before .before .before .before .before .valued-line in
-    let g = c .before .before .before .group .given in
-    let own = c .before .header-of2 in
-    let due = first-due text (p .result) (h .result) (h .ensures) (n .result) (n .ensures) (p .ensures .0) (s .pre .0) in
-    let good = header-small text (p .result) (h .result) (h .ensures) (n .result) (n .ensures) (v .result) (v .ensures) (g .0 .0) (g .1) (own .result) (own .ensures) in
-    (body-due text (p .result) (h .result) (h .ensures) (n .result) (n .ensures) (v .result) (v .ensures) (g .0 .0) (g .1) (own .result) (own .ensures) due, (good .few-actions, good .few-methods, s .pre .1))
+    let s = c .before .before .before .before .before .before .before .before .before .before .before .before .before .before .before .before .before in
+    let a = s .args in
+    let f = c .before .before .before .before .before .before .before .before .before .before .before .before .before .past-last-feed in
+    let z = c .before .before .before .before .before .before .before .before .before .before .before .before .new in
+    let r = c .before .before .before .before .before .before .before .before .before .one-line in
+    let q = first-left (a .text .now) (f .result) (a .fields .now) (a .directory .now) (f .ensures .0) (s .pre .0) (s .pre .1) (s .pre .2) (z .result) (z .ensures) (r .result) _ (r .ensures) in
+    let n = c .before .before .before .before .before .next .given in
+    let h = c .before .before .header-of in
+    (body-due (a .text .now) (f .result) (a .fields .now) (a .directory .now) (f .ensures .0) (s .pre .0) (s .pre .1) (s .pre .2) (r .result) _ q (n .0 .0) (n .1), (subst GoodHeader (sym (h .ensures ∙ header-is (a .text .now) (f .result) (a .fields .now) (a .directory .now) (f .ensures .0) (s .pre .0) (s .pre .1) (s .pre .2) (r .result) _ q (n .0 .0) (n .1))) (good (a .text .now) (f .result) (a .fields .now) (a .directory .now) (f .ensures .0) (s .pre .0) (s .pre .1) (s .pre .2) (r .result) _ q (n .0 .0) (n .1)), s .pre .2))
 
-enum-known-group-2 : tie.Need-enum-known-group-2
-enum-known-group-2 c = search needs
+-- src/lib.rt:320:26
+enum-known-answer : tie.Need-enum-known-answer
+enum-known-answer c = search needs
 
+-- src/lib.rt:290:1
 same-length : tie.Need-same-length
 same-length c = search needs
 
-returns : tie.Need-returns
-returns c =
-    let s = c .before .before .before .before .before .before .before .before .before .before .before .before .before .before .before in
-    let text = s .args .text .now in
-    let p = c .before .before .before .before .before .before .before .before .before .before .before .before .past-last-feed in
-    let h = c .before .before .before .before .before .before .before .before .before .before .before .header-of in
-    let n = c .before .before .before .before .before .before .before .before .before .before .new in
-    let v = c .before .before .before .before .before .before .before .before .before .valued-line in
-    let g = c .before .before .before .before .before .before .group .given in
-    let own = c .before .before .before .before .header-of2 in
-    let r = c .before .before .body in
-    case-read text (p .result) (h .result) (h .ensures) (n .result) (n .ensures) (v .result) (v .ensures) (g .0 .0) (g .1) (own .result) (own .ensures) (r .result) (r .last .1 .1 .1 .1 .0) (r .ensures)
+-- src/lib.rt:290:1
+same-length-2 : tie.Need-same-length-2
+same-length-2 c = search needs
 
+-- src/lib.rt:290:1
+returns : tie.Need-returns
+unfolding noHeader
+returns c =
+    let s = c .before .before .before .before .before .before .before .before .before .before .before .before .before .before .before .before .before .before .before .before .before .before in
+    let a = s .args in
+    let f = c .before .before .before .before .before .before .before .before .before .before .before .before .before .before .before .before .before .before .past-last-feed in
+    let z = c .before .before .before .before .before .before .before .before .before .before .before .before .before .before .before .before .before .new in
+    let r = c .before .before .before .before .before .before .before .before .before .before .before .before .before .before .one-line in
+    let q = first-left (a .text .now) (f .result) (a .fields .now) (a .directory .now) (f .ensures .0) (s .pre .0) (s .pre .1) (s .pre .2) (z .result) (z .ensures) (r .result) _ (r .ensures) in
+    let n = c .before .before .before .before .before .before .before .before .before .before .next .given in
+    let h = c .before .before .before .before .before .before .before .header-of in
+    case-read (a .text .now) (f .result) (a .fields .now) (a .directory .now) (f .ensures .0) (s .pre .0) (s .pre .1) (s .pre .2) (r .result) _ q (n .0 .0) (n .1) (h .result) (h .ensures) _ _ _ (c .before .before .before .before .body .ensures)
+
+-- src/lib.rt:290:1
+same-length-3 : tie.Need-same-length-3
+same-length-3 c = search needs
+
+-- src/lib.rt:290:1
 returns-2 : tie.Need-returns-2
+unfolding noHeader
 returns-2 c =
-    let s = c .before .before .before .before .before .before .before .before .before .before in
-    let text = s .args .text .now in
-    let p = c .before .before .before .before .before .before .before .past-last-feed in
-    let h = c .before .before .before .before .before .before .header-of in
-    let n = c .before .before .before .before .before .new in
-    let v = c .before .before .before .before .valued-line in
-    let g = c .before .group2 .given in
-    first-refused text (p .result) (h .result) (h .ensures) (n .result) (n .ensures) (v .result) (v .ensures) (g .0 .0) (g .1) _
+    let s = c .before .before .before .before .before .before .before .before .before .before .before .before .before in
+    let a = s .args in
+    let f = c .before .before .before .before .before .before .before .before .before .past-last-feed in
+    let z = c .before .before .before .before .before .before .before .before .new in
+    let r = c .before .before .before .before .before .one-line in
+    let q = first-left (a .text .now) (f .result) (a .fields .now) (a .directory .now) (f .ensures .0) (s .pre .0) (s .pre .1) (s .pre .2) (z .result) (z .ensures) (r .result) _ (r .ensures) in
+    let x = c .before .answer .given in
+    first-refused (a .text .now) (f .result) (a .fields .now) (a .directory .now) (f .ensures .0) (s .pre .0) (s .pre .1) (s .pre .2) (r .result) _ q (x .0 .0) (x .1) _ _
 
 pub read-case-spec : {M : Type 1} → statement M
 read-case-spec =
     tie.close
     (tie.spec
     past-last-feed-requires
-    header-of-requires
     new-requires
-    valued-line-requires
-    enum-known-group
-    header-of-requires-2
+    one-line-requires
+    enum-known-next
+    header-of-requires
     body-requires
-    enum-known-group-2
+    enum-known-answer
     same-length
+    same-length-2
     returns
+    same-length-3
     returns-2)

@@ -1,16 +1,15 @@
 -- `write_records`: the spans out of the rows, then the heads; the records' spans are those of the rows. Assumes nothing.
-use Rattle.records.proofs.Turns.{records-agree, length-lines}
+use Rattle.records.proofs.Turns.{records-agree}
 use Rattle.records.proofs.write_records.Statement.{statement}
 use Rattle.records.proofs.write_records.Tie as tie
-use Rattle.records.specs.Reading.{nodeLines}
 use Rattle.parts.specs.Spans.{rowSpan}
 use Rattle.records.specs.Records.{columnSpan}
 use borrow.Author.Needs.{needs}
 use mathlib.Core.Path.{_∙_}
 use native.Mathlib.Omega.{arith}
 
-cast-put-spans : tie.Need-cast-put-spans
-cast-put-spans c = search needs
+cast-count : tie.Need-cast-count
+cast-count c = search needs
 
 put-spans-requires : tie.Need-put-spans-requires
 put-spans-requires c κs = search needs
@@ -23,12 +22,11 @@ same-length c = search needs
 
 returns : tie.Need-returns
 returns c =
-    let s = c .before .before .before .before .before .before .before .before .before .before .before in
-    let a = s .args in
+    let a = c .before .before .before .before .before .before .before .before .before .before .before .args in
     let z = c .before .before .before .before .before .before .put-spans in
-    let many = length-lines (a .text .now) (a .header) (a .nodes .at) (s .pre .1) in
-    c .before .before .put-heads .ensures
-    ∙ records-agree (columnSpan (z .last .0)) (rowSpan (a .work .now)) (a .header .nodes) 0 (nodeLines (a .text .now) (a .header) (a .nodes .at)) (z .ensures) (omega arith)
+    λ ns w.
+    c .before .before .put-heads .ensures ns w
+    ∙ records-agree (columnSpan (z .last .0)) (rowSpan (a .work .now)) (a .header .nodes) 0 ns (z .ensures) (omega (arith, w .counted))
 
 pub write-records-spec : {M : Type 1} → statement M
-write-records-spec = tie.close (tie.spec cast-put-spans put-spans-requires put-heads-requires same-length returns)
+write-records-spec = tie.close (tie.spec cast-count put-spans-requires put-heads-requires same-length returns)

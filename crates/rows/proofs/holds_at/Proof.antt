@@ -1,9 +1,10 @@
 -- `holds_at`: the middle part that was lent is the row of state l. Assumes nothing.
 use Prim.Native.Nat.{ℕ}
 use Rattle.index.specs.Spans.{stateOf}
-use Rattle.rows.proofs.Written.{part-row}
+use Rattle.rows.proofs.Written.{part-at}
 use Rattle.rows.proofs.holds_at.Statement.{statement}
 use Rattle.rows.proofs.holds_at.Tie as tie
+use Rattle.rows.specs.Rows.{rowAt, inRow}
 use Rattle.rules.specs.State.{wordCount, member}
 use borrow.Author.Needs.{needs}
 use mathlib.Core.List.{List}
@@ -32,11 +33,11 @@ holds-requires : tie.Need-holds-requires
 holds-requires c κs = search needs
 
 returns : tie.Need-returns
-unfolding wordCount
+unfolding wordCount inRow rowAt
 returns c =
     let a = c .before .before .before .before .args in
     let from = c .before .before .row-start in
-    c .holds .ensures ∙ ap (λ (s : List ℕ). member s (a .p)) (part-row (a .states .now) (stateOf (a .l)) (from .result) (from .ensures))
+    c .holds .ensures ∙ ap (λ (s : List ℕ). member s (a .p)) (part-at wordCount (a .states .now) (stateOf (a .l)) (from .result) (from .ensures))
 
 pub holds-at-spec : {M : Type 1} → statement M
 holds-at-spec =

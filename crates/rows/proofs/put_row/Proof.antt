@@ -3,6 +3,7 @@ use Rattle.index.specs.Spans.{stateOf}
 use Rattle.rows.proofs.Written.{part-put}
 use Rattle.rows.proofs.put_row.Statement.{statement}
 use Rattle.rows.proofs.put_row.Tie as tie
+use Rattle.rows.specs.Rows.{putRow}
 use Rattle.rules.specs.State.{wordCount}
 use borrow.Author.Needs.{needs}
 
@@ -33,11 +34,11 @@ same-length : tie.Need-same-length
 same-length c = search needs
 
 returns : tie.Need-returns
-unfolding wordCount
+unfolding wordCount putRow
 returns c =
     let a = c .before .before .before .before .before .before .args in
     let from = c .before .before .before .before .row-start in
-    part-put (a .states .now) (stateOf (a .l)) (from .result) (from .ensures) (a .s .words) (c .before .before .put-words .last .0) (c .before .before .put-words .ensures)
+    part-put wordCount (a .states .now) (stateOf (a .l)) (from .result) (from .ensures) (a .s .words) (c .before .before .put-words .last .0) (c .before .before .put-words .ensures)
 
 pub put-row-spec : {M : Type 1} → statement M
 put-row-spec =

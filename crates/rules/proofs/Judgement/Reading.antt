@@ -34,20 +34,26 @@ taken-says P ok (number v next) field rest f = go (ok v) refl
 taken-says P ok notPlain field rest f = tt
 taken-says P ok missing field rest f = tt
 
+-- Each at least what the one before it leaves, the first at least `low`.
+abbrev pub Rises : Bool → ℕ → List ℕ → Type 0
+Rises ascending low [] = Unit {0}
+Rises ascending low (v ∷ vs) = (leb low v ≡ true) × Rises ascending (leastAfter ascending v) vs
+
 -- P of every list of so many members that all pass the test.
 abbrev ForMembers : ℕ → (ℕ → Bool) → (Value → Type 0) → Type 0
 ForMembers count ok P = (vs : List ℕ) → length vs ≡ count → Each (λ v. ok v ≡ true) vs → P (listed vs)
 
 members-say : (text : List ℕ) (ok : ℕ → Bool) (ascending : Bool) (count low field place : ℕ) (P : Value → ℕ → ℕ → Type 0)
-    → ((vs : List ℕ) (field next : ℕ) → length vs ≡ count → Each (λ v. ok v ≡ true) vs → P (listed vs) field next)
+    → ((vs : List ℕ) (field next : ℕ) → length vs ≡ count → Each (λ v. ok v ≡ true) vs → Rises ascending low vs → P (listed vs) field next)
     → ItemSays Any Any P (readMembers text ok ascending count low field place)
-members-say text ok ascending zero low field place P f = f [] field place refl (each-nil (λ v. ok v ≡ true))
+members-say text ok ascending zero low field place P f = f [] field place refl (each-nil (λ v. ok v ≡ true)) tt
 members-say text ok ascending (suc count) low field place P f =
     let rest : ℕ → ℕ → ItemRead = λ v next. readMembers text ok ascending count (leastAfter ascending v) (field + 1) next in
     taken-says P (λ v. leb low v && ok v) (numberAt text place) field (λ v next. withMember v (rest v next))
     (λ v next e. member-says Any Any P v (rest v next)
     (members-say text ok ascending count (leastAfter ascending v) (field + 1) next (AfterMember P v)
-    (λ vs field′ next′ n h. f (v ∷ vs) field′ next′ (ap suc n) (each-cons (λ w. ok w ≡ true) v vs (both-true (leb low v) (ok v) e .1) h))))
+    (λ vs field′ next′ n h r. let b = both-true (leb low v) (ok v) e in
+    f (v ∷ vs) field′ next′ (ap suc n) (each-cons (λ w. ok w ≡ true) v vs (b .1) h) (b .0, r))))
 
 -- P of the value, if the item is read.
 abbrev ItemTells : (Value → Type 0) → ItemRead → Type 0
@@ -57,18 +63,22 @@ ItemTells P = ItemSays Any Any (λ v field next. P v)
 abbrev ForList : (ℕ → Bool) → (ℕ → Bool) → (Value → Type 0) → Type 0
 ForList count? ok P = (vs : List ℕ) → count? (length vs) ≡ true → Each (λ v. ok v ≡ true) vs → P (listed vs)
 
-list-says : (text : List ℕ) (count? ok : ℕ → Bool) (ascending : Bool) (field place : ℕ) (P : Value → Type 0) → ForList count? ok P
+-- The same of every list that rises.
+abbrev ForRising : (ℕ → Bool) → (ℕ → Bool) → Bool → (Value → Type 0) → Type 0
+ForRising count? ok ascending P = (vs : List ℕ) → count? (length vs) ≡ true → Each (λ v. ok v ≡ true) vs → Rises ascending 0 vs → P (listed vs)
+
+list-says : (text : List ℕ) (count? ok : ℕ → Bool) (ascending : Bool) (field place : ℕ) (P : Value → Type 0) → ForRising count? ok ascending P
     → ItemTells P (readList text count? ok ascending field place)
 unfolding readList
 list-says text count? ok ascending field place P f =
     taken-says (λ v field next. P v) count? (numberAt text place) field (λ count next. readMembers text ok ascending count 0 (field + 1) next)
     (λ count next e. members-say text ok ascending count 0 (field + 1) next (λ v field next. P v)
-    (λ vs field′ next′ n h. f vs (subst (λ (c : ℕ). count? c ≡ true) (sym n) e) h))
+    (λ vs field′ next′ n h r. f vs (subst (λ (c : ℕ). count? c ≡ true) (sym n) e) h r))
 
 -- P of every value that passes the tests of an item.
 abbrev pub ForItem : Header → ℕ → List ℕ → Item → (Value → Type 0) → Type 0
 ForItem h n before (one kind) P = (v : ℕ) → inRange h n before kind v ≡ true → P (scalar v)
-ForItem h n before set P = ForList (inRange h n before memberCount) (inRange h n before proposition) P
+ForItem h n before set P = ForRising (inRange h n before memberCount) (inRange h n before proposition) true P
 ForItem h n before subtaskList P = ForList (inRange h n before (upTo 32)) (inRange h n before task) P
 ForItem h n before cues P = ForMembers (h .cues) (inRange h n before anAction) P
 
@@ -78,9 +88,9 @@ unfolding readItem
 item-says text h n before (one kind) field place P f =
     taken-says (λ v field next. P v) (inRange h n before kind) (numberAt text place) field (λ v next. item (scalar v) (field + 1) next) (λ v next e. f v e)
 item-says text h n before set field place P f = list-says text (inRange h n before memberCount) (inRange h n before proposition) true field place P f
-item-says text h n before subtaskList field place P f = list-says text (inRange h n before (upTo 32)) (inRange h n before task) false field place P f
+item-says text h n before subtaskList field place P f = list-says text (inRange h n before (upTo 32)) (inRange h n before task) false field place P (λ vs c g r. f vs c g)
 item-says text h n before cues field place P f =
-    members-say text (inRange h n before anAction) false (h .cues) 0 field place (λ v field next. P v) (λ vs field′ next′ n g. f vs n g)
+    members-say text (inRange h n before anAction) false (h .cues) 0 field place (λ v field next. P v) (λ vs field′ next′ n g r. f vs n g)
 
 -- ---- Lines
 

@@ -1,21 +1,25 @@
 -- What reading guarantees of a case: each number is in its range and each list has its length, since each line was read by a row of the
 -- table and each group of lines by its count.
 use mathlib.Core.Logic.{_≢_}
-use mathlib.Core.Path.{_≡_, refl, sym, subst}
+use mathlib.Core.Path.{_≡_, refl, sym, ap, subst, _∙_}
 use mathlib.Core.Bool.{Bool, true, false, _&&_, not}
-use mathlib.Core.List.{List, []}
-use Prim.Native.Nat.{ℕ, suc, _+_, _^_, _≤_, _<_}
+use mathlib.Core.List.{List, [], _∷_, List·Memᴰ·head as here}
+use Prim.Native.Nat.{ℕ, suc, _+_, _*_, _^_, _≤_, _<_}
 use native.Mathlib.Omega.{arith}
 use lib.Dec.{eqb, leb, ltb}
 use lib.ListN.{length}
 use borrow.Author.Tests.{leb-true, ltb-true, eqb-false, not-true}
 use Rattle.rules.specs.declared.Header.{Header}
 use Rattle.rules.specs.declared.Answer.the-variants.{Unreadable}
+use Rattle.rules.specs.State.{State, Action, wordCount, noPropositions, insertAll}
 use Rattle.rules.specs.Table.{Value, header, initial, action, method, constraint, plan, node, table, roleNumber, isCompound, inRange}
 use Rattle.rules.specs.Result.{Result, found, refused, _>>_}
-use Rattle.rules.specs.Case.{Constraint, O, B, F, W, Method, NodeLine, D, E, L, Case, scalarAt, membersAt, headerOf, initialOf, actionOf, constraintOf, asConstraint, planOf, nodeOf, asNode, oneLine, many, oneMethod, noSurplus, readBody, noHeader, readFrom, readCase}
-use Rattle.rules.proofs.Judgement.Each.{Each, each-nil, each-weaken, both-true}
-use Rattle.rules.proofs.Judgement.Reading.{ForLine, OfReading, Says, ReadSays, says-then, read-then, one-line-says, Counted, many-say, lines-say}
+use Rattle.rules.specs.Case.{Constraint, O, B, F, W, Method, NodeLine, D, E, L, Case, scalarAt, membersAt, setAt, headerOf, initialOf, actionOf, constraintOf, asConstraint, planOf, nodeOf, asNode, oneLine, many, oneMethod, noSurplus, readBody, noHeader, readFrom, readCase}
+use Rattle.rules.specs.Fields.{propositionsOf}
+use Rattle.rules.proofs.Fields.{Ascends, set-back}
+use Rattle.rules.proofs.Worded.{Worded, all-worded}
+use Rattle.rules.proofs.Judgement.Each.{Each, each-nil, each-tail, each-weaken, both-true}
+use Rattle.rules.proofs.Judgement.Reading.{Rises, ForLine, OfReading, Says, ReadSays, says-then, read-then, one-line-says, Counted, many-say, lines-say}
 
 -- ---- What is guaranteed
 
@@ -50,8 +54,20 @@ GoodNode h (D m) = m < h .methods
 GoodNode h (E m g) = (m < h .methods) × (g ≤ h .cues)
 GoodNode h (L a i) = (a < h .actions) × (1 ≤ i) × (i ≤ h .cues)
 
+-- The words hold the set's propositions and nothing else.
+abbrev pub IsSet : State → Type 0
+IsSet s = insertAll noPropositions (propositionsOf s) ≡ s
+
+pub record GoodAction (a : Action) : Type 0 where
+  pub needed-set : IsSet (a .needed)
+  pub forbidden-set : IsSet (a .forbidden)
+  pub added-set : IsSet (a .added)
+  pub deleted-set : IsSet (a .deleted)
+
 pub record Sound (k : Case) : Type 0 where
   pub head-good : GoodHeader (k .head)
+  pub initial-set : IsSet (k .initial)
+  pub actions-good : Each GoodAction (k .actions)
   pub actions-length : length (k .actions) ≡ k .head .actions
   pub methods-length : length (k .methods) ≡ k .head .methods
   pub methods-good : Each (GoodMethod (k .head)) (k .methods)
@@ -126,13 +142,32 @@ node-good h = (
   (omega (arith, leb-true), (λ a ha i hi. omega (arith, leb-true, first-le, second-le (leb 1 i) i (h .cues) hi), tt)),
 )
 
-initial-good : (h : Header) → ForLine h 0 initial (λ l vs. Unit {0})
-unfolding ForLine table roleNumber
-initial-good h = (λ vs n hs. tt, tt)
+-- The members of a set ascend, below as many propositions as a state has bits.
+pub ascends : (top low : ℕ) (vs : List ℕ) → top ≤ 256 → Each (λ v. ltb v top ≡ true) vs → Rises true low vs → Ascends low (64 * wordCount) vs
+unfolding wordCount
+ascends top low [] few hs r = tt
+ascends top low (v ∷ vs) few hs r =
+    let below : v < top = ltb-true v top (hs v (here refl)) in
+    (leb-true low v (r .0), omega arith, ascends top (v + 1) vs few (each-tail (λ v. ltb v top ≡ true) v vs hs) (r .1))
 
-action-good : (h : Header) → ForLine h 0 action (λ l vs. Unit {0})
-unfolding ForLine table roleNumber
-action-good h = (λ a na ha b nb hb c nc hc d nd hd. tt, tt)
+set-good : (h : Header) (vs : List ℕ) → GoodHeader h → Each (λ v. ltb v (h .propositions) ≡ true) vs → Rises true 0 vs → IsSet (insertAll noPropositions vs)
+set-good h vs good hs r = set-back vs (ascends (h .propositions) 0 vs (good .few-propositions) hs r)
+
+initial-good : (h : Header) → GoodHeader h → ForLine h 0 initial (λ l vs. IsSet (initialOf (l, vs)))
+unfolding ForLine table roleNumber inRange initialOf setAt membersAt
+initial-good h good = (λ vs n hs r. set-good h vs good hs r, tt)
+
+action-good : (h : Header) → GoodHeader h → ForLine h 0 action (λ l vs. GoodAction (actionOf (l, vs)))
+unfolding ForLine table roleNumber inRange actionOf setAt membersAt
+action-good h good = (
+  λ a na ha ra b nb hb rb c nc hc rc d nd hd rd. record {
+    needed-set = set-good h a good ha ra;
+    forbidden-set = set-good h b good hb rb;
+    added-set = set-good h c good hc rc;
+    deleted-set = set-good h d good hd rd;
+  },
+  tt,
+)
 
 -- ---- Line by line
 
@@ -163,10 +198,10 @@ method-good text h n place =
 body-sound : (text : List ℕ) (h : Header) (n place : ℕ) → GoodHeader h → ReadSays Sound (readBody text h n place)
 unfolding readBody
 body-sound text h n place good =
-    read-then (λ i. Unit {0}) Sound (oneLine text h initial 0 initialOf n place) _
-    (one-line-says text h initial 0 initialOf n place (λ i. Unit {0}) (initial-good h))
-    (λ i a. read-then (Counted (λ x. Unit {0}) (h .actions)) Sound (many (oneLine text h action 0 actionOf) (h .actions) (i .1) (i .2)) _
-    (lines-say text h action 0 actionOf (h .actions) (i .1) (i .2) (λ x. Unit {0}) (action-good h))
+    read-then IsSet Sound (oneLine text h initial 0 initialOf n place) _
+    (one-line-says text h initial 0 initialOf n place IsSet (initial-good h good))
+    (λ i a. read-then (Counted GoodAction (h .actions)) Sound (many (oneLine text h action 0 actionOf) (h .actions) (i .1) (i .2)) _
+    (lines-say text h action 0 actionOf (h .actions) (i .1) (i .2) GoodAction (action-good h good))
     (λ acts b. read-then (Counted (GoodMethod h) (h .methods)) Sound (many (oneMethod text h) (h .methods) (acts .1) (acts .2)) _
     (many-say (GoodMethod h) (oneMethod text h) (method-good text h) (h .methods) (acts .1) (acts .2))
     (λ ms c. read-then (PlanLine h) Sound (oneLine text h plan 0 planOf (ms .1) (ms .2)) _
@@ -175,6 +210,8 @@ body-sound text h n place good =
     (lines-say text h node 0 asNode (h .nodes) (cs .1) (cs .2) (GoodNode h) (node-good h))
     (λ ns e. record {
       head-good = good;
+      initial-set = a;
+      actions-good = b .1;
       actions-length = b .0;
       methods-length = c .0;
       methods-good = c .1;
@@ -211,3 +248,7 @@ case-says text =
 
 pub sound : (text : List ℕ) (k : Case) → readCase text ≡ found k → Sound k
 sound text k e = subst (λ (r : Result Case). Says Sound r) e (case-says text)
+
+-- The initial set of a case that was read has the words of a state.
+pub initial-worded : (k : Case) → Sound k → Worded (k .initial)
+initial-worded k s = ap length (sym (s .initial-set)) ∙ all-worded (propositionsOf (k .initial))

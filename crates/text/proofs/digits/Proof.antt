@@ -1,90 +1,108 @@
--- The number from the start is the number from here, with the digits passed in `value`; a byte that is no digit closes it. Assumes nothing.
+-- The number from the start is the number from here, with the digits passed in `value`; a byte that is no digit closes it, and one comes
+-- before the text is over. Assumes nothing.
 use mathlib.Core.Path.{_≡_, refl, sym, ap, _∙_}
+use mathlib.Core.Bool.{true}
 use Prim.Native.Nat.{ℕ, _+_, _-_, _*_, _≤_, _<_}
 use native.Mathlib.Omega.{arith}
 use borrow.Author.Needs.{needs}
 use lib.ListN.{length, drop, getD}
-use Rattle.rules.specs.Text.{fieldOf}
+use Rattle.rules.specs.Text.{fieldOf, feedFollows}
 use Rattle.text.specs.Scan.{continued}
 use Rattle.text.specs.Cursor.{asField}
 use Rattle.text.proofs.Scan.{digit-range, continued-large}
-use Rattle.text.proofs.Places.{digits-on, digits-stop, digits-out}
+use Rattle.text.proofs.Places.{digits-on, digits-stop}
+use Rattle.text.proofs.Feeds.{feed-inside, feed-digit}
 use Rattle.text.proofs.digits.Statement.{statement}
 use Rattle.text.proofs.digits.Tie as tie
 
 abbrev Inv-loop : tie.InvT-loop
 Inv-loop text from first at₀ value₀ at value =
-    (value ≤ 4294967295) × (continued first from (fieldOf (drop from text)) ≡ continued value at (fieldOf (drop at text)))
+    (value ≤ 4294967295)
+    × (feedFollows text at ≡ true)
+    × (continued first from (fieldOf (drop from text)) ≡ continued value at (fieldOf (drop at text)))
 
 abbrev μ-loop : tie.MeasureT-loop
 μ-loop text from first at₀ value₀ at value = length text - at
 
 loop-holds : tie.Need-loop-holds Inv-loop μ-loop
-loop-holds c = (omega arith, refl)
+loop-holds c = (c .before .pre .0, c .before .pre .1, refl)
 
-shared-slice-read-b : tie.Need-shared-slice-read-b Inv-loop μ-loop
-shared-slice-read-b c = omega arith
+shared-slice-read-is-digit : tie.Need-shared-slice-read-is-digit Inv-loop μ-loop
+shared-slice-read-is-digit c =
+    let l = c .before .loop in feed-inside (c .before .before .before .args .text .now) (l .at) (l .inv .1)
 
 is-digit-requires : tie.Need-is-digit-requires Inv-loop μ-loop
 is-digit-requires c κs = search needs
 
 mul-value : tie.Need-mul-value Inv-loop μ-loop
-mul-value c = omega arith
+mul-value c = let h = c .before .before .before .loop .inv .0 in omega arith
+
+shared-slice-read-digit-value : tie.Need-shared-slice-read-digit-value Inv-loop μ-loop
+shared-slice-read-digit-value c =
+    let d = c .before .before .before .before in
+    feed-inside (d .before .before .args .text .now) (d .loop .at) (d .loop .inv .1)
 
 digit-value-requires : tie.Need-digit-value-requires Inv-loop μ-loop
-digit-value-requires c κs = sym (c .before .is-digit .ensures) ∙ c .if1 .taken
+digit-value-requires c κs = sym (c .before .before .is-digit .ensures) ∙ c .before .if1 .taken
 
 add-value : tie.Need-add-value Inv-loop μ-loop
 add-value c =
-    let d = c .before in
-    let l = d .before .before .before .before .loop in
-    let a = d .before .before .before .before .before .before .args in
+    let d = c .before .before in
+    let l = d .before .before .before .loop in
+    let a = d .before .before .before .before .before .args in
+    let h = l .inv .0 in
     let r = digit-range (getD (a .text .now) (l .at) 0) (sym (d .before .is-digit .ensures) ∙ d .if1 .taken) in
     omega (arith, c .digit-value .ensures)
 
 returns : tie.Need-returns Inv-loop μ-loop
 returns c =
-    let d = c .before .before in
-    let l = d .before .before .before .before .loop in
-    let a = d .before .before .before .before .before .before .args in
-    let on = digits-on (a .text .now) (l .at) (d .before .before .before .loop-test .taken) (l .value) (sym (d .before .is-digit .ensures) ∙ d .if1 .taken) in
+    let d = c .before .before .before in
+    let l = d .before .before .before .loop in
+    let a = d .before .before .before .before .before .args in
+    let inside = feed-inside (a .text .now) (l .at) (l .inv .1) in
+    let on = digits-on (a .text .now) (l .at) inside (l .value) (sym (d .before .is-digit .ensures) ∙ d .if1 .taken) in
     let w = l .value * 10 + (getD (a .text .now) (l .at) 0 - 48) in
     let large : 4294967295 < w = omega (arith, c .before .digit-value .ensures) in
-    sym (ap asField (l .inv .1 ∙ (on ∙ continued-large w (l .at + 1) (fieldOf (drop (l .at + 1) (a .text .now))) large)))
+    sym (ap asField (l .inv .2 ∙ (on ∙ continued-large w (l .at + 1) (fieldOf (drop (l .at + 1) (a .text .now))) large)))
 
 add-at : tie.Need-add-at Inv-loop μ-loop
-add-at c = omega arith
+add-at c =
+    let d = c .before .before .before in
+    let l = d .before .before .before .loop in
+    let inside = feed-inside (d .before .before .before .before .before .args .text .now) (l .at) (l .inv .1) in
+    omega arith
 
 loop-less : tie.Need-loop-less Inv-loop μ-loop
-loop-less c = omega arith
+loop-less c =
+    let d = c .before .before .before in
+    let l = d .before .before .before .loop in
+    let inside = feed-inside (d .before .before .before .before .before .args .text .now) (l .at) (l .inv .1) in
+    omega arith
 
 loop-again : tie.Need-loop-again Inv-loop μ-loop
 loop-again c =
-    let d = c .before .before in
-    let l = d .before .before .before .before .loop in
-    let a = d .before .before .before .before .before .before .args in
-    let on = digits-on (a .text .now) (l .at) (d .before .before .before .loop-test .taken) (l .value) (sym (d .before .is-digit .ensures) ∙ d .if1 .taken) in
-    (omega arith, l .inv .1 ∙ (on ∙ ap (λ (x : ℕ). continued (l .value * 10 + x) (l .at + 1) (fieldOf (drop (l .at + 1) (a .text .now)))) (sym (c .before .digit-value .ensures))))
+    let d = c .before .before .before in
+    let l = d .before .before .before .loop in
+    let a = d .before .before .before .before .before .args in
+    let inside = feed-inside (a .text .now) (l .at) (l .inv .1) in
+    let digit = sym (d .before .is-digit .ensures) ∙ d .if1 .taken in
+    let on = digits-on (a .text .now) (l .at) inside (l .value) digit in (
+      omega arith,
+      feed-digit (a .text .now) (l .at) (l .inv .1) digit,
+      l .inv .2 ∙ (on ∙ ap (λ (x : ℕ). continued (l .value * 10 + x) (l .at + 1) (fieldOf (drop (l .at + 1) (a .text .now)))) (sym (c .before .digit-value .ensures))),
+    )
 
 close-requires : tie.Need-close-requires Inv-loop μ-loop
-close-requires c κs = omega arith
+close-requires c κs = let l = c .before .before .before .loop in (l .inv .0, l .inv .1)
 
 returns-2 : tie.Need-returns-2 Inv-loop μ-loop
 returns-2 c =
     let d = c .before in
-    let l = d .before .before .before .before .loop in
-    let a = d .before .before .before .before .before .before .args in
+    let l = d .before .before .before .loop in
+    let a = d .before .before .before .before .before .args in
     let q = sym (d .before .is-digit .ensures) ∙ d .if1 .left in
-    c .close .ensures ∙ sym (ap asField (l .inv .1 ∙ digits-stop (a .text .now) (l .at) (d .before .before .before .loop-test .taken) (l .value) q (l .inv .0)))
-
-close-requires-2 : tie.Need-close-requires-2 Inv-loop μ-loop
-close-requires-2 c κs = omega arith
-
-returns-3 : tie.Need-returns-3 Inv-loop μ-loop
-returns-3 c =
-    let l = c .before .before .loop in
-    let a = c .before .before .before .before .args in
-    c .close2 .ensures ∙ sym (ap asField (l .inv .1 ∙ digits-out (a .text .now) (l .at) (c .before .loop-test .left) (l .value) (l .inv .0)))
+    let inside = feed-inside (a .text .now) (l .at) (l .inv .1) in
+    c .close .ensures ∙ sym (ap asField (l .inv .2 ∙ digits-stop (a .text .now) (l .at) inside (l .value) q (l .inv .0)))
 
 pub digits-spec : {M : Type 1} → statement M
 digits-spec =
@@ -93,9 +111,10 @@ digits-spec =
     Inv-loop
     μ-loop
     loop-holds
-    shared-slice-read-b
+    shared-slice-read-is-digit
     is-digit-requires
     mul-value
+    shared-slice-read-digit-value
     digit-value-requires
     add-value
     returns
@@ -103,6 +122,4 @@ digits-spec =
     loop-less
     loop-again
     close-requires
-    returns-2
-    close-requires-2
-    returns-3)
+    returns-2)

@@ -1,82 +1,97 @@
--- By the first byte: none, a zero, which the field must end after, another digit, which the loop goes on from, or no digit. Assumes nothing.
+-- By the first two bytes: no digit, one digit, which the field must end after, or two. Assumes nothing.
 use mathlib.Core.Path.{sym, ap, _∙_}
-use Prim.Native.Nat.{ℕ, _+_}
+use Prim.Native.Nat.{ℕ, _+_, _-_}
 use native.Mathlib.Omega.{arith}
 use lib.ListN.{drop, getD}
 use Rattle.rules.specs.Text.{fieldOf}
-use Rattle.text.specs.Scan.{continued}
+use Rattle.text.specs.Scan.{closed}
 use Rattle.text.specs.Cursor.{asField}
 use Rattle.text.proofs.Scan.{digit-range}
-use Rattle.text.proofs.Places.{plain-out, plain-zero, plain-digit, plain-other}
+use Rattle.text.proofs.Places.{plain-one, plain-other}
+use Rattle.text.proofs.Feeds.{feed-inside, feed-digit}
 use borrow.Author.Needs.{needs}
 use Rattle.text.proofs.plain.Statement.{statement}
 use Rattle.text.proofs.plain.Tie as tie
 
-returns : tie.Need-returns
-returns c =
-    let a = c .before .before .args in sym (ap asField (plain-out (a .text .now) (a .from) (c .if1 .taken)))
-
 shared-slice-read-b : tie.Need-shared-slice-read-b
-shared-slice-read-b c = search needs
+shared-slice-read-b c = let s = c .before .before in feed-inside (s .args .text .now) (s .args .from) (s .pre)
 
 is-digit-requires : tie.Need-is-digit-requires
 is-digit-requires c κs = search needs
 
+add-is-digit : tie.Need-add-is-digit
+add-is-digit c =
+    let s = c .before .before .before .before in let inside = feed-inside (s .args .text .now) (s .args .from) (s .pre) in omega arith
+
+shared-slice-read-is-digit : tie.Need-shared-slice-read-is-digit
+shared-slice-read-is-digit c =
+    let d = c .before in
+    let s = d .before .before .before .before in
+    let t = s .args .text .now in
+    feed-inside t (s .args .from + 1) (feed-digit t (s .args .from) (s .pre) (sym (d .before .is-digit .ensures) ∙ d .if1 .taken))
+
+is-digit-requires-2 : tie.Need-is-digit-requires-2
+is-digit-requires-2 c κs = search needs
+
+longer-requires : tie.Need-longer-requires
+longer-requires c κs =
+    let d = c .before .before .before in
+    let s = d .before .before .before .before in
+    ((sym (d .before .is-digit .ensures) ∙ d .if1 .taken, sym (c .before .is-digit2 .ensures) ∙ c .if2 .taken), s .pre)
+
 add-close : tie.Need-add-close
-add-close c = search needs
-
-close-requires : tie.Need-close-requires
-close-requires c κs = search needs
-
-add-digits : tie.Need-add-digits
-add-digits c = search needs
+add-close c =
+    let s = c .before .before .before .before .before .before .before in
+    let inside = feed-inside (s .args .text .now) (s .args .from) (s .pre) in
+    omega arith
 
 digit-value-requires : tie.Need-digit-value-requires
-digit-value-requires c κs = sym (c .before .before .is-digit .ensures) ∙ c .before .if2 .taken
+digit-value-requires c κs = let d = c .before .before .before in sym (d .before .is-digit .ensures) ∙ d .if1 .taken
 
-digits-requires : tie.Need-digits-requires
-digits-requires c κs =
-    let d = c .before .before in
-    let e = d .before .before .before in
-    let a = e .before .before .args in
-    let r = digit-range (getD (a .text .now) (a .from) 0) (sym (d .before .is-digit .ensures) ∙ d .if2 .taken) in
-    omega (arith, c .digit-value .ensures)
+close-requires : tie.Need-close-requires
+close-requires c κs =
+    let d = c .before .before .before .before in
+    let s = d .before .before .before .before in
+    let t = s .args .text .now in
+    let digit = sym (d .before .is-digit .ensures) ∙ d .if1 .taken in
+    let r = digit-range (getD t (s .args .from) 0) digit in
+    (omega (arith, c .digit-value .ensures), feed-digit t (s .args .from) (s .pre) digit)
+
+returns : tie.Need-returns
+returns c = c .longer .ensures
 
 returns-2 : tie.Need-returns-2
 returns-2 c =
-    let d = c .before .before in
-    let e = d .before .before .before in
-    let a = e .before .before .args in
-    c .close .ensures ∙ sym (ap asField (plain-zero (a .text .now) (a .from) (e .if1 .left) (sym (d .before .is-digit .ensures) ∙ d .if2 .taken) (omega arith)))
+    let e = c .before .before in
+    let d = e .before .before .before in
+    let s = d .before .before .before .before in
+    let t = s .args .text .now in
+    let i = s .args .from in
+    let digit = sym (d .before .is-digit .ensures) ∙ d .if1 .taken in
+    let further = feed-inside t (i + 1) (feed-digit t i (s .pre) digit) in
+    c .close .ensures
+    ∙ (ap (λ (v : ℕ). asField (closed v (i + 1) (fieldOf (drop (i + 1) t)))) (c .before .digit-value .ensures)
+    ∙ sym (ap asField (plain-one t i (feed-inside t i (s .pre)) further digit (sym (e .before .is-digit2 .ensures) ∙ e .if2 .left))))
 
 returns-3 : tie.Need-returns-3
 returns-3 c =
-    let d = c .before .before .before in
-    let e = d .before .before .before in
-    let a = e .before .before .args in
-    let rest = fieldOf (drop (a .from + 1) (a .text .now)) in
-    c .digits .ensures
-    ∙ (ap (λ (v : ℕ). asField (continued v (a .from + 1) rest)) (c .before .digit-value .ensures)
-    ∙ sym (ap asField (plain-digit (a .text .now) (a .from) (e .if1 .left) (sym (d .before .is-digit .ensures) ∙ d .if2 .taken) (c .before .before .if3 .left))))
-
-returns-4 : tie.Need-returns-4
-returns-4 c =
-    let e = c .before .before .before in
-    let a = e .before .before .args in
-    sym (ap asField (plain-other (a .text .now) (a .from) (e .if1 .left) (sym (c .before .is-digit .ensures) ∙ c .if2 .left)))
+    let s = c .before .before .before .before in
+    let t = s .args .text .now in
+    sym (ap asField (plain-other t (s .args .from) (feed-inside t (s .args .from) (s .pre)) (sym (c .before .is-digit .ensures) ∙ c .if1 .left)))
 
 pub plain-spec : {M : Type 1} → statement M
 plain-spec =
     tie.close
     (tie.spec
-    returns
     shared-slice-read-b
     is-digit-requires
+    add-is-digit
+    shared-slice-read-is-digit
+    is-digit-requires-2
+    longer-requires
     add-close
-    close-requires
-    add-digits
     digit-value-requires
-    digits-requires
+    close-requires
+    returns
     returns-2
-    returns-3
-    returns-4)
+    returns-3)

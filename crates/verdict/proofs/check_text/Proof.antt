@@ -48,6 +48,7 @@ use Rattle.rules.specs.Verdict.{check as checked, checkLists, answerOf, stateNe
 use Rattle.rules.specs.Demands.{asAsked, Demand2, Demand3}
 use Rattle.rules.proofs.Demands.{demand-2, demand-3}
 use Rattle.verdict.proofs.Clauses.{says-3}
+use Rattle.verdict.proofs.Zero.{zeroNode, none}
 use Rattle.verdict.proofs.CheckCall.{ans, Check, to-check, goes-check, Gave, check-gives}
 use Rattle.verdict.proofs.Local.{big-lit, init-filled, lends-local, local-back}
 use Rattle.rules.proofs.Node as T
@@ -65,18 +66,12 @@ use Rattle.verdict.proofs.check_text.Code as code
 abbrev stayed : Stays (text.ended .signature .params) (text.ended .kept)
 stayed = (stay-none-slice (0 ∷ []) tt (plain (λ _. u8)) yes, tt)
 
--- the elements of the local arrays, at their machine values
-abbrev zeroNode : Node
-zeroNode = record { letter = 0; label = 0; place = 0; start = 0; end = 0 }
-
+-- the numbers of the local arrays, at their machine values
 zero64 : Is u64 0 (vint w64 0 ∷ [])
 zero64 = (refl, omega arith)
 
 zero32 : Is u32 0 (vint w32 0 ∷ [])
 zero32 = (refl, omega arith)
-
-none : Is T.the-row zeroNode (T′.lowered zeroNode ∷ [])
-none = LL.owes T.the-type T′.the-laws zeroNode ((refl, omega arith), ((refl, omega arith), ((refl, omega arith), ((refl, omega arith), ((refl, omega arith), tt)))))
 
 room64 : Room u64 4004
 room64 = (omega arith, omega arith)

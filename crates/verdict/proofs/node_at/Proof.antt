@@ -1,34 +1,76 @@
--- `node_at`: each field is number i of its column. Assumes nothing.
+-- `node_at`: the last column has a number i, so each has, and each field is it. Assumes nothing.
 use borrow.Author.Needs.{needs}
+use mathlib.Core.Path.{refl}
 use Rattle.records.specs.Records.{recordAt}
 use Rattle.verdict.proofs.node_at.Statement.{statement}
 use Rattle.verdict.proofs.node_at.Tie as tie
 
-number-requires : tie.Need-number-requires
-number-requires c κs = search needs
+add-t3 : tie.Need-add-t3
+add-t3 c = search needs
 
-number-requires-2 : tie.Need-number-requires-2
-number-requires-2 c κs = search needs
+mul-t4 : tie.Need-mul-t4
+mul-t4 c = search needs
 
-number-requires-3 : tie.Need-number-requires-3
-number-requires-3 c κs = search needs
+shared-slice-read-t6 : tie.Need-shared-slice-read-t6
+shared-slice-read-t6 c = search needs
 
-number-requires-4 : tie.Need-number-requires-4
-number-requires-4 c κs = search needs
+add-t7 : tie.Need-add-t7
+add-t7 c = search needs
 
-number-requires-5 : tie.Need-number-requires-5
-number-requires-5 c κs = search needs
+mul-t8 : tie.Need-mul-t8
+mul-t8 c = search needs
+
+shared-slice-read-t10 : tie.Need-shared-slice-read-t10
+shared-slice-read-t10 c = search needs
+
+add-t11 : tie.Need-add-t11
+add-t11 c = search needs
+
+mul-t12 : tie.Need-mul-t12
+mul-t12 c = search needs
+
+shared-slice-read-t14 : tie.Need-shared-slice-read-t14
+shared-slice-read-t14 c = search needs
+
+add-t15 : tie.Need-add-t15
+add-t15 c = search needs
+
+mul-t16 : tie.Need-mul-t16
+mul-t16 c = search needs
+
+shared-slice-read-t18 : tie.Need-shared-slice-read-t18
+shared-slice-read-t18 c = search needs
+
+add-t19 : tie.Need-add-t19
+add-t19 c = search needs
+
+mul-t20 : tie.Need-mul-t20
+mul-t20 c = search needs
+
+shared-slice-read-t22 : tie.Need-shared-slice-read-t22
+shared-slice-read-t22 c = search needs
 
 returns : tie.Need-returns
 unfolding recordAt
-returns c =
-    λ z. record {
-      letter = c .before .before .before .before .number .ensures z;
-      label = c .before .before .before .number2 .ensures z;
-      place = c .before .before .number3 .ensures z;
-      start = c .before .number4 .ensures z;
-      end = c .number5 .ensures z;
-    }
+returns c = refl
 
 pub node-at-spec : {M : Type 1} → statement M
-node-at-spec = tie.close (tie.spec number-requires number-requires-2 number-requires-3 number-requires-4 number-requires-5 returns)
+node-at-spec =
+    tie.close
+    (tie.spec
+    add-t3
+    mul-t4
+    shared-slice-read-t6
+    add-t7
+    mul-t8
+    shared-slice-read-t10
+    add-t11
+    mul-t12
+    shared-slice-read-t14
+    add-t15
+    mul-t16
+    shared-slice-read-t18
+    add-t19
+    mul-t20
+    shared-slice-read-t22
+    returns)

@@ -1,93 +1,82 @@
 -- `first_broken_of`: the first broken constraint from the start on is that from here on (Testing). Assumes nothing.
-use Prim.Native.Nat.{_+_, _*_, _-_}
-use Rattle.constraints.proofs.Testing.{Testing, testing-starts, tested-here, testing-breaks, testing-goes-on, testing-ends}
-use Rattle.constraints.specs.Loaded.{testsFrom, testsPast, testAt, Letters}
+use Prim.Native.Nat.{_-_}
+use Rattle.columns.specs.Columns.{Columns}
+use Rattle.constraints.proofs.Testing.{Testing, testing-starts, Due, due, tested-here, testing-breaks, testing-goes-on, testing-ends}
+use Rattle.constraints.specs.Methods.{ConstraintsHere, Says}
 use Rattle.index.specs.Spans.{spanOf}
-use Rattle.tree.specs.Layout.{planFrom}
+use Rattle.rules.specs.Case.{Constraint}
 use borrow.Author.Needs.{needs}
 use borrow.Author.Tests.{not-true, not-false}
-use lib.ListN.{getD}
-use native.Mathlib.Omega.{arith}
+use mathlib.Core.List.{List}
+use mathlib.Core.Path.{sym, _∙_}
 use Rattle.constraints.proofs.method.first_broken_of.Statement.{statement}
 use Rattle.constraints.proofs.method.first_broken_of.Tie as tie
 
 abbrev Inv-loop : tie.InvT-loop
-Inv-loop count line own states work number₀ number = Testing count line (spanOf own) states work number
+Inv-loop fields from count line own held states work columns₀ built₀ at₀ number₀ columns built at number =
+    Columns states held columns built
+    × ((cs : List Constraint) → ConstraintsHere fields from count cs → Testing fields at count line (spanOf own) held states work number cs)
 
 abbrev μ-loop : tie.MeasureT-loop
-μ-loop count line own states work number₀ number = count - number
+μ-loop fields from count line own held states work columns₀ built₀ at₀ number₀ columns built at number = count - number
+
+-- The constraint that is due, of any that stand where the tests began; the caller names some.
+module _ (c : tie.In-loop Inv-loop μ-loop) where
+  abbrev start : tie.Start Inv-loop μ-loop
+  start = c .before .before .before .before .before .before .before
+
+  abbrev Here : List Constraint → Type 0
+  Here cs = ConstraintsHere (start .args .fields .now) (start .args .from) (start .args .count) cs
+
+  due-of : (cs : List Constraint) (h : Here cs) → Due (c .before .loop .inv .1 cs h)
+  due-of cs h = due (c .before .loop .inv .1 cs h) (c .loop-test .taken)
+
+-- The code has its line.
+module _ (c : tie.After-line-at Inv-loop μ-loop) where
+  says : (cs : List Constraint) (h : Here (c .before) cs)
+      → Says (start (c .before) .args .fields .now) (c .line-at .result) (due-of (c .before) cs h .this) (due-of (c .before) cs h .later)
+  says cs h = let x = due-of (c .before) cs h in c .line-at .ensures (x .this) (x .later) (x .stands)
 
 loop-holds : tie.Need-loop-holds Inv-loop μ-loop
-loop-holds c = testing-starts (c .before .before .args .line) (c .before .before .pre .1 .1)
+loop-holds c =
+    let s = c .before .before .before .before .before in
+    let a = s .args in
+    (s .pre .1 .0, λ cs h. testing-starts (a .line) (spanOf (a .own)) (a .held) (a .states .now) (a .work .now) h)
 
-cast-at : tie.Need-cast-at Inv-loop μ-loop
-cast-at c = search needs
+line-at-requires : tie.Need-line-at-requires Inv-loop μ-loop
+line-at-requires c κs =
+    let s = start c in
+    let x = due-of c (s .pre .1 .1 .0) (s .pre .1 .1 .1) in
+    (x .this, x .later, x .stands)
 
-mul-at : tie.Need-mul-at Inv-loop μ-loop
-mul-at c = search needs
-
-add-at : tie.Need-add-at Inv-loop μ-loop
-add-at c = search needs
-
-mul-letter : tie.Need-mul-letter Inv-loop μ-loop
-mul-letter c = search needs
-
-shared-slice-read-letter : tie.Need-shared-slice-read-letter Inv-loop μ-loop
-unfolding testsPast
-shared-slice-read-letter c = search needs
-
-cast-letter : tie.Need-cast-letter Inv-loop μ-loop
-unfolding Letters testsFrom
-cast-letter c = record { fits = c .before .before .before .before .before .pre .1 .0 (c .before .before .loop .number) (c .before .loop-test .taken) }
-
-add-keeps : tie.Need-add-keeps Inv-loop μ-loop
-add-keeps c = search needs
-
-mul-keeps : tie.Need-mul-keeps Inv-loop μ-loop
-mul-keeps c = search needs
-
-shared-slice-read-keeps : tie.Need-shared-slice-read-keeps Inv-loop μ-loop
-unfolding testsPast
-shared-slice-read-keeps c = search needs
-
-add-keeps-2 : tie.Need-add-keeps-2 Inv-loop μ-loop
-add-keeps-2 c = search needs
-
-mul-keeps-2 : tie.Need-mul-keeps-2 Inv-loop μ-loop
-mul-keeps-2 c = search needs
-
-shared-slice-read-keeps-2 : tie.Need-shared-slice-read-keeps-2 Inv-loop μ-loop
-unfolding testsPast
-shared-slice-read-keeps-2 c = search needs
-
-add-keeps-3 : tie.Need-add-keeps-3 Inv-loop μ-loop
-add-keeps-3 c = search needs
-
-mul-keeps-3 : tie.Need-mul-keeps-3 Inv-loop μ-loop
-mul-keeps-3 c = search needs
-
-shared-slice-read-keeps-3 : tie.Need-shared-slice-read-keeps-3 Inv-loop μ-loop
-unfolding testsPast
-shared-slice-read-keeps-3 c = search needs
-
-keeps-requires : tie.Need-keeps-requires Inv-loop μ-loop
-unfolding testAt testsFrom testsPast planFrom
-keeps-requires c κs =
-    let room = c .before .before .before .before .before .before .before .before .pre .0 .1 in
-    (omega arith, tested-here (c .before .before .before .before .before .loop .inv) (c .before .before .before .before .loop-test .taken))
+keeps-line-requires : tie.Need-keeps-line-requires Inv-loop μ-loop
+keeps-line-requires c κs =
+    let l = c .before .before in
+    let s = start (l .before) in
+    let i = l .before .before .loop .inv in
+    let cs = s .pre .1 .1 .0 in
+    let h = s .pre .1 .1 .1 in
+    (s .pre .0, (i .0, tested-here (i .1 cs h) (due-of (l .before) cs h) (says l cs h) (s .pre .1 .1 .2)))
 
 broken-requires : tie.Need-broken-requires Inv-loop μ-loop
 broken-requires c κs = search needs
 
+same-length : tie.Need-same-length Inv-loop μ-loop
+same-length c = c .before .before .before .before .before .before .keeps-line .ensures .1 .room ∙ sym (start (c .before .before .before .before .before .before .before .before .before .before) .pre .1 .0 .room)
+
+same-length-2 : tie.Need-same-length-2 Inv-loop μ-loop
+same-length-2 c = c .before .before .before .before .before .before .keeps-line .ensures .1 .flags ∙ sym (start (c .before .before .before .before .before .before .before .before .before .before) .pre .1 .0 .flags)
+
 returns : tie.Need-returns Inv-loop μ-loop
-unfolding testAt testsFrom
 returns c =
-    let k = c .before .before .keeps in
-    let l = c .before .before .before .before .before .before .before .before .loop in
-    let w = c .before .before .before .before .before .before .before .before .before .before .before .args .work .now in
-    let at = 5104 + 4 * l .number in
-    testing-breaks (l .inv) (c .before .before .before .before .before .before .before .loop-test .taken) (k .ensures) (not-true (k .result) (c .before .if1 .taken))
-    (c .broken .ensures (getD w (at + 1) 0) (getD w (at + 2) 0) (getD w (at + 3) 0))
+    let k = c .before .before .before .before .before .before .keeps-line in
+    let l = c .before .before .before .before .before .before .before .before .before in
+    let d = l .line-at .result in (
+      (λ cs h.
+          testing-breaks (l .before .before .loop .inv .1 cs h) (due-of (l .before) cs h) (says l cs h) (k .ensures .0) (not-true (k .result) (c .before .if1 .taken))
+          (c .broken .ensures (d .first) (d .second) (d .third))),
+      k .ensures .1,
+    )
 
 add-number : tie.Need-add-number Inv-loop μ-loop
 add-number c = search needs
@@ -96,13 +85,22 @@ loop-less : tie.Need-loop-less Inv-loop μ-loop
 loop-less c = search needs
 
 loop-again : tie.Need-loop-again Inv-loop μ-loop
-unfolding testAt testsFrom
 loop-again c =
-    let k = c .before .keeps in
-    testing-goes-on (c .before .before .before .before .before .before .before .loop .inv) (c .before .before .before .before .before .before .loop-test .taken) (k .ensures) (not-false (k .result) (c .if1 .left))
+    let k = c .before .before .before .before .before .keeps-line in
+    let l = c .before .before .before .before .before .before .before .before in (
+      k .ensures .1,
+      λ cs h.
+          testing-goes-on (l .before .before .loop .inv .1 cs h) (due-of (l .before) cs h) (says l cs h) (k .ensures .0) (not-false (k .result) (c .if1 .left)),
+    )
+
+same-length-3 : tie.Need-same-length-3 Inv-loop μ-loop
+same-length-3 c = c .before .loop .inv .0 .room ∙ sym (c .before .before .before .before .before .before .before .pre .1 .0 .room)
+
+same-length-4 : tie.Need-same-length-4 Inv-loop μ-loop
+same-length-4 c = c .before .loop .inv .0 .flags ∙ sym (c .before .before .before .before .before .before .before .pre .1 .0 .flags)
 
 returns-2 : tie.Need-returns-2 Inv-loop μ-loop
-returns-2 c = testing-ends (c .before .loop .inv) (omega (arith, c .loop-test .left))
+returns-2 c = ((λ cs h. testing-ends (c .before .loop .inv .1 cs h) (c .loop-test .left)), c .before .loop .inv .0)
 
 pub first-broken-of-spec : {M : Type 1} → statement M
 first-broken-of-spec =
@@ -111,25 +109,15 @@ first-broken-of-spec =
     Inv-loop
     μ-loop
     loop-holds
-    cast-at
-    mul-at
-    add-at
-    mul-letter
-    shared-slice-read-letter
-    cast-letter
-    add-keeps
-    mul-keeps
-    shared-slice-read-keeps
-    add-keeps-2
-    mul-keeps-2
-    shared-slice-read-keeps-2
-    add-keeps-3
-    mul-keeps-3
-    shared-slice-read-keeps-3
-    keeps-requires
+    line-at-requires
+    keeps-line-requires
     broken-requires
+    same-length
+    same-length-2
     returns
     add-number
     loop-less
     loop-again
+    same-length-3
+    same-length-4
     returns-2)

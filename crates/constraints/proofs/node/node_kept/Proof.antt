@@ -1,109 +1,161 @@
--- `node_kept`: the method is in the work space, and the lists then hold what its tests read (Steps). Assumes nothing.
-use Rattle.constraints.proofs.Steps.{leaf-kept, standing, standing-leaves, few-enough, none-follow, few-second, room-before, nodes-inside, new-leaves, new-inside, new-room, new-holds, new-tested, new-kept}
-use Rattle.constraints.proofs.Stores.{leaves-all, leaves-then}
-use Rattle.reading.specs.TheCase.{caseOf}
-use Rattle.constraints.specs.Ready.{treeIn}
+-- `node_kept`: the method's line stands where the directory says, and the lists then hold what its tests read (Steps). Assumes nothing.
+use Prim.Native.Nat.{ℕ, _+_}
+use Rattle.constraints.proofs.Finding.{MethodHere}
+use Rattle.constraints.proofs.Steps.{leaf-kept, Standing, standing, few-enough, room-before, listed-inside, method-found, none-follow, few-second, nodes-inside, new-leaves, new-inside, new-room, new-tested, new-kept}
+use Rattle.constraints.proofs.Stores.{leaves-all}
+use Rattle.constraints.specs.Ready.{NodeReady}
+use Rattle.constraints.specs.declared.node.Named.{Named}
 use Rattle.index.specs.Spans.{spanOf}
+use Rattle.rules.specs.Case.{methodAt, Case}
+use Rattle.rules.specs.Tree.{Tree}
 use borrow.Author.Needs.{needs}
 use borrow.Author.Tests.{not-true, not-false}
+use mathlib.Core.List.{List}
 use mathlib.Core.Path.{sym, _∙_}
+use native.Mathlib.Omega.{arith}
 use Rattle.constraints.proofs.node.node_kept.Statement.{statement}
 use Rattle.constraints.proofs.node.node_kept.Tie as tie
+
+-- Any node that the arguments stand for has a method; the caller names one.
+module _ (c : tie.Else1) where
+  abbrev start : tie.Start
+  start = c .before .before .before .before .before .before .before
+
+  abbrev fields : List ℕ
+  fields = start .args .fields .now
+
+  abbrev work : List ℕ
+  work = start .args .work .now
+
+  abbrev x : Named
+  x = start .args .x
+
+  abbrev IsNode : Case → Tree → Type 0
+  IsNode k t = NodeReady k t fields (start .args .held) (start .args .states .now) work (x .n) (x .letter) (x .label)
+
+  node-of : {k : Case} {t : Tree} (v : IsNode k t)
+      → Standing k t fields (v .header) (v .planLine) (v .nodes) (start .args .states .now) work (x .n) (x .label)
+  node-of v = standing v (sym (c .before .names-method .ensures) ∙ not-false (c .before .names-method .result) (c .if1 .left))
+
+  abbrev caller : IsNode (start .pre .0 .0) (start .pre .0 .1)
+  caller = start .pre .0 .2
+
+-- The directory has its method's place.
+module _ (c : tie.After-method-place) where
+  abbrev else : tie.Else1
+  else = c .before .before
+
+  line-of : MethodHere (fields else) (c .method-place .result) (methodAt (start else .pre .0 .0 .methods) (x else .label))
+  line-of = method-found (node-of else (caller else)) (c .method-place .result) (c .method-place .ensures)
 
 names-method-requires : tie.Need-names-method-requires
 names-method-requires c κs = search needs
 
 returns : tie.Need-returns
 returns c =
-    let s = c .before .before .before .before .before in
-    let a = s .args in (
-      leaf-kept (caseOf (a .text .now)) (treeIn (a .text .now)) (a .x .line) (a .x .n) (a .x .letter) (a .x .label) (s .pre .1 .1 .0)
-          (sym (c .before .names-method .ensures) ∙ not-true (c .before .names-method .result) (c .if1 .taken)),
-      (s .pre .1 .1 .1, leaves-all (a .work .now)),
-    )
-
-load-requires : tie.Need-load-requires
-load-requires c κs =
-    let s = c .before .before .before .before .before .before in
+    let s = c .before .before .before .before .before .before .before in
     let a = s .args in
-    let w = standing (s .pre .0 .2) (a .x .n) (a .x .letter) (a .x .label) (s .pre .1 .0) (s .pre .1 .1 .0)
-    (sym (c .before .before .names-method .ensures) ∙ not-false (c .before .before .names-method .result) (c .before .if1 .left)) in
-    ((s .pre .0 .0, s .pre .0 .1, a .states .now, s .pre .0 .2), (w .node .below, s .pre .1 .1 .1))
+    let no = sym (c .before .names-method .ensures) ∙ not-true (c .before .names-method .result) (c .if1 .taken) in
+    ((λ k t v. leaf-kept k t (a .x .line) (a .x .n) (a .x .letter) (a .x .label) (v .labels) no), (leaves-all (a .work .now), s .pre .1))
+
+method-place-requires : tie.Need-method-place-requires
+method-place-requires c κs = listed-inside (node-of (c .before) (caller (c .before)))
+
+cast-place : tie.Need-cast-place
+cast-place c = search needs
+
+add-subtasks : tie.Need-add-subtasks
+add-subtasks c = search needs
+
+mul-subtasks : tie.Need-mul-subtasks
+mul-subtasks c = search needs
+
+shared-slice-read-subtasks : tie.Need-shared-slice-read-subtasks
+shared-slice-read-subtasks c = line-of (c .before) .room
+
+add-counted : tie.Need-add-counted
+add-counted c = search needs
+
+cast-counted : tie.Need-cast-counted
+cast-counted c = omega (arith, c .shared-slice-known3 .given (c .before .method-place .result + 2))
+
+add-counted-2 : tie.Need-add-counted-2
+add-counted-2 c = let i = line-of (c .before) .inside in search needs
+
+mul-count : tie.Need-mul-count
+mul-count c = let i = line-of (c .before) .inside in search needs
+
+shared-slice-read-count : tie.Need-shared-slice-read-count
+shared-slice-read-count c = line-of (c .before .before) .inside
 
 same-length : tie.Need-same-length
 same-length c = search needs
 
 returns-2 : tie.Need-returns-2
 returns-2 c =
-    let s = c .before .before .before .before .before .before .before .before .before .before .before in
-    let a = s .args in
-    let w = standing (s .pre .0 .2) (a .x .n) (a .x .letter) (a .x .label) (s .pre .1 .0) (s .pre .1 .1 .0)
-    (sym (c .before .before .before .before .before .before .before .names-method .ensures) ∙ not-false (c .before .before .before .before .before .before .before .names-method .result) (c .before .before .before .before .before .before .if1 .left)) in
-    let m = c .before .before .before .before .load in
-    let v = standing-leaves w (m .last .1 .1 .1 .0) (m .ensures .1 .1) in
-    (none-follow v (m .result) (m .ensures .1 .0) (m .ensures .0) (a .x .line) (c .if2 .taken), ((λ b. m .ensures .1 .0), m .ensures .1 .1))
+    let m = c .before .before .before in
+    let e = else m in (
+      (λ k t v. none-follow (node-of e v) (m .method-place .result) (m .method-place .ensures) (x e .line) (c .if2 .taken)),
+      (leaves-all (work e), start e .pre .1),
+    )
 
 subtask-nodes-requires : tie.Need-subtask-nodes-requires
 subtask-nodes-requires c κs =
-    let s = c .before .before .before .before .before .before .before .before .before .before .before .before in
-    let a = s .args in
-    let w = standing (s .pre .0 .2) (a .x .n) (a .x .letter) (a .x .label) (s .pre .1 .0) (s .pre .1 .1 .0)
-    (sym (c .before .before .before .before .before .before .before .before .names-method .ensures) ∙ not-false (c .before .before .before .before .before .before .before .before .names-method .result) (c .before .before .before .before .before .before .before .if1 .left)) in
-    let m = c .before .before .before .before .before .load in
-    let v = standing-leaves w (m .last .1 .1 .1 .0) (m .ensures .1 .1) in
-    let held = m .ensures .1 .0 in
-    let named = m .ensures .0 in
-    (few-enough v, (few-second v (m .result) held named, (room-before v (m .result) held named, nodes-inside v (m .result) held named)))
+    let m = c .before .before .before .before in
+    let w = node-of (else m) (caller (else m)) in
+    let p = m .method-place in
+    (few-enough w, (few-second w (p .result) (p .ensures), (room-before w, nodes-inside w (p .result) (p .ensures))))
+
+add-first-broken-of : tie.Need-add-first-broken-of
+add-first-broken-of c = let i = line-of (c .before .before .before .before .before .before .before) .inside in search needs
 
 span-at-requires : tie.Need-span-at-requires
 span-at-requires c κs =
-    let s = c .before .before .before .before .before .before .before .before .before .before .before .before .before .before .before .before in
-    let a = s .args in
-    let w = standing (s .pre .0 .2) (a .x .n) (a .x .letter) (a .x .label) (s .pre .1 .0) (s .pre .1 .1 .0)
-    (sym (c .before .before .before .before .before .before .before .before .before .before .before .before .names-method .ensures) ∙ not-false (c .before .before .before .before .before .before .before .before .before .before .before .before .names-method .result) (c .before .before .before .before .before .before .before .before .before .before .before .if1 .left)) in
-    let m = c .before .before .before .before .before .before .before .before .before .load in
-    let v = standing-leaves w (m .last .1 .1 .1 .0) (m .ensures .1 .1) in
+    let m = c .before .before .before .before .before .before .before .before in
     let n = c .before .before .before .subtask-nodes in
-    new-inside v (m .result) (m .ensures .1 .0) (m .ensures .0) (n .last .0) (n .ensures)
+    new-inside (node-of (else m) (caller (else m))) (m .method-place .result) (m .method-place .ensures) (n .last .0) (n .ensures)
 
 first-broken-of-requires : tie.Need-first-broken-of-requires
 first-broken-of-requires c κs =
-    let s = c .before .before .before .before .before .before .before .before .before .before .before .before .before .before .before .before .before .before in
-    let a = s .args in
-    let w = standing (s .pre .0 .2) (a .x .n) (a .x .letter) (a .x .label) (s .pre .1 .0) (s .pre .1 .1 .0)
-    (sym (c .before .before .before .before .before .before .before .before .before .before .before .before .before .before .names-method .ensures) ∙ not-false (c .before .before .before .before .before .before .before .before .before .before .before .before .before .before .names-method .result) (c .before .before .before .before .before .before .before .before .before .before .before .before .before .if1 .left)) in
-    let m = c .before .before .before .before .before .before .before .before .before .before .before .load in
-    let v = standing-leaves w (m .last .1 .1 .1 .0) (m .ensures .1 .1) in
-    let n = c .before .before .before .before .before .subtask-nodes in
-    let o = c .before .span-at in
-    let held = m .ensures .1 .0 in
-    let named = m .ensures .0 in
-    let new = new-holds v (m .result) held named (n .last .0) (n .ensures) in (
-      (new .few, new-room v (m .result) held named (n .last .0) (n .ensures)),
-      (new .letters, new-tested v (m .result) held named (n .last .0) (n .ensures) (spanOf (o .result)) (o .ensures)),
+    let m = c .before .before .before .before .before .before .before .before .before .before .before .before in
+    let e = else m in
+    let w = node-of e (caller e) in
+    let p = m .method-place in
+    let n = c .before .before .before .before .before .before .before .subtask-nodes in
+    let o = c .before .before .before .span-at in (
+      new-room w (p .result) (p .ensures) (n .last .0) (n .ensures),
+      (
+        start e .pre .1,
+        (
+          methodAt (start e .pre .0 .0 .methods) (x e .label) .constraints,
+          line-of m .constraints,
+          new-tested w (p .result) (p .ensures) (n .last .0) (n .ensures) (spanOf (o .result)) (o .ensures) (start e .args .held) (caller e .counted),
+        ),
+      ),
     )
 
 same-length-2 : tie.Need-same-length-2
 same-length-2 c = search needs
 
+same-length-3 : tie.Need-same-length-3
+same-length-3 c = search needs
+
+same-length-4 : tie.Need-same-length-4
+same-length-4 c = search needs
+
 returns-3 : tie.Need-returns-3
 returns-3 c =
-    let s = c .before .before .before .before .before .before .before .before .before .before .before .before .before .before .before .before .before .before .before in
-    let a = s .args in
-    let w = standing (s .pre .0 .2) (a .x .n) (a .x .letter) (a .x .label) (s .pre .1 .0) (s .pre .1 .1 .0)
-    (sym (c .before .before .before .before .before .before .before .before .before .before .before .before .before .before .before .names-method .ensures) ∙ not-false (c .before .before .before .before .before .before .before .before .before .before .before .before .before .before .before .names-method .result) (c .before .before .before .before .before .before .before .before .before .before .before .before .before .before .if1 .left)) in
-    let m = c .before .before .before .before .before .before .before .before .before .before .before .before .load in
-    let v = standing-leaves w (m .last .1 .1 .1 .0) (m .ensures .1 .1) in
-    let n = c .before .before .before .before .before .before .subtask-nodes in
-    let o = c .before .before .span-at in
-    let k = c .first-broken-of in
-    let held = m .ensures .1 .0 in
-    let named = m .ensures .0 in (
-      new-kept v (m .result) held named (n .last .0) (n .ensures) (spanOf (o .result)) (o .ensures) (a .x .line) (k .result) (k .ensures),
-      (
-        (λ b. new-holds v (m .result) held named (n .last .0) (n .ensures)),
-        leaves-then (m .ensures .1 .1) (new-leaves v (m .result) held named (n .last .0) (n .ensures)),
-      ),
+    let m = c .before .before .before .before .before .before .before .before .before .before .before .before .before .before .before .before .before in
+    let e = else m in
+    let p = m .method-place in
+    let n = c .before .before .before .before .before .before .before .before .before .before .before .before .subtask-nodes in
+    let o = c .before .before .before .before .before .before .before .before .span-at in
+    let r = c .before .before .before .before .first-broken-of in (
+      (λ k t v.
+          let w = node-of e v in
+          new-kept w (p .result) (p .ensures) (n .last .0) (n .ensures) (spanOf (o .result)) (o .ensures) (x e .line) (r .result)
+          (r .ensures .0 (methodAt (k .methods) (x e .label) .constraints) (method-found w (p .result) (p .ensures) .constraints))),
+      (new-leaves (node-of e (caller e)) (p .result) (p .ensures) (n .last .0) (n .ensures), r .ensures .1),
     )
 
 pub node-kept-spec : {M : Type 1} → statement M
@@ -112,11 +164,23 @@ node-kept-spec =
     (tie.spec
     names-method-requires
     returns
-    load-requires
+    method-place-requires
+    cast-place
+    add-subtasks
+    mul-subtasks
+    shared-slice-read-subtasks
+    add-counted
+    cast-counted
+    add-counted-2
+    mul-count
+    shared-slice-read-count
     same-length
     returns-2
     subtask-nodes-requires
+    add-first-broken-of
     span-at-requires
     first-broken-of-requires
     same-length-2
+    same-length-3
+    same-length-4
     returns-3)

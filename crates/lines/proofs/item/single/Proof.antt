@@ -1,51 +1,76 @@
 -- `single`: what was taken is the item, or refuses it. Assumes nothing.
 use Prim.Native.Nat.{_+_}
-use Rattle.lines.proofs.Items.{follow-any}
+use Rattle.lines.proofs.Items.{item-number, item-bad, item-out, room-here}
 use Rattle.lines.proofs.item.single.Statement.{statement}
 use Rattle.lines.proofs.item.single.Tie as tie
-use Rattle.lines.specs.Reading.{inKind, asOutcome}
-use Rattle.lines.specs.declared.item.Taken.the-variants.{Number, Bad, Out}
-use Rattle.rules.specs.Table.{scalar, item, readItem}
+use Rattle.lines.specs.Reading.{inKind}
+use Rattle.lines.specs.Shapes.{kindOf}
+use Rattle.rules.specs.Table.{one, scalar, item, readItem}
 use Rattle.rules.specs.Text.{numberAt}
 use borrow.Author.Needs.{needs}
-use mathlib.Core.Path.{sym, _∙_}
+use lib.Dec.{leb}
+use mathlib.Core.Bool.{_&&_}
+use mathlib.Core.Path.{refl, sym, _∙_}
 
+-- src/item.rt:171:11
 take-number-requires : tie.Need-take-number-requires
-take-number-requires c κs = search needs
+take-number-requires c κs = c .before .before .pre .1 .feeds
 
+-- src/item.rt:172:25
 enum-known-value : tie.Need-enum-known-value
 enum-known-value c = search needs
 
-add-t11 : tie.Need-add-t11
-add-t11 c = search needs
+-- src/item.rt:173:13
+mul-fields : tie.Need-mul-fields
+mul-fields c = search needs
 
+-- src/item.rt:173:13
+slice-write-fields : tie.Need-slice-write-fields
+slice-write-fields c =
+    let e = c .before .before .before .before .before .before in
+    let v = c .before .value .given .0 in
+    room-here (e .args .text .now) (e .args .fields .now) (e .args .from) (e .args .c .at)
+    (λ w. leb 0 w && inKind (e .args .x .now) (e .args .before .now) (e .args .kind) w) (v .0) (v .1 .0) (e .pre .1)
+    (sym (c .before .value .given .1) ∙ c .before .before .before .take-number .ensures)
+
+-- src/item.rt:176:24
+add-t13 : tie.Need-add-t13
+add-t13 c = search needs
+
+-- src/item.rt:180:23
 enum-told : tie.Need-enum-told
 enum-told c = search needs
 
+-- src/item.rt:181:23
 enum-told-2 : tie.Need-enum-told-2
 enum-told-2 c = search needs
 
+-- src/item.rt:157:1
+same-length : tie.Need-same-length
+same-length c = search needs
+
 returns : tie.Need-returns
-unfolding readItem asOutcome
+unfolding readItem
 returns c =
-    let a = c .before .before .before .before .before .args in
+    let a = c .before .before .before .before .before .before .args in
     let v = c .before .value .given .0 in
-    sym (follow-any (inKind (a .x) (a .before .now) (a .kind)) (numberAt (a .text .now) (a .c .at)) (Number (v .0) (v .1 .0)) (a .field)
-    (λ v next. item (scalar v) (a .field + 1) next) (sym (c .before .value .given .1) ∙ c .before .before .before .take-number .ensures))
+    item-number (one (kindOf (a .kind))) (a .from) (a .fields .now) (a .field) (λ n next. item (scalar n) (a .field + 1) next)
+    (inKind (a .x .now) (a .before .now) (a .kind)) (numberAt (a .text .now) (a .c .at)) (v .0) (v .1 .0)
+    (sym (c .before .value .given .1) ∙ c .before .before .before .take-number .ensures) _ _ (refl, refl)
 
 returns-2 : tie.Need-returns-2
-unfolding readItem asOutcome
+unfolding readItem
 returns-2 c =
-    let a = c .before .before .before .before .args in
-    sym (follow-any (inKind (a .x) (a .before .now) (a .kind)) (numberAt (a .text .now) (a .c .at)) Bad (a .field)
-    (λ v next. item (scalar v) (a .field + 1) next) (sym (c .enum-told .given .1) ∙ c .before .before .take-number .ensures))
+    let a = c .before .before .before .before .before .args in
+    item-bad (one (kindOf (a .kind))) (a .from) (a .fields .now) (a .field) (λ n next. item (scalar n) (a .field + 1) next)
+    (inKind (a .x .now) (a .before .now) (a .kind)) (numberAt (a .text .now) (a .c .at)) (sym (c .enum-told .given .1) ∙ c .before .before .take-number .ensures) _
 
 returns-3 : tie.Need-returns-3
-unfolding readItem asOutcome
+unfolding readItem
 returns-3 c =
-    let a = c .before .before .before .before .args in
-    sym (follow-any (inKind (a .x) (a .before .now) (a .kind)) (numberAt (a .text .now) (a .c .at)) Out (a .field)
-    (λ v next. item (scalar v) (a .field + 1) next) (sym (c .enum-told2 .given .1) ∙ c .before .before .take-number .ensures))
+    let a = c .before .before .before .before .before .args in
+    item-out (one (kindOf (a .kind))) (a .from) (a .fields .now) (a .field) (λ n next. item (scalar n) (a .field + 1) next)
+    (inKind (a .x .now) (a .before .now) (a .kind)) (numberAt (a .text .now) (a .c .at)) (sym (c .enum-told2 .given .1) ∙ c .before .before .take-number .ensures) _
 
 pub single-spec : {M : Type 1} → statement M
 single-spec =
@@ -53,9 +78,12 @@ single-spec =
     (tie.spec
     take-number-requires
     enum-known-value
-    add-t11
+    mul-fields
+    slice-write-fields
+    add-t13
     enum-told
     enum-told-2
+    same-length
     returns
     returns-2
     returns-3)

@@ -18,20 +18,59 @@ is-compound-requires c κs = search needs
 between-requires : tie.Need-between-requires
 between-requires c κs = search needs
 
+element-copy-out-is-compound-3 : tie.Need-element-copy-out-is-compound-3
+element-copy-out-is-compound-3 c = search needs
+
+element-copy-out-is-compound-4 : tie.Need-element-copy-out-is-compound-4
+element-copy-out-is-compound-4 c = search needs
+
 is-compound-requires-2 : tie.Need-is-compound-requires-2
 is-compound-requires-2 c κs = search needs
+
+element-copy-out-result : tie.Need-element-copy-out-result
+element-copy-out-result c = search needs
 
 element-copy-out-is-other : tie.Need-element-copy-out-is-other
 element-copy-out-is-other c = search needs
 
+element-copy-out-is-other-2 : tie.Need-element-copy-out-is-other-2
+element-copy-out-is-other-2 c = search needs
+
 is-other-requires : tie.Need-is-other-requires
 is-other-requires c κs = search needs
+
+element-copy-out-result-2 : tie.Need-element-copy-out-result-2
+element-copy-out-result-2 c = search needs
+
+element-copy-out-fits : tie.Need-element-copy-out-fits
+element-copy-out-fits c = search needs
 
 fits-requires : tie.Need-fits-requires
 fits-requires c κs = search needs
 
+element-copy-out-result-3 : tie.Need-element-copy-out-result-3
+element-copy-out-result-3 c = search needs
+
+element-copy-out-result-4 : tie.Need-element-copy-out-result-4
+element-copy-out-result-4 c = search needs
+
+element-copy-out-result-5 : tie.Need-element-copy-out-result-5
+element-copy-out-result-5 c = search needs
+
+element-copy-out-between : tie.Need-element-copy-out-between
+element-copy-out-between c = search needs
+
 between-requires-2 : tie.Need-between-requires-2
 between-requires-2 c κs = search needs
+
+element-copy-out-result-6 : tie.Need-element-copy-out-result-6
+element-copy-out-result-6 c = search needs
+
+element-copy-out-is-task : tie.Need-element-copy-out-is-task
+element-copy-out-is-task c = search needs
+
+element-copy-out-is-task-2 : tie.Need-element-copy-out-is-task-2
+element-copy-out-is-task-2 c = search needs
 
 is-task-requires : tie.Need-is-task-requires
 is-task-requires c κs = search needs
@@ -62,7 +101,7 @@ returns-6 c = rw (c .before .match .keys6) (c .between .ensures)
 
 returns-7 : tie.Need-returns-7
 unfolding inRange kindOf
-returns-7 c = rw (c .before .match .keys7) (c .is-compound2 .ensures)
+returns-7 c = rw (c .before .before .before .match .keys7) (c .is-compound2 .ensures)
 
 returns-8 : tie.Need-returns-8
 unfolding inRange kindOf
@@ -74,7 +113,7 @@ returns-9 c = rw (c .before .match .keys9)
 
 returns-10 : tie.Need-returns-10
 unfolding inRange kindOf
-returns-10 c = rw (c .before .before .match .keys10) (c .is-other .ensures)
+returns-10 c = rw (c .before .before .before .match .keys10) (c .is-other .ensures)
 
 returns-11 : tie.Need-returns-11
 unfolding inRange kindOf
@@ -82,7 +121,7 @@ returns-11 c = rw (c .before .match .keys11)
 
 returns-12 : tie.Need-returns-12
 unfolding inRange kindOf
-returns-12 c = rw (c .before .match .keys12) (c .fits2 .ensures)
+returns-12 c = rw (c .before .before .match .keys12) (c .fits2 .ensures)
 
 returns-13 : tie.Need-returns-13
 unfolding inRange kindOf
@@ -98,7 +137,7 @@ returns-15 c = rw (c .before .match .keys15)
 
 returns-16 : tie.Need-returns-16
 unfolding inRange kindOf
-returns-16 c = rw (c .before .match .keys16) (c .between2 .ensures)
+returns-16 c = rw (c .before .before .match .keys16) (c .between2 .ensures)
 
 returns-17 : tie.Need-returns-17
 unfolding inRange kindOf
@@ -111,8 +150,8 @@ returns-18 c = rw (c .before .match .keys18)
 returns-19 : tie.Need-returns-19
 unfolding inRange
 returns-19 c =
-    let r = c .before .match .rest in
-    rw (kind-other (c .before .before .before .args .kind) (r .0 .0 .0 .0 .0 .0 .0 .0 .0 .0 .0 .0 .0 .0 .0 .0 .0 .1, (r .0 .0 .0 .0 .0 .0 .0 .0 .0 .0 .0 .0 .0 .0 .0 .0 .1, (r .0 .0 .0 .0 .0 .0 .0 .0 .0 .0 .0 .0 .0 .0 .0 .1, (r .0 .0 .0 .0 .0 .0 .0 .0 .0 .0 .0 .0 .0 .0 .1, (r .0 .0 .0 .0 .0 .0 .0 .0 .0 .0 .0 .0 .0 .1, (r .0 .0 .0 .0 .0 .0 .0 .0 .0 .0 .0 .0 .1, (r .0 .0 .0 .0 .0 .0 .0 .0 .0 .0 .0 .1, (r .0 .0 .0 .0 .0 .0 .0 .0 .0 .0 .1, (r .0 .0 .0 .0 .0 .0 .0 .0 .0 .1, (r .0 .0 .0 .0 .0 .0 .0 .0 .1, (r .0 .0 .0 .0 .0 .0 .0 .1, (r .0 .0 .0 .0 .0 .0 .1, (r .0 .0 .0 .0 .0 .1, (r .0 .0 .0 .0 .1, (r .0 .0 .0 .1, (r .0 .0 .1, (r .0 .1, (r .1, tt))))))))))))))))))) (c .is-task .ensures)
+    let r = c .before .before .before .match .rest in
+    rw (kind-other (c .before .before .before .before .args .kind) (r .0 .0 .0 .0 .0 .0 .0 .0 .0 .0 .0 .0 .0 .0 .0 .0 .0 .1, (r .0 .0 .0 .0 .0 .0 .0 .0 .0 .0 .0 .0 .0 .0 .0 .0 .1, (r .0 .0 .0 .0 .0 .0 .0 .0 .0 .0 .0 .0 .0 .0 .0 .1, (r .0 .0 .0 .0 .0 .0 .0 .0 .0 .0 .0 .0 .0 .0 .1, (r .0 .0 .0 .0 .0 .0 .0 .0 .0 .0 .0 .0 .0 .1, (r .0 .0 .0 .0 .0 .0 .0 .0 .0 .0 .0 .0 .1, (r .0 .0 .0 .0 .0 .0 .0 .0 .0 .0 .0 .1, (r .0 .0 .0 .0 .0 .0 .0 .0 .0 .0 .1, (r .0 .0 .0 .0 .0 .0 .0 .0 .0 .1, (r .0 .0 .0 .0 .0 .0 .0 .0 .1, (r .0 .0 .0 .0 .0 .0 .0 .1, (r .0 .0 .0 .0 .0 .0 .1, (r .0 .0 .0 .0 .0 .1, (r .0 .0 .0 .0 .1, (r .0 .0 .0 .1, (r .0 .0 .1, (r .0 .1, (r .1, tt))))))))))))))))))) (c .is-task .ensures)
 
 pub in-range-spec : {M : Type 1} → statement M
 in-range-spec =
@@ -122,11 +161,24 @@ in-range-spec =
     element-copy-out-is-compound-2
     is-compound-requires
     between-requires
+    element-copy-out-is-compound-3
+    element-copy-out-is-compound-4
     is-compound-requires-2
+    element-copy-out-result
     element-copy-out-is-other
+    element-copy-out-is-other-2
     is-other-requires
+    element-copy-out-result-2
+    element-copy-out-fits
     fits-requires
+    element-copy-out-result-3
+    element-copy-out-result-4
+    element-copy-out-result-5
+    element-copy-out-between
     between-requires-2
+    element-copy-out-result-6
+    element-copy-out-is-task
+    element-copy-out-is-task-2
     is-task-requires
     returns
     returns-2

@@ -1,31 +1,66 @@
--- `lines::table::shape` meets its contract: an entry of the table is the row of its letter, and no other byte has a row. Assumes nothing.
-use Prim.Native.Nat.{_-_}
-use borrow.Author.Needs.{needs}
-use native.Mathlib.Omega.{arith}
-use Rattle.lines.proofs.Shapes.{shape-letter, shape-other}
+-- `shape`: each arm of the match is the row of its letter, and no other byte has a row. Assumes nothing.
+use Rattle.lines.proofs.Shapes.{shape-other}
+use Rattle.lines.specs.Shapes.{shapeRow, rowShown, itemsOf, itemOf, kindOf}
+use Rattle.rules.specs.Table.{rowOf, table, roleNumber}
 use Rattle.lines.proofs.table.shape.Statement.{statement}
 use Rattle.lines.proofs.table.shape.Tie as tie
 
-place-requires : tie.Need-place-requires
-place-requires c κs = search needs
-
-mul-result : tie.Need-mul-result
-mul-result c = search needs
-
-array-read-result : tie.Need-array-read-result
-array-read-result c = search needs
-
 returns : tie.Need-returns
-returns c =
-    let s = c .before .before .before in
-    shape-letter (s .args .letter) (c .place .result) (search needs) (search needs) (c .place .ensures)
+unfolding shapeRow rowShown rowOf table roleNumber itemsOf itemOf kindOf
+returns c = rw (c .match .keys1)
 
 returns-2 : tie.Need-returns-2
-returns-2 c = shape-other (c .before .before .args .letter) (λ k low high e. omega arith)
+unfolding shapeRow rowShown rowOf table roleNumber itemsOf itemOf kindOf
+returns-2 c = rw (c .match .keys2)
 
 returns-3 : tie.Need-returns-3
-returns-3 c = shape-other (c .before .args .letter) (λ k low high e. omega arith)
+unfolding shapeRow rowShown rowOf table roleNumber itemsOf itemOf kindOf
+returns-3 c = rw (c .match .keys3)
+
+returns-4 : tie.Need-returns-4
+unfolding shapeRow rowShown rowOf table roleNumber itemsOf itemOf kindOf
+returns-4 c = rw (c .match .keys4)
+
+returns-5 : tie.Need-returns-5
+unfolding shapeRow rowShown rowOf table roleNumber itemsOf itemOf kindOf
+returns-5 c = rw (c .match .keys5)
+
+returns-6 : tie.Need-returns-6
+unfolding shapeRow rowShown rowOf table roleNumber itemsOf itemOf kindOf
+returns-6 c = rw (c .match .keys6)
+
+returns-7 : tie.Need-returns-7
+unfolding shapeRow rowShown rowOf table roleNumber itemsOf itemOf kindOf
+returns-7 c = rw (c .match .keys7)
+
+returns-8 : tie.Need-returns-8
+unfolding shapeRow rowShown rowOf table roleNumber itemsOf itemOf kindOf
+returns-8 c = rw (c .match .keys8)
+
+returns-9 : tie.Need-returns-9
+unfolding shapeRow rowShown rowOf table roleNumber itemsOf itemOf kindOf
+returns-9 c = rw (c .match .keys9)
+
+returns-10 : tie.Need-returns-10
+unfolding shapeRow rowShown rowOf table roleNumber itemsOf itemOf kindOf
+returns-10 c = rw (c .match .keys10)
+
+returns-11 : tie.Need-returns-11
+unfolding shapeRow rowShown rowOf table roleNumber itemsOf itemOf kindOf
+returns-11 c = rw (c .match .keys11)
+
+returns-12 : tie.Need-returns-12
+unfolding shapeRow rowShown rowOf table roleNumber itemsOf itemOf kindOf
+returns-12 c = rw (c .match .keys12)
+
+returns-13 : tie.Need-returns-13
+unfolding table
+returns-13 c =
+    let r = c .match .rest in
+    shape-other (c .before .args .letter)
+    (r .0 .0 .0 .1, (r .0 .0 .0 .0 .0 .0 .1, (r .0 .0 .0 .0 .0 .0 .0 .0 .0 .0 .0 .1, (r .0 .0 .0 .0 .1, (r .0 .0 .1, (r .0 .0 .0 .0 .0 .0 .0 .0 .0 .0 .1, (r .0 .0 .0 .0 .0 .0 .0 .1, (r .1, (r .0 .1, (r .0 .0 .0 .0 .0 .0 .0 .0 .0 .1, (r .0 .0 .0 .0 .0 .0 .0 .0 .1, (r .0 .0 .0 .0 .0 .1, tt))))))))))))
 
 pub shape-spec : {M : Type 1} → statement M
 shape-spec =
-    tie.close (tie.spec place-requires mul-result array-read-result returns returns-2 returns-3)
+    tie.close
+    (tie.spec returns returns-2 returns-3 returns-4 returns-5 returns-6 returns-7 returns-8 returns-9 returns-10 returns-11 returns-12 returns-13)

@@ -3,7 +3,7 @@ use Prim.Native.Nat.{_-_}
 use Rattle.parts.proofs.Parts.{Placing, placing-starts, row-inside, placing-goes-on, placing-ends}
 use Rattle.parts.proofs.spans.subtask_nodes.Statement.{statement}
 use Rattle.parts.proofs.spans.subtask_nodes.Tie as tie
-use Rattle.tree.specs.Layout.{subtasksFrom, planFrom}
+use Rattle.tree.specs.Layout.{subtasksFrom, subtasksPast}
 use borrow.Author.Needs.{needs}
 use native.Mathlib.Omega.{arith}
 
@@ -30,7 +30,7 @@ mul-work : tie.Need-mul-work Inv-loop μ-loop
 mul-work c = search needs
 
 slice-write-work : tie.Need-slice-write-work Inv-loop μ-loop
-unfolding planFrom
+unfolding subtasksPast
 slice-write-work c = omega (arith, c .before .before .before .pre .1 .1 .0, c .before .before .before .pre .1 .0, c .before .loop .inv .size)
 
 after-at-requires : tie.Need-after-at-requires Inv-loop μ-loop

@@ -4,7 +4,7 @@ use Rattle.parts.proofs.Parts.{node-at}
 use Rattle.parts.proofs.spans.subtask_span.Statement.{statement}
 use Rattle.parts.proofs.spans.subtask_span.Tie as tie
 use Rattle.parts.specs.Spans.{rowSpan, RowInside, subtaskSpan}
-use Rattle.tree.specs.Layout.{subtasksFrom, planFrom}
+use Rattle.tree.specs.Layout.{subtasksFrom, subtasksPast}
 use borrow.Author.Needs.{needs}
 use mathlib.Core.Path.{sym, ap, subst, _∙_}
 use native.Mathlib.Omega.{arith}
@@ -16,7 +16,7 @@ mul-span-at : tie.Need-mul-span-at
 mul-span-at c = search needs
 
 shared-slice-read-span-at : tie.Need-shared-slice-read-span-at
-unfolding planFrom
+unfolding subtasksPast
 shared-slice-read-span-at c = omega (arith, c .before .before .pre .0, c .before .before .pre .1 .few)
 
 span-at-requires : tie.Need-span-at-requires

@@ -2,7 +2,7 @@
 use mathlib.Core.Path.{ap, _∙_}
 use native.Mathlib.Omega.{arith}
 use Rattle.rules.specs.State.{wordCount}
-use Rattle.parts.specs.States.{inRow}
+use Rattle.rows.specs.Rows.{inRow}
 use borrow.Author.Needs.{needs}
 use Rattle.parts.proofs.tests.keeps_after.Statement.{statement}
 use Rattle.parts.proofs.tests.keeps_after.Tie as tie
@@ -12,10 +12,9 @@ f-requires c κs = search needs
 
 holds-at-requires : tie.Need-holds-at-requires
 unfolding wordCount
-holds-at-requires c κs = omega (arith, c .before .before .pre .at-end, c .f .ensures)
+holds-at-requires c κs = omega (arith, c .before .before .pre, c .f .ensures)
 
 returns : tie.Need-returns
-unfolding inRow
 returns c =
     let a = c .before .before .before .args in c .holds-at .ensures ∙ ap (inRow (a .states .now) (a .p)) (c .before .f .ensures)
 

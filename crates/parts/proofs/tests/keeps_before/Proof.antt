@@ -3,7 +3,7 @@ use Prim.Native.Nat.{ℕ, _-_}
 use mathlib.Core.Path.{ap, _∙_}
 use native.Mathlib.Omega.{arith}
 use Rattle.rules.specs.State.{wordCount}
-use Rattle.parts.specs.States.{inRow}
+use Rattle.rows.specs.Rows.{inRow}
 use borrow.Author.Needs.{needs}
 use Rattle.parts.proofs.tests.keeps_before.Statement.{statement}
 use Rattle.parts.proofs.tests.keeps_before.Tie as tie
@@ -18,10 +18,9 @@ holds-at-requires : tie.Need-holds-at-requires
 unfolding wordCount
 holds-at-requires c κs =
     let t = c .before .before .before .pre in
-    omega (arith, t .after-first, t .before-start, c .before .c .ensures, c .previous .ensures)
+    omega (arith, t .0, t .1, c .before .c .ensures, c .previous .ensures)
 
 returns : tie.Need-returns
-unfolding inRow
 returns c =
     let a = c .before .before .before .before .args in
     c .holds-at .ensures

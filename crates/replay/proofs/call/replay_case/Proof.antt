@@ -1,76 +1,78 @@
 -- `replay_case`: all cues apply and the states are written; or one does not, and the list is cleared. Assumes nothing.
 use Prim.Native.Nat.{ℕ}
-use Rattle.replay.proofs.Calls.{left-worded, refuses, run-passes, run-stops}
-use Rattle.replay.proofs.Reached.{few-cues, initial-is}
-use Rattle.replay.proofs.call.replay_case.Statement.{statement}
-use Rattle.replay.proofs.call.replay_case.Tie as tie
-use Rattle.reading.specs.TheCase.{caseOf}
+use Rattle.replay.proofs.Calls.{refuses, run-passes, run-stops}
 use Rattle.replay.specs.Running.{replayRun}
+use Rattle.running.proofs.Reached.{few-cues}
+use Rattle.running.proofs.Outcome.{left-worded}
+use Rattle.rules.specs.Result.{refused}
 use Rattle.rules.specs.State.{wordCount}
 use Rattle.rules.specs.Verdict.{stateNeed}
 use Rattle.rules.specs.declared.Answer.the-variants.{Inapplicable}
-use borrow.Author.Needs.{needs}
 use lib.ListN.{length, replicate}
-use mathlib.Core.Path.{_≡_, ap, _∙_}
+use mathlib.Core.Path.{_≡_, sym, ap, _∙_}
 use native.Mathlib.Omega.{arith}
+use borrow.Author.Needs.{needs}
+use Rattle.replay.proofs.call.replay_case.Statement.{statement}
+use Rattle.replay.proofs.call.replay_case.Tie as tie
 
-read-initial-requires : tie.Need-read-initial-requires
-read-initial-requires c κs = search needs
-
+-- src/call.rt:36:11
 run-requires : tie.Need-run-requires
 unfolding wordCount stateNeed
 run-requires c κs =
-    let a = c .before .before .before .before .before .args in
-    let p = c .before .before .before .before .before .pre in
-    let few = few-cues (a .text .now) (a .directory .now) (a .header) (a .initial .at) (a .plan .at) (p .0) in
-    let room = p .1 .1 .0 in (
-      (a .initial .at, p .0),
-      (
-        initial-is (a .text .now) (a .directory .now) (a .header) (a .initial .at) (a .plan .at) (p .0) (c .before .read-initial .result) (c .before .read-initial .ensures),
-        omega arith,
-      ),
-    )
+    let s = c .before .before .before .before in
+    let a = s .args in
+    let p = s .pre in
+    let few = few-cues (p .0 .0) (a .fields .now) (a .directory .now) (a .header) (a .initial) (a .plan) (p .0 .1) in
+    let room = p .1 .0 in
+    (p .0, omega arith)
 
+-- src/call.rt:37:21
 enum-told : tie.Need-enum-told
 enum-told c = search needs
 
+-- src/call.rt:41:24
 enum-known-cue : tie.Need-enum-known-cue
 enum-known-cue c = search needs
 
+-- src/call.rt:42:13
 clear-requires : tie.Need-clear-requires
 clear-requires c κs = search needs
 
+-- src/call.rt:22:1
 same-length : tie.Need-same-length
 same-length c = search needs
 
+-- src/call.rt:22:1
 returns : tie.Need-returns
 returns c =
-    let a = c .before .before .before .before .before .before .before .before .before .before .args in
-    let p = c .before .before .before .before .before .before .before .before .before .before .pre in
-    run-passes (caseOf (a .text .now)) (c .before .before .before .before .run .result) (a .states .now) (c .before .before .before .before .run .last .1 .1 .1 .1 .1 .0) (c .before .before .before .before .run .ensures) (a .header) (length (a .states .now))
-    (c .enum-told .given .1) (p .0 .head) (p .1 .1 .1) (left-worded (a .text .now) (a .directory .now) (a .header) (a .initial .at) (a .plan .at) (p .0))
+    let s = c .before .before .before .before .before .before .before .before .before in
+    let a = s .args in
+    let r = c .before .before .before .before .run in
+    λ k left line.
+    run-passes k (r .result) (a .states .now) _ (r .ensures k left) (a .header) (length (a .states .now)) (c .enum-told .given .1) (left .head) (s .pre .1 .1)
+    (left-worded k (a .fields .now) (a .directory .now) (a .header) (a .initial) (a .plan) left)
 
+-- src/call.rt:22:1
 same-length-2 : tie.Need-same-length-2
 same-length-2 c = search needs
 
+-- src/call.rt:22:1
 returns-2 : tie.Need-returns-2
 returns-2 c =
-    let a = c .before .before .before .before .before .before .before .before .before .before .before .before .before .before .before .args in
-    let p = c .before .before .before .before .before .before .before .before .before .before .before .before .before .before .before .pre in
-    let k = caseOf (a .text .now) in
-    let size = length (a .states .now) in
-    let stops = run-stops k (c .before .before .before .before .before .before .before .before .before .run .result) (a .states .now) (c .before .before .before .before .before .before .before .before .before .run .last .1 .1 .1 .1 .1 .0) (c .before .before .before .before .before .before .before .before .before .run .ensures) (c .before .before .before .before .before .cue .given .0 .0) (c .before .before .before .before .before .cue .given .1) in
-    let kept : length (c .before .before .before .before .before .before .before .before .before .run .last .1 .1 .1 .1 .1 .0) ≡ size = c .before .before .before .before .before .before .before .before .before .run .kept .1 .1 .1 .1 .1 .0 in
-    let r = refuses size (replayRun k) (Inapplicable (k .planLine) (c .before .before .before .before .before .cue .given .0 .0)) stops in (
-      ap (λ (n : ℕ). Inapplicable n (c .before .before .before .before .before .cue .given .0 .0)) (p .1 .0) ∙ r .0,
-      c .before .before .clear .ensures ∙ ap (λ (n : ℕ). replicate n 0) kept ∙ r .1,
-    )
+    let s = c .before .before .before .before .before .before .before .before .before .before .before .before .before .before in
+    let a = s .args in
+    let r = c .before .before .before .before .before .before .before .before .before .run in
+    let x = c .before .before .before .before .before .cue .given in
+    let kept : length (r .last .1 .1 .1 .1 .1 .0) ≡ length (a .states .now) = r .kept .1 .1 .1 .1 .1 .0 in
+    λ k left line.
+    refuses (length (a .states .now)) (replayRun k) _ _
+    (run-stops k (r .result) (a .states .now) _ (r .ensures k left) (x .0 .0) (x .1) ∙ ap (λ (n : ℕ). refused (Inapplicable n (x .0 .0))) (sym line))
+    (c .before .before .clear .ensures ∙ ap (λ (n : ℕ). replicate n 0) kept)
 
 pub replay-case-spec : {M : Type 1} → statement M
 replay-case-spec =
     tie.close
     (tie.spec
-    read-initial-requires
     run-requires
     enum-told
     enum-known-cue

@@ -1,90 +1,141 @@
--- `replay_lent`: the text reads as its case, which is then run; or it is refused, and the state list is as it came. Assumes nothing.
-use Prim.Native.Nat.{_≤_}
-use Rattle.reading.specs.Directory.{directorySize}
-use Rattle.replay.proofs.Calls.{refuses, text-reads, text-refused, left-by}
+-- `replay_lent`: each row's test settles the answer, or leaves the rest of the rows. Assumes nothing.
+use Prim.Native.Nat.{_≤_, _<_}
+use Rattle.replay.proofs.Calls.{refuses, as-replayed, text-long, short-states, short-work, lists-long}
+use Rattle.replay.specs.Running.{replayText}
+use Rattle.rules.specs.State.{wordCount}
+use Rattle.rules.specs.Verdict.{stateNeed, workNeed, textMost, replayLists, replay}
+use Rattle.rules.specs.declared.Answer.the-variants.{ShortList, LongText}
+use lib.ListN.{length}
+use mathlib.Core.Path.{_∙_}
+use native.Mathlib.Omega.{arith}
+use borrow.Author.Needs.{needs}
 use Rattle.replay.proofs.call.replay_lent.Statement.{statement}
 use Rattle.replay.proofs.call.replay_lent.Tie as tie
-use Rattle.replay.specs.Running.{replayText}
-use Rattle.rules.specs.Verdict.{Found, workNeed, textMost, answerOf, statesAfter}
-use borrow.Author.Needs.{needs}
-use lib.ListN.{length}
-use mathlib.Core.Path.{_≡_, sym, ap, _∙_}
-use Rattle.reading.specs.Directory.{directorySize}
-use native.Mathlib.Omega.{arith}
 
-read-case-requires : tie.Need-read-case-requires
-unfolding workNeed textMost directorySize
-read-case-requires c κs =
-    let p = c .before .before .before .before .pre in
-    let long = p .0 .1 in
-    let short = p .1 .0 in
-    (omega arith, omega arith)
+-- src/call.rt:99:23
+mul-if1 : tie.Need-mul-if1
+mul-if1 c = search needs
 
-enum-known-header : tie.Need-enum-known-header
-enum-known-header c = search needs
+-- src/call.rt:100:9
+returns : tie.Need-returns
+unfolding stateNeed wordCount
+returns c =
+    let e = c .before .before .before .before in
+    let a = e .args in
+    let s = length (a .states .now) in
+    let w = length (a .work .now) in
+    let short : s < stateNeed = omega (arith, c .if1 .taken) in
+    refuses s (replay (replayLists s w) (a .text .now)) (ShortList 1) _ (short-states (a .text .now) s w short) (e .pre)
 
-replay-case-requires : tie.Need-replay-case-requires
-unfolding workNeed directorySize
-replay-case-requires c κs =
-    let a = c .before .before .before .before .before .before .before .before .before .before .before .before .args in
-    let p = c .before .before .before .before .before .before .before .before .before .before .before .before .pre in
-    let x = c .before .before .before .header .given in
-    let directory = c .before .before .before .before .before .before .before .read-case .last .1 .0 in
-    let kept : length directory ≡ length (a .work .now) = c .before .before .before .before .before .before .before .read-case .kept .1 .0 in
-    let lent = p .0 .1 in
-    let long : directorySize ≤ length directory = omega arith in
-    let w = left-by (a .text .now) directory (c .before .before .before .before .before .before .before .read-case .result) (c .before .before .before .before .before .before .before .read-case .ensures) (x .0 .0) (x .0 .1 .0) (x .0 .1 .1 .0) (x .0 .1 .1 .1 .0) (x .0 .1 .1 .1 .1 .0)
-    long (x .1) in
-    (w .0, (w .1, (p .0 .0, p .1 .1)))
+-- src/call.rt:103:9
+returns-2 : tie.Need-returns-2
+unfolding stateNeed wordCount workNeed
+returns-2 c =
+    let e = c .before .before .before .before .before in
+    let a = e .args in
+    let s = length (a .states .now) in
+    let w = length (a .work .now) in
+    let long : stateNeed ≤ s = omega (arith, c .before .if1 .left) in
+    let short : w < workNeed = omega (arith, c .if2 .taken) in
+    refuses s (replay (replayLists s w) (a .text .now)) (ShortList 3) _ (short-work (a .text .now) s w long short) (e .pre)
 
-enum-known-answer : tie.Need-enum-known-answer
-enum-known-answer c = search needs
+-- src/call.rt:106:9
+returns-3 : tie.Need-returns-3
+unfolding stateNeed wordCount workNeed textMost
+returns-3 c =
+    let e = c .before .before .before .before .before .before in
+    let a = e .args in
+    let s = length (a .states .now) in
+    let w = length (a .work .now) in
+    let long : stateNeed ≤ s = omega (arith, c .before .before .if1 .left) in
+    let long-too : workNeed ≤ w = omega (arith, c .before .if2 .left) in
+    let over : textMost < length (a .text .now) = omega (arith, c .if3 .taken) in
+    refuses s (replay (replayLists s w) (a .text .now)) LongText _ (lists-long (a .text .now) s w long long-too ∙ text-long (a .text .now) over) (e .pre)
 
+-- src/call.rt:108:21
+mul-if4 : tie.Need-mul-if4
+mul-if4 c = search needs
+
+-- src/call.rt:109:9
+replay-short-requires : tie.Need-replay-short-requires
+unfolding stateNeed wordCount workNeed
+replay-short-requires c κs =
+    let e = c .before .before .before .before .before .before .before .before .before in
+    let a = e .args in
+    let s = length (a .states .now) in
+    let w = length (a .work .now) in
+    let long : stateNeed ≤ s = omega (arith, c .before .before .before .before .before .if1 .left) in
+    let long-too : workNeed ≤ w = omega (arith, c .before .before .before .before .if2 .left) in
+    let few = c .before .before .if4 .taken in
+    ((long, long-too), (omega arith, e .pre))
+
+-- src/call.rt:111:9
+replay-long-requires : tie.Need-replay-long-requires
+unfolding stateNeed wordCount workNeed textMost
+replay-long-requires c κs =
+    let e = c .before .before .before .before .before .before .before .before .before in
+    let a = e .args in
+    let s = length (a .states .now) in
+    let w = length (a .work .now) in
+    let long : stateNeed ≤ s = omega (arith, c .before .before .before .before .before .if1 .left) in
+    let long-too : workNeed ≤ w = omega (arith, c .before .before .before .before .if2 .left) in
+    let short : length (a .text .now) ≤ textMost = omega (arith, c .before .before .before .if3 .left) in
+    ((long, long-too), (short, e .pre))
+
+-- src/call.rt:95:1
 same-length : tie.Need-same-length
 same-length c = search needs
 
+-- src/call.rt:95:1
 same-length-2 : tie.Need-same-length-2
 same-length-2 c = search needs
 
-returns : tie.Need-returns
-unfolding workNeed directorySize
-returns c =
-    let a = c .before .before .before .before .before .before .before .before .before .before .before .before .before .before .before .args in
-    let p = c .before .before .before .before .before .before .before .before .before .before .before .before .before .before .before .pre in
-    let x = c .before .before .before .before .before .before .header .given in
-    let directory = c .before .before .before .before .before .before .before .before .before .before .read-case .last .1 .0 in
-    let kept : length directory ≡ length (a .work .now) = c .before .before .before .before .before .before .before .before .before .before .read-case .kept .1 .0 in
-    let lent = p .0 .1 in
-    let long : directorySize ≤ length directory = omega arith in
-    let w = left-by (a .text .now) directory (c .before .before .before .before .before .before .before .before .before .before .read-case .result) (c .before .before .before .before .before .before .before .before .before .before .read-case .ensures) (x .0 .0) (x .0 .1 .0) (x .0 .1 .1 .0) (x .0 .1 .1 .1 .0) (x .0 .1 .1 .1 .1 .0)
-    long (x .1) in
-    let same = text-reads (a .text .now) directory (x .0 .0) (x .0 .1 .1 .0 .at) (x .0 .1 .1 .1 .0 .at) (p .1 .0) (w .0) in (
-      c .before .before .replay-case .ensures .0 ∙ ap answerOf (sym same),
-      c .before .before .replay-case .ensures .1 ∙ ap (λ (f : Found (Unit {0})). statesAfter (length (a .states .now)) f) (sym same),
-    )
+-- src/call.rt:95:1
+returns-4 : tie.Need-returns-4
+unfolding stateNeed wordCount workNeed
+returns-4 c =
+    let e = c .before .before .before .before .before .before .before .before .before .before .before .before .before .before in
+    let a = e .args in
+    let s = length (a .states .now) in
+    let w = length (a .work .now) in
+    let long : stateNeed ≤ s = omega (arith, c .before .before .before .before .before .before .before .before .before .before .if1 .left) in
+    let long-too : workNeed ≤ w = omega (arith, c .before .before .before .before .before .before .before .before .before .if2 .left) in
+    as-replayed (replay (replayLists s w) (a .text .now)) (replayText (a .text .now)) s _ _ (lists-long (a .text .now) s w long long-too) (c .before .before .before .before .replay-short .ensures)
 
+-- src/call.rt:95:1
 same-length-3 : tie.Need-same-length-3
 same-length-3 c = search needs
 
-returns-2 : tie.Need-returns-2
-returns-2 c =
-    let a = c .before .before .before .before .before .before .before .before .before .before .args in
-    let p = c .before .before .before .before .before .before .before .before .before .before .pre in
-    let x = c .before .answer .given in
-    let e = text-refused (a .text .now) (c .before .before .before .before .before .read-case .last .1 .0) (c .before .before .before .before .before .read-case .result) (c .before .before .before .before .before .read-case .ensures) (x .0 .0) (p .1 .0) (x .1) in
-    let r = refuses (length (a .states .now)) (replayText (a .text .now)) (x .0 .0) e in
-    (r .0, p .1 .1 ∙ r .1)
+-- src/call.rt:95:1
+same-length-4 : tie.Need-same-length-4
+same-length-4 c = search needs
+
+-- src/call.rt:95:1
+returns-5 : tie.Need-returns-5
+unfolding stateNeed wordCount workNeed
+returns-5 c =
+    let e = c .before .before .before .before .before .before .before .before .before .before .before .before .before .before in
+    let a = e .args in
+    let s = length (a .states .now) in
+    let w = length (a .work .now) in
+    let long : stateNeed ≤ s = omega (arith, c .before .before .before .before .before .before .before .before .before .before .if1 .left) in
+    let long-too : workNeed ≤ w = omega (arith, c .before .before .before .before .before .before .before .before .before .if2 .left) in
+    as-replayed (replay (replayLists s w) (a .text .now)) (replayText (a .text .now)) s _ _ (lists-long (a .text .now) s w long long-too) (c .before .before .before .before .replay-long .ensures)
 
 pub replay-lent-spec : {M : Type 1} → statement M
 replay-lent-spec =
     tie.close
     (tie.spec
-    read-case-requires
-    enum-known-header
-    replay-case-requires
-    enum-known-answer
+    mul-if1
+    returns
+    returns-2
+    returns-3
+    mul-if4
+    replay-short-requires
+    replay-long-requires
     same-length
     same-length-2
-    returns
+    returns-4
     same-length-3
-    returns-2)
+    same-length-4
+    returns-5)

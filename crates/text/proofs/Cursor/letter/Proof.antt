@@ -1,63 +1,59 @@
--- The field has a first byte where one stands that does not end it, and no second where it is over after that. Assumes nothing.
+-- The field has a first byte, and no second where it is over after that. Assumes nothing.
 use mathlib.Core.Path.{sym, ap, _∙_}
+use Prim.Native.Nat.{_+_}
+use native.Mathlib.Omega.{arith}
 use Rattle.text.specs.Cursor.{asLetter}
-use Rattle.text.proofs.Places.{letter-out, letter-none, letter-one, letter-more}
+use Rattle.text.proofs.Places.{over-in, letter-one, letter-more}
+use Rattle.text.proofs.Feeds.{feed-inside, feed-inner}
 use borrow.Author.Needs.{needs}
 use Rattle.text.proofs.Cursor.letter.Statement.{statement}
 use Rattle.text.proofs.Cursor.letter.Tie as tie
 
-returns : tie.Need-returns
-returns c =
-    let a = c .before .before .args in sym (ap asLetter (letter-out (a .text .now) (a .self .at) (c .if1 .taken)))
+add-ends-field : tie.Need-add-ends-field
+add-ends-field c = let s = c .before in let inside = feed-inside (s .args .text .now) (s .args .self .at) (s .pre .0) in omega arith
 
-shared-slice-read-byte : tie.Need-shared-slice-read-byte
-shared-slice-read-byte c = search needs
+shared-slice-read-ends-field : tie.Need-shared-slice-read-ends-field
+shared-slice-read-ends-field c =
+    let s = c .before .before in
+    let a = s .args in
+    feed-inside (a .text .now) (a .self .at + 1) (feed-inner (a .text .now) (a .self .at) (s .pre .0) (s .pre .1))
 
 ends-field-requires : tie.Need-ends-field-requires
 ends-field-requires c κs = search needs
 
+shared-slice-read-t10 : tie.Need-shared-slice-read-t10
+shared-slice-read-t10 c = let s = c .before .before .before .before .before in feed-inside (s .args .text .now) (s .args .self .at) (s .pre .0)
+
+add-t11 : tie.Need-add-t11
+add-t11 c =
+    let s = c .before .before .before .before .before in
+    let inside = feed-inside (s .args .text .now) (s .args .self .at) (s .pre .0) in
+    omega arith
+
+returns : tie.Need-returns
+returns c =
+    let s = c .before .before .before .before .before in
+    let a = s .args in
+    let further = feed-inside (a .text .now) (a .self .at + 1) (feed-inner (a .text .now) (a .self .at) (s .pre .0) (s .pre .1)) in
+    let over = over-in (a .text .now) (a .self .at + 1) further ∙ sym (c .before .before .ends-field .ensures) ∙ c .before .if1 .taken in
+    sym (ap asLetter (letter-one (a .text .now) (a .self .at) (feed-inside (a .text .now) (a .self .at) (s .pre .0)) (s .pre .1) over))
+
 returns-2 : tie.Need-returns-2
 returns-2 c =
-    let e = c .before .before .before in
-    let a = e .before .before .args in
-    let q = sym (c .before .ends-field .ensures) ∙ c .if2 .taken in
-    sym (ap asLetter (letter-none (a .text .now) (a .self .at) (e .if1 .left) q))
-
-add-is-over : tie.Need-add-is-over
-add-is-over c = search needs
-
-is-over-requires : tie.Need-is-over-requires
-is-over-requires c κs = search needs
-
-add-t12 : tie.Need-add-t12
-add-t12 c = search needs
-
-returns-3 : tie.Need-returns-3
-returns-3 c =
-    let d = c .before .before in
-    let e = d .before .before .before in
-    let a = e .before .before .args in
-    let q = sym (d .before .ends-field .ensures) ∙ d .if2 .left in
-    sym (ap asLetter (letter-one (a .text .now) (a .self .at) (e .if1 .left) q (sym (c .before .is-over .ensures) ∙ c .if3 .taken)))
-
-returns-4 : tie.Need-returns-4
-returns-4 c =
-    let d = c .before .before in
-    let e = d .before .before .before in
-    let a = e .before .before .args in
-    let q = sym (d .before .ends-field .ensures) ∙ d .if2 .left in
-    sym (ap asLetter (letter-more (a .text .now) (a .self .at) (e .if1 .left) q (sym (c .before .is-over .ensures) ∙ c .if3 .left)))
+    let s = c .before .before .before .before in
+    let a = s .args in
+    let further = feed-inside (a .text .now) (a .self .at + 1) (feed-inner (a .text .now) (a .self .at) (s .pre .0) (s .pre .1)) in
+    let over = over-in (a .text .now) (a .self .at + 1) further ∙ sym (c .before .ends-field .ensures) ∙ c .if1 .left in
+    sym (ap asLetter (letter-more (a .text .now) (a .self .at) (feed-inside (a .text .now) (a .self .at) (s .pre .0)) (s .pre .1) over))
 
 pub letter-spec : {M : Type 1} → statement M
 letter-spec =
     tie.close
     (tie.spec
-    returns
-    shared-slice-read-byte
+    add-ends-field
+    shared-slice-read-ends-field
     ends-field-requires
-    returns-2
-    add-is-over
-    is-over-requires
-    add-t12
-    returns-3
-    returns-4)
+    shared-slice-read-t10
+    add-t11
+    returns
+    returns-2)

@@ -1,11 +1,10 @@
 -- The numbers of the method's line, from left to right. Assumes nothing.
-use Prim.Native.Nat.{_+_}
-use Rattle.reading.specs.Directory.{methodsFrom}
-use Rattle.tree.proofs.Steps.{head-read}
+use Rattle.fields.specs.Directory.{methodsFrom}
+use Rattle.tree.specs.Fits.{methodHead}
 use Rattle.tree.proofs.fit.method_head.Statement.{statement}
 use Rattle.tree.proofs.fit.method_head.Tie as tie
 use borrow.Author.Needs.{needs}
-use lib.ListN.{getD}
+use mathlib.Core.Path.{refl}
 use native.Mathlib.Omega.{arith}
 
 add-i : tie.Need-add-i
@@ -18,22 +17,40 @@ shared-slice-read-at : tie.Need-shared-slice-read-at
 shared-slice-read-at c = search needs
 
 cast-at : tie.Need-cast-at
-cast-at c = omega (arith, c .shared-slice-known3 .given (1024 + c .before .before .before .args .m))
+unfolding methodsFrom
+cast-at c = let i = c .before .pre .inside in omega arith
 
-after-letter-requires : tie.Need-after-letter-requires
-after-letter-requires c κs = search needs
+add-t6 : tie.Need-add-t6
+unfolding methodsFrom
+add-t6 c = let i = c .before .pre .inside in omega arith
 
-number-again-requires : tie.Need-number-again-requires
-number-again-requires c κs = search needs
+mul-t9 : tie.Need-mul-t9
+unfolding methodsFrom
+mul-t9 c = let i = c .before .pre .inside in omega arith
 
-number-again-requires-2 : tie.Need-number-again-requires-2
-number-again-requires-2 c κs = search needs
+shared-slice-read-t8 : tie.Need-shared-slice-read-t8
+unfolding methodsFrom
+shared-slice-read-t8 c = let i = c .before .before .pre .inside in omega arith
+
+add-t11 : tie.Need-add-t11
+unfolding methodsFrom
+add-t11 c = let i = c .before .before .pre .inside in omega arith
+
+mul-t12 : tie.Need-mul-t12
+unfolding methodsFrom
+mul-t12 c = let i = c .before .before .pre .inside in omega arith
+
+shared-slice-read-t14 : tie.Need-shared-slice-read-t14
+unfolding methodsFrom
+shared-slice-read-t14 c = let i = c .before .before .before .pre .inside in omega arith
+
+add-t15 : tie.Need-add-t15
+unfolding methodsFrom
+add-t15 c = let i = c .before .before .before .pre .inside in omega arith
 
 returns : tie.Need-returns
-unfolding methodsFrom
-returns c = let a = c .before .before .before .before .before .before .before .args in
-    head-read (a .text .now) (getD (a .work .now) (1024 + a .m) 0) (c .before .before .before .after-letter .result) (c .before .before .number-again .result) (c .before .number-again2 .result)
-    (c .before .before .before .after-letter .ensures) (c .before .before .number-again .ensures) (c .before .number-again2 .ensures)
+unfolding methodHead methodsFrom
+returns c = refl
 
 pub method-head-spec : {M : Type 1} → statement M
 method-head-spec =
@@ -43,7 +60,11 @@ method-head-spec =
     mul-at
     shared-slice-read-at
     cast-at
-    after-letter-requires
-    number-again-requires
-    number-again-requires-2
+    add-t6
+    mul-t9
+    shared-slice-read-t8
+    add-t11
+    mul-t12
+    shared-slice-read-t14
+    add-t15
     returns)

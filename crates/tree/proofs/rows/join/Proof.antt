@@ -1,28 +1,24 @@
 -- The span joined, as the definition's. Assumes nothing.
-use Rattle.index.specs.Spans.{spanOf, asSpan}
-use Rattle.rules.specs.Index.{Span}
+use Prim.Native.Nat.{ℕ, suc, _-_}
+use Rattle.index.specs.Spans.{spanOf}
 use Rattle.tree.proofs.rows.join.Statement.{statement}
 use Rattle.tree.proofs.rows.join.Tie as tie
 use Rattle.tree.specs.Standing.{joined}
-use Rattle.tree.specs.declared.rows.Walked.the-variants.{Next}
 use borrow.Author.Needs.{needs}
-use mathlib.Core.Path.{sym, ap, _∙_}
+use mathlib.Core.Path.{_≡_, sym, ap, _∙_}
+use native.Mathlib.Omega.{arith}
 
-enum-known-walked : tie.Need-enum-known-walked
-enum-known-walked c = search needs
+returns : tie.Need-returns
+returns c = let a = c .before .args in ap (λ (x : ℕ). joined x (spanOf (a .span)) (spanOf (a .last))) (sym (c .if1 .taken))
 
 join-requires : tie.Need-join-requires
 join-requires c κs = search needs
 
-enum-known-walked-2 : tie.Need-enum-known-walked-2
-enum-known-walked-2 c = search needs
-
-returns : tie.Need-returns
-returns c = ap (λ (s : Span). Next (c .before .before .walked .given .0 .0) (asSpan s)) (c .join .ensures) ∙ ap (joined (spanOf (c .before .before .before .before .args .span))) (sym (c .before .before .walked .given .1))
-
 returns-2 : tie.Need-returns-2
-returns-2 c = ap (joined (spanOf (c .before .before .before .args .span))) (sym (c .before .walked2 .given .1))
+returns-2 c =
+    let a = c .before .before .args in
+    let some : a .count ≡ suc (a .count - 1) = let n = c .before .if1 .left in omega arith in
+    c .join .ensures ∙ ap (λ (x : ℕ). joined x (spanOf (a .span)) (spanOf (a .last))) (sym some)
 
 pub join-spec : {M : Type 1} → statement M
-join-spec =
-    tie.close (tie.spec enum-known-walked join-requires enum-known-walked-2 returns returns-2)
+join-spec = tie.close (tie.spec join-requires returns returns-2)

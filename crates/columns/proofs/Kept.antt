@@ -1,0 +1,121 @@
+-- What a caller carries from test to test: it holds with no column built, one column more keeps it, and it gives the answer. Assumes nothing.
+use mathlib.Core.Path.{_≡_, refl, sym, ap, _∙_, subst}
+use mathlib.Core.Bool.{Bool, true, false, _&&_, _||_, false≢true}
+use mathlib.Core.List.{List}
+use Prim.Native.Nat.{ℕ, _+_, _-_, _*_, _/_, _%_, _≤_, _<_}
+use native.Mathlib.Decide.{ℕ-discrete, decLt}
+use native.Mathlib.Omega.{arith}
+use lib.ListN.{length, replicate, length-replicate, getD-replicate}
+use lib.Dec.{eqb}
+use borrow.Author.Tests.{eq-eqb, ne-eqb}
+use Rattle.rules.specs.State.{wordCount, bit, member, insert, every}
+use Rattle.rules.specs.Constraint.{holdsFrom}
+use Rattle.rules.proofs.Bits.{bit-zero}
+use Rattle.rules.proofs.Members.{member-past, length-insert, member-insert}
+use Rattle.rules.proofs.Tables.{every-same, every-none}
+use Rattle.rows.specs.Rows.{putStretch, inRow}
+use Rattle.rows.proofs.Written.{length-stretch, at-put, other-put, length-put}
+use Rattle.columns.specs.Columns.{stateWords, columnWords, columnCount, columnAt, clear, Summed, Column, Columns}
+
+-- A set of zeros has no member.
+member-zeros : (n p : ℕ) → member (replicate n 0) p ≡ false
+unfolding member
+member-zeros n p = go (decLt (p / 64) n)
+  where
+    go : Dec (p / 64 < n) → member (replicate n 0) p ≡ false
+    go (yes h) = ap (λ (w : ℕ). bit w (p % 64)) (getD-replicate n (p / 64) 0 0 h) ∙ bit-zero (p % 64)
+    go (no h) = member-past (replicate n 0) p (omega (arith, length-replicate {A = ℕ} n 0))
+
+-- With no column built, whatever stands in the columns.
+pub columns-none : (states : List ℕ) (n : ℕ) (columns : List ℕ) → n ≤ 64 * stateWords → wordCount * n ≤ length states
+    → length columns ≡ columnCount * columnWords → Columns states n columns (replicate wordCount 0)
+columns-none states n columns f t e =
+    record {
+      fits = f;
+      there = t;
+      room = e;
+      flags = length-replicate {A = ℕ} wordCount 0;
+      right = λ p m. absurd (false≢true (sym (member-zeros wordCount p) ∙ m));
+    }
+
+-- Two lists of zeros, as a caller makes them.
+pub columns-new : (states : List ℕ) (n : ℕ) → n ≤ 64 * stateWords → wordCount * n ≤ length states
+    → Columns states n (replicate (columnCount * columnWords) 0) (replicate wordCount 0)
+columns-new states n f t = columns-none states n (replicate (columnCount * columnWords) 0) f t (length-replicate {A = ℕ} (columnCount * columnWords) 0)
+
+-- A proposition of a state has its place among the columns.
+pub place : (columns : List ℕ) (p : ℕ) → length columns ≡ columnCount * columnWords → p / 64 < wordCount
+    → columnWords * p + columnWords ≤ length columns
+unfolding columnCount columnWords wordCount
+place columns p r w = omega arith
+
+pub long : (columns : List ℕ) (p : ℕ) → length columns ≡ columnCount * columnWords → p / 64 < wordCount
+    → length (columnAt columns p) ≡ columnWords
+unfolding columnAt
+long columns p r w = length-stretch columnWords columns p (place columns p r w)
+
+module _ {states : List ℕ} {n : ℕ} {columns built : List ℕ} (k : Columns states n columns built) where
+  -- A proposition whose column is built has a place.
+  pub built-small : (p : ℕ) → member built p ≡ true → p / 64 < wordCount
+  built-small p m = go (decLt (p / 64) wordCount)
+    where
+      go : Dec (p / 64 < wordCount) → p / 64 < wordCount
+      go (yes h) = h
+      go (no h) = absurd (false≢true (sym (member-past built p (omega (arith, k .flags))) ∙ m))
+
+  inserted : (p q : ℕ) → p / 64 < wordCount → member (insert built p) q ≡ (eqb q p || member built q)
+  unfolding wordCount
+  inserted p q w = member-insert built p q (k .flags) (omega arith)
+
+  pub marked : (p : ℕ) → p / 64 < wordCount → member (insert built p) p ≡ true
+  marked p w = inserted p p w ∙ ap (λ (b : Bool). b || member built p) (eq-eqb p p refl)
+
+  -- One column more.
+  pub columns-more : (p : ℕ) (column : List ℕ) → p / 64 < wordCount → length column ≡ columnWords → Column states p n column
+      → Columns states n (putStretch columnWords columns p column) (insert built p)
+  unfolding columnAt
+  columns-more p column w size is =
+      record {
+        fits = k .fits;
+        there = k .there;
+        room = length-put columnWords columns p column room size ∙ k .room;
+        flags = length-insert built p ∙ k .flags;
+        right = λ q m. go q m (ℕ-discrete q p);
+      }
+    where
+      room : columnWords * p + columnWords ≤ length columns
+      room = place columns p (k .room) w
+
+      go : (q : ℕ) → member (insert built p) q ≡ true → Dec (q ≡ p) → Column states q n (columnAt (putStretch columnWords columns p column) q)
+      go q m (yes e) =
+          subst (λ (x : ℕ). Column states x n (columnAt (putStretch columnWords columns p column) x)) (sym e)
+          (subst (Column states p n) (sym (at-put columnWords columns p column room size)) is)
+      go q m (no d) =
+          let was : member built q ≡ true = ap (λ (x : Bool). x || member built q) (sym (ne-eqb q p d)) ∙ sym (inserted p q w) ∙ m in
+          subst (Column states q n) (sym (other-put columnWords columns p column room size q d)) (k .right q was)
+
+  -- The answer from a column is that from the states.
+  pub answer : (p first past : ℕ) {r : Bool} → member built p ≡ true → past ≤ n → r ≡ every (past - first) first (clear (columnAt columns p))
+      → r ≡ holdsFrom (inRow states) p first past
+  unfolding holdsFrom
+  answer p first past m h e =
+      e ∙ every-same (past - first) first (clear (columnAt columns p)) (λ l. inRow states p l) (λ l a b. k .right p m .at l (omega arith))
+
+  -- What sums up the column's words up to a state.
+  pub summed-to : (p past : ℕ) → member built p ≡ true → past ≤ n → Summed (columnAt columns p) past
+  summed-to p past m h = λ w b. k .right p m .summed w (omega arith)
+
+-- No state, and one.
+pub no-state : (holds : ℕ → ℕ → Bool) (p first past : ℕ) → past ≤ first → true ≡ holdsFrom holds p first past
+unfolding holdsFrom
+no-state holds p first past h = sym (every-none (past - first) first (λ l. holds p l) (omega arith))
+
+pub one-state : (holds : ℕ → ℕ → Bool) (p first past : ℕ) → past ≡ first + 1 → holds p first ≡ holdsFrom holds p first past
+unfolding holdsFrom
+one-state holds p first past e =
+    let one : 1 ≡ past - first = omega arith in
+    and-yes (holds p first) ∙ ap (λ (m : ℕ). every m first (λ l. holds p l)) one
+  where
+    and-yes : (x : Bool) → x ≡ (x && true)
+    and-yes true = refl
+    and-yes false = refl

@@ -1,0 +1,3 @@
+pub mod SetFields
+pub mod Reached
+pub mod Outcome

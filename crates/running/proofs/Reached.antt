@@ -1,0 +1,191 @@
+-- Running the plan: the run from the start is the run from here, after the cues taken so far. Assumes nothing.
+use mathlib.Core.Path.{_≡_, refl, sym, ap, ap₂, subst, _∙_}
+use mathlib.Core.Bool.{Bool, true, false, false≢true}
+use mathlib.Core.List.{List, [], _∷_, _++_, append-nil}
+use mathlib.Core.Option.{Option, none, some}
+use Prim.Native.Nat.{ℕ, _+_, _≤_, _<_}
+use native.Mathlib.Numerals.{add-one}
+use native.Mathlib.Omega.{arith}
+use lib.ListN.{length, getD, take, drop, take-append-drop, drop-of-length-le}
+use lib.Seq.{drop-cons, drop-drop}
+use Rattle.rules.specs.declared.Header.{Header}
+use Rattle.rules.specs.State.{Action, applies, next, step, noAction, actionAt, states, firstStop}
+use Rattle.rules.specs.Case.{Case}
+use Rattle.rules.specs.Fields.{lineFields, initialLine, actionLine, cuesLine}
+use Rattle.rules.specs.Verdict.{statesOf}
+use Rattle.rules.proofs.Judgement.Each.{each-at}
+use Rattle.rules.proofs.Judgement.Sound.{GoodAction, Sound, sound}
+use Rattle.state.specs.declared.State.{State}
+use Rattle.state.specs.declared.Stepped.{Stepped}
+use Rattle.fields.specs.Standing.{Stands}
+use Rattle.fields.specs.Directory.{directorySize}
+use Rattle.fields.proofs.Standing.{stands-at, stands-inside, stands-as}
+use Rattle.fields.proofs.Lines.{cues-fields}
+use Rattle.rows.specs.Rows.{putRow, putRows}
+use Rattle.rows.proofs.Written.{put-next}
+use Rattle.running.specs.declared.Ran.the-variants.{All, Stopped}
+use Rattle.running.specs.Running.{Left, ranOf, stopOf, reached, RanAs}
+
+-- ---- What reading left
+
+module _ (k : Case) (fields directory : List ℕ) (h : Header) (initial plan : ℕ) (left : Left k fields directory h initial plan) where
+  pub left-sound : Sound k
+  left-sound = sound (left .read .text) k (left .read .reads)
+
+  pub plan-long : length (k .plan) ≡ h .cues
+  plan-long = left-sound .plan-length ∙ ap (λ (x : Header). x .cues) (sym (left .head))
+
+  pub few-cues : h .cues ≤ 1000
+  few-cues = subst (λ (x : Header). x .cues ≤ 1000) (sym (left .head)) (left-sound .head-good .few-cues)
+
+  pub initial-stands : Stands fields initial (lineFields (initialLine (k .initial)))
+  initial-stands = left .finds .initialHere
+
+  -- The letter and the cues of the P line.
+  plan-stands : Stands fields plan (80 ∷ k .plan)
+  plan-stands = stands-as fields plan (lineFields (cuesLine (k .plan))) (80 ∷ k .plan) (cues-fields (k .plan)) (left .finds .planHere)
+
+  pub cue-inside : (i : ℕ) → i < h .cues → plan + (i + 1) < length fields
+  cue-inside i more =
+      let all = stands-inside fields plan (80 ∷ k .plan) plan-stands (omega arith) in
+      let long = plan-long in
+      omega arith
+
+  module _ (i a : ℕ) (more : i < h .cues) (e : a ≡ getD fields (plan + (i + 1)) 0) where
+    -- The action of cue i + 1.
+    pub cue-is : a ≡ getD (k .plan) i 0
+    cue-is =
+        let long = plan-long in
+        e ∙ stands-at fields plan (80 ∷ k .plan) (i + 1) plan-stands (omega arith) ∙ ap (λ (n : ℕ). getD (80 ∷ k .plan) n 0) (add-one i)
+
+    cue-known : a < k .head .actions
+    cue-known =
+        let long = plan-long in
+        subst (λ (x : ℕ). x < k .head .actions) (sym cue-is) (each-at (λ x. x < k .head .actions) (k .plan) i 0 (left-sound .plan-below) (omega arith))
+
+    pub action-listed : a < length directory
+    unfolding directorySize
+    action-listed =
+        let few = left-sound .head-good .few-actions in
+        let known = cue-known in
+        let long = left .long in
+        omega arith
+
+    pub action-stands : Stands fields (getD directory a 0) (lineFields (actionLine (actionAt (k .actions) a)))
+    action-stands = left .finds .actionHere a cue-known
+
+    pub action-good : GoodAction (actionAt (k .actions) a)
+    unfolding actionAt
+    action-good =
+        let known = cue-known in
+        let count = left-sound .actions-length in
+        each-at GoodAction (k .actions) a noAction (left-sound .actions-good) (omega arith)
+
+-- ---- One step
+
+step-yes : (s : List ℕ) (a : Action) (x : Stepped) → (x .ok, x .state .words) ≡ step s a → x .ok ≡ true → (applies s a ≡ true) × (x .state .words ≡ next s a)
+unfolding step
+step-yes s a x e ok = go (applies s a) refl e
+  where
+    go : (b : Bool) → applies s a ≡ b → _≡_ {A = Bool × List ℕ} (x .ok, x .state .words) (elim b as (λ t. Bool × List ℕ) [ true ↦ (true, next s a) | false ↦ (false, s) ])
+        → (applies s a ≡ true) × (x .state .words ≡ next s a)
+    go true q e = (q, ap (λ (p : Bool × List ℕ). p .1) e)
+    go false q e = absurd (false≢true (sym (ap (λ (p : Bool × List ℕ). p .0) e) ∙ ok))
+
+step-no : (s : List ℕ) (a : Action) (x : Stepped) → (x .ok, x .state .words) ≡ step s a → x .ok ≡ false → applies s a ≡ false
+unfolding step
+step-no s a x e ok = go (applies s a) refl e
+  where
+    go : (b : Bool) → applies s a ≡ b → _≡_ {A = Bool × List ℕ} (x .ok, x .state .words) (elim b as (λ t. Bool × List ℕ) [ true ↦ (true, next s a) | false ↦ (false, s) ])
+        → applies s a ≡ false
+    go true q e = absurd (false≢true (sym ok ∙ ap (λ (p : Bool × List ℕ). p .0) e))
+    go false q e = q
+
+stop-next : (actions : List Action) (a : ℕ) (rest : List ℕ) (s t : List ℕ) (i : ℕ) → applies s (actionAt actions a) ≡ true → t ≡ next s (actionAt actions a)
+    → firstStop actions (a ∷ rest) s i ≡ firstStop actions rest t (i + 1)
+unfolding firstStop
+stop-next actions a rest s t i e q =
+    ap (λ (b : Bool). elim b as (λ x. Option ℕ) [ true ↦ firstStop actions rest (next s (actionAt actions a)) (i + 1) | false ↦ some i ]) e
+    ∙ ap (λ (x : List ℕ). firstStop actions rest x (i + 1)) (sym q)
+
+stop-here : (actions : List Action) (a : ℕ) (rest : List ℕ) (s : List ℕ) (i : ℕ) → applies s (actionAt actions a) ≡ false
+    → firstStop actions (a ∷ rest) s i ≡ some i
+unfolding firstStop
+stop-here actions a rest s i e =
+    ap (λ (b : Bool). elim b as (λ x. Option ℕ) [ true ↦ firstStop actions rest (next s (actionAt actions a)) (i + 1) | false ↦ some i ]) e
+
+-- Of a list whose members from i on are known: those after the first of them, and the whole where there is no other.
+drop-next : (ss : List (List ℕ)) (i : ℕ) (s : List ℕ) (rest : List (List ℕ)) → drop i ss ≡ s ∷ rest → drop (i + 1) ss ≡ rest
+drop-next ss i s rest e = sym (drop-drop 1 i ss) ∙ ap (drop 1) e
+
+take-whole : (ss : List (List ℕ)) (n : ℕ) → drop n ss ≡ [] → take n ss ≡ ss
+take-whole ss n e = sym (append-nil (take n ss)) ∙ ap (λ (x : List (List ℕ)). take n ss ++ x) (sym e) ∙ take-append-drop n ss
+
+-- ---- The run so far
+
+-- i cues are taken: s is state i, and the states before it are written.
+pub record Reached (k : Case) (before : List ℕ) (s : State) (l : List ℕ) (i : ℕ) : Type 0 where
+  pub stop : stopOf k ≡ firstStop (k .actions) (drop i (k .plan)) (s .words) (i + 1)
+  pub later : drop i (statesOf k) ≡ states (k .actions) (drop i (k .plan)) (s .words)
+  pub rows : l ≡ putRows before 0 (take i (statesOf k))
+
+pub reached-none : (k : Case) (l : List ℕ) (s : State) → s .words ≡ k .initial → Reached k l s l 0
+unfolding statesOf
+reached-none k l s q = record {
+  stop = ap (λ (x : List ℕ). firstStop (k .actions) (k .plan) x 1) (sym q);
+  later = ap (λ (x : List ℕ). states (k .actions) (k .plan) x) (sym q);
+  rows = refl;
+}
+
+module _ (k : Case) (before : List ℕ) (s : State) (l : List ℕ) (i : ℕ) (w : Reached k before s l i) where
+  -- State i written too.
+  written : (m : List ℕ) (rest : List (List ℕ)) → drop i (statesOf k) ≡ s .words ∷ rest → m ≡ putRow l i (s .words)
+      → m ≡ putRows before 0 (take (i + 1) (statesOf k))
+  written m rest here e =
+      let none : i ≡ 0 + i = omega arith in
+      e ∙ ap₂ (λ (x : List ℕ) (n : ℕ). putRow x n (s .words)) (w .rows) none ∙ put-next (statesOf k) i (s .words) rest before 0 here
+      ∙ ap (λ (n : ℕ). putRows before 0 (take n (statesOf k))) (sym (add-one i))
+
+  module _ (a : ℕ) (more : i < length (k .plan)) (e : a ≡ getD (k .plan) i 0) where
+    -- The cue that is due, and those after it.
+    due : drop i (k .plan) ≡ a ∷ drop (i + 1) (k .plan)
+    due = drop-cons (k .plan) i 0 more ∙ ap₂ (λ (x n : ℕ). x ∷ drop n (k .plan)) (sym e) (sym (add-one i))
+
+    -- State i and those after it.
+    due-states : drop i (statesOf k) ≡ s .words ∷ states (k .actions) (drop (i + 1) (k .plan)) (next (s .words) (actionAt (k .actions) a))
+    unfolding states
+    due-states = w .later ∙ ap (λ (plan : List ℕ). states (k .actions) plan (s .words)) due
+
+    module _ (x : Stepped) (steps : (x .ok, x .state .words) ≡ step (s .words) (actionAt (k .actions) a)) (m : List ℕ) (row : m ≡ putRow l i (s .words)) where
+      pub reached-next : x .ok ≡ true → Reached k before (x .state) m (i + 1)
+      reached-next ok =
+          let y = step-yes (s .words) (actionAt (k .actions) a) x steps ok in
+          record {
+            stop = w .stop ∙ ap (λ (plan : List ℕ). firstStop (k .actions) plan (s .words) (i + 1)) due
+                ∙ stop-next (k .actions) a (drop (i + 1) (k .plan)) (s .words) (x .state .words) (i + 1) (y .0) (y .1);
+            later = drop-next (statesOf k) i (s .words) _ due-states ∙ ap (states (k .actions) (drop (i + 1) (k .plan))) (sym (y .1));
+            rows = written m _ due-states row;
+          }
+
+      pub reached-stop : x .ok ≡ false → RanAs k (Stopped (i + 1)) before m
+      reached-stop fails =
+          let stops : stopOf k ≡ some (i + 1) =
+          w .stop ∙ ap (λ (plan : List ℕ). firstStop (k .actions) plan (s .words) (i + 1)) due
+          ∙ stop-here (k .actions) a (drop (i + 1) (k .plan)) (s .words) (i + 1)
+          (step-no (s .words) (actionAt (k .actions) a) x steps fails) in
+          record {
+            answer = sym (ap ranOf stops);
+            written = written m _ due-states row ∙ sym (ap (λ (o : Option ℕ). putRows before 0 (reached o (statesOf k))) stops);
+          }
+
+  pub reached-all : (m : List ℕ) → length (k .plan) ≤ i → m ≡ putRow l i (s .words) → RanAs k All before m
+  unfolding states firstStop
+  reached-all m over e =
+      let none-left : drop i (k .plan) ≡ [] = drop-of-length-le (k .plan) {i = i} over in
+      let runs : stopOf k ≡ none = w .stop ∙ ap (λ (plan : List ℕ). firstStop (k .actions) plan (s .words) (i + 1)) none-left in
+      let last : drop i (statesOf k) ≡ s .words ∷ [] = w .later ∙ ap (λ (plan : List ℕ). states (k .actions) plan (s .words)) none-left in
+      let whole : take (i + 1) (statesOf k) ≡ statesOf k = take-whole (statesOf k) (i + 1) (drop-next (statesOf k) i (s .words) [] last) in
+      record {
+        answer = sym (ap ranOf runs);
+        written = written m [] last e ∙ ap (putRows before 0) whole ∙ sym (ap (λ (o : Option ℕ). putRows before 0 (reached o (statesOf k))) runs);
+      }
