@@ -5,26 +5,44 @@ use mathlib.Core.Logic.{_≢_}
 use mathlib.Core.List.{List, [], _∷_, _++_, append-assoc, flatten}
 use mathlib.Core.List.{List·Memᴰ·head as here}
 use Prim.Native.Nat.{ℕ, zero, suc, _+_, _-_, _*_, _≤_, _<_}
-use native.Mathlib.Nat.{mul-le-mul-left, mul-add, mul-one}
+use native.Mathlib.Nat.{mul-le-mul-left, mul-add, mul-one, not-suc-le-zero}
 use native.Mathlib.Decide.{decLt}
 use native.Mathlib.Omega.{arith}
-use lib.ListN.{length, getD, take, drop, replicate, length-append, length-drop, take-append-drop}
+use lib.ListN.{length, take, drop, set, replicate, length-append, length-drop, length-set, take-append-drop}
 use lib.Seq.{take-at, drop-at, drop-drop, take-append-le, drop-append-le, drop-append-add, length-take-le, getD-take, getD-drop, ext-getD}
 use Rattle.rules.specs.State.{State, wordCount, word}
 use Rattle.rules.specs.Verdict.{filled}
+use Rattle.rules.proofs.Tables.{store-next}
 use Rattle.rules.proofs.Worded.{Worded}
 use Rattle.rules.specs.Refusals.{Each}
 use Rattle.rules.proofs.Judgement.Each.{each-tail}
 use Rattle.rows.specs.Rows.{stretchAt, putStretch, putRow, putRows}
 
--- A list that agrees with another of its length below that length is the other: for the loop that writes a row.
-pub all-written : (ws l : List ℕ) (n : ℕ) → length l ≡ n → length ws ≡ n → ((k : ℕ) → k < n → getD l k 0 ≡ getD ws k 0) → l ≡ ws
-all-written ws l n e w all = ext-getD 0 l ws (e ∙ sym w) (λ k h. all k (omega arith))
+-- ---- The words of a state, copied one by one: the first i of ws are in l
+
+pub record Copied (ws l : List ℕ) (i : ℕ) : Type 0 where
+  pub most : i ≤ wordCount
+  pub size : length l ≡ wordCount
+  pub same : (k : ℕ) → k < i → word l k ≡ word ws k
+
+module _ {ws l : List ℕ} where
+  pub copied-none : length l ≡ wordCount → Copied ws l 0
+  copied-none e = record { most = omega arith; size = e; same = λ k h. absurd (not-suc-le-zero h) }
+
+  pub copied-next : {i v : ℕ} → Copied ws l i → i < wordCount → v ≡ word ws i → Copied ws (set l i v) (i + 1)
+  copied-next {i} {v} p more e = record {
+    most = omega arith;
+    size = length-set l i v ∙ p .size;
+    same = store-next (word ws) l i v (omega (arith, p .size)) e (p .same);
+  }
+
+  pub copied-all : {i : ℕ} → Copied ws l i → wordCount ≤ i → length ws ≡ wordCount → l ≡ ws
+  copied-all p over w = ext-getD 0 l ws (p .size ∙ sym w) (λ k h. p .same k (omega (arith, p .size)))
 
 -- ---- One stretch, of any number of numbers
 
 -- An earlier stretch ends before a later one starts.
-stretch-ends : (n i j : ℕ) → i < j → n * i + n ≤ n * j
+pub stretch-ends : (n i j : ℕ) → i < j → n * i + n ≤ n * j
 stretch-ends n i j h =
     let m : n * (i + 1) ≤ n * j = mul-le-mul-left n (omega arith) in
     let e : n * (i + 1) ≡ n * i + n * 1 = mul-add n i 1 in

@@ -5,7 +5,7 @@ ghost use Prim.Native.Nat.{_+_, _*_, _≤_};
 ghost use lib.ListN.{length, replicate};
 ghost use Rattle.rules.specs.State.{wordCount};
 ghost use Rattle.index.specs.Spans.{stateOf};
-ghost use Rattle.rows.specs.Rows.{putRow, inRow};
+ghost use Rattle.rows.specs.Rows.{putRow, rowAt, inRow};
 use index::StateNumber;
 use state::State;
 use state::WORDS;
@@ -47,6 +47,21 @@ pub fn holds_at(states: &[u64], l: StateNumber, p: u32) -> bool
     let from = row_start(l);
     let to = from + WORDS;
     state::holds(&states[from..to], p)
+}
+
+// Set i of a list of sets, each in a stretch of its own as a state is.
+pub fn set_at(list: &[u64], i: usize) -> State
+    requires { ⌜ wordCount * i + wordCount ≤ length (now list) ⌝ }
+    ensures { λ r. ⌜ r .words ≡ rowAt (now (list .entry)) i ⌝ }
+{
+    let from = WORDS * i;
+    let mut words = [0u64; WORDS];
+    let mut j: usize = 0;
+    while j < WORDS {
+        words[j] = list[from + j];
+        j += 1;
+    }
+    State { words }
 }
 
 // The state list, zero throughout.

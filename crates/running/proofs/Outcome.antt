@@ -21,7 +21,7 @@ pub left-worded : (k : Case) (fields directory : List ℕ) (h : Header) (initial
     → Each Worded (statesOf k)
 unfolding statesOf
 left-worded k fields directory h initial plan left =
-    states-worded (k .actions) (k .plan) (k .initial) (initial-worded k (left-sound k fields directory h initial plan left))
+    states-worded (k .actions) (k .plan) (k .initial) (initial-worded k (left-sound left))
 
 all-ran : (o : Option ℕ) → All ≡ ranOf o → o ≡ none
 all-ran none e = refl

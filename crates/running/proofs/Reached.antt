@@ -11,7 +11,7 @@ use lib.Seq.{drop-cons, drop-drop}
 use Rattle.rules.specs.declared.Header.{Header}
 use Rattle.rules.specs.State.{Action, applies, next, step, noAction, actionAt, states, firstStop}
 use Rattle.rules.specs.Case.{Case}
-use Rattle.rules.specs.Fields.{lineFields, initialLine, actionLine, cuesLine}
+use Rattle.rules.specs.Fields.{lineFields, actionLine, cuesLine}
 use Rattle.rules.specs.Verdict.{statesOf}
 use Rattle.rules.proofs.Judgement.Each.{each-at}
 use Rattle.rules.proofs.Judgement.Sound.{GoodAction, Sound, sound}
@@ -25,61 +25,64 @@ use Rattle.rows.specs.Rows.{putRow, putRows}
 use Rattle.rows.proofs.Written.{put-next}
 use Rattle.running.specs.declared.Ran.the-variants.{All, Stopped}
 use Rattle.running.specs.Running.{Left, ranOf, stopOf, reached, RanAs}
+use Rattle.running.specs.Sets.{IsStep}
 
 -- ---- What reading left
 
-module _ (k : Case) (fields directory : List ℕ) (h : Header) (initial plan : ℕ) (left : Left k fields directory h initial plan) where
+module _ {k : Case} {fields directory : List ℕ} {h : Header} {initial plan : ℕ} (left : Left k fields directory h initial plan) where
   pub left-sound : Sound k
   left-sound = sound (left .read .text) k (left .read .reads)
 
-  pub plan-long : length (k .plan) ≡ h .cues
+  plan-long : length (k .plan) ≡ h .cues
   plan-long = left-sound .plan-length ∙ ap (λ (x : Header). x .cues) (sym (left .head))
-
-  pub few-cues : h .cues ≤ 1000
-  few-cues = subst (λ (x : Header). x .cues ≤ 1000) (sym (left .head)) (left-sound .head-good .few-cues)
-
-  pub initial-stands : Stands fields initial (lineFields (initialLine (k .initial)))
-  initial-stands = left .finds .initialHere
 
   -- The letter and the cues of the P line.
   plan-stands : Stands fields plan (80 ∷ k .plan)
   plan-stands = stands-as fields plan (lineFields (cuesLine (k .plan))) (80 ∷ k .plan) (cues-fields (k .plan)) (left .finds .planHere)
 
-  pub cue-inside : (i : ℕ) → i < h .cues → plan + (i + 1) < length fields
-  cue-inside i more =
-      let all = stands-inside fields plan (80 ∷ k .plan) plan-stands (omega arith) in
-      let long = plan-long in
+  pub actions-listed : h .actions ≤ length directory
+  unfolding directorySize
+  actions-listed =
+      let few = subst (λ (x : Header). x .actions ≤ 1024) (sym (left .head)) (left-sound .head-good .few-actions) in
+      let long = left .long in
       omega arith
 
-  module _ (i a : ℕ) (more : i < h .cues) (e : a ≡ getD fields (plan + (i + 1)) 0) where
-    -- The action of cue i + 1.
-    pub cue-is : a ≡ getD (k .plan) i 0
-    cue-is =
-        let long = plan-long in
-        e ∙ stands-at fields plan (80 ∷ k .plan) (i + 1) plan-stands (omega arith) ∙ ap (λ (n : ℕ). getD (80 ∷ k .plan) n 0) (add-one i)
-
-    cue-known : a < k .head .actions
-    cue-known =
-        let long = plan-long in
-        subst (λ (x : ℕ). x < k .head .actions) (sym cue-is) (each-at (λ x. x < k .head .actions) (k .plan) i 0 (left-sound .plan-below) (omega arith))
-
-    pub action-listed : a < length directory
-    unfolding directorySize
-    action-listed =
-        let few = left-sound .head-good .few-actions in
-        let known = cue-known in
-        let long = left .long in
-        omega arith
+  module _ (a : ℕ) (known : a < h .actions) where
+    known-here : a < k .head .actions
+    known-here = subst (λ (x : Header). a < x .actions) (left .head) known
 
     pub action-stands : Stands fields (getD directory a 0) (lineFields (actionLine (actionAt (k .actions) a)))
-    action-stands = left .finds .actionHere a cue-known
+    action-stands = left .finds .actionHere a known-here
 
-    pub action-good : GoodAction (actionAt (k .actions) a)
+    action-good : GoodAction (actionAt (k .actions) a)
     unfolding actionAt
     action-good =
-        let known = cue-known in
+        let known = known-here in
         let count = left-sound .actions-length in
         each-at GoodAction (k .actions) a noAction (left-sound .actions-good) (omega arith)
+
+  -- The action of cue n, after i cues.
+  module _ (i n : ℕ) (more : i < h .cues) (e : n ≡ i + 1) where
+    pub cue-inside : plan + n < length fields
+    cue-inside =
+        let all = stands-inside fields plan (80 ∷ k .plan) plan-stands (omega arith) in
+        let long = plan-long in
+        omega arith
+
+    cue-is : getD fields (plan + n) 0 ≡ getD (k .plan) i 0
+    cue-is =
+        let long = plan-long in
+        stands-at fields plan (80 ∷ k .plan) n plan-stands (omega arith) ∙ ap (λ (m : ℕ). getD (80 ∷ k .plan) m 0) (e ∙ add-one i)
+
+    pub cue-known : getD fields (plan + n) 0 < h .actions
+    cue-known =
+        let long = plan-long in
+        let below : getD (k .plan) i 0 < k .head .actions = each-at (λ x. x < k .head .actions) (k .plan) i 0 (left-sound .plan-below) (omega arith) in
+        let same = ap (λ (x : Header). x .actions) (left .head) in
+        omega (arith, cue-is)
+
+pub few-cues : (k : Case) (fields directory : List ℕ) (h : Header) (initial plan : ℕ) → Left k fields directory h initial plan → h .cues ≤ 1000
+few-cues k fields directory h initial plan left = subst (λ (x : Header). x .cues ≤ 1000) (sym (left .head)) (left-sound left .head-good .few-cues)
 
 -- ---- One step
 
@@ -137,55 +140,70 @@ reached-none k l s q = record {
   rows = refl;
 }
 
-module _ (k : Case) (before : List ℕ) (s : State) (l : List ℕ) (i : ℕ) (w : Reached k before s l i) where
-  -- State i written too.
-  written : (m : List ℕ) (rest : List (List ℕ)) → drop i (statesOf k) ≡ s .words ∷ rest → m ≡ putRow l i (s .words)
-      → m ≡ putRows before 0 (take (i + 1) (statesOf k))
-  written m rest here e =
+-- One turn more: state i is written, which makes m of the list l.
+module _ {k : Case} {fields directory : List ℕ} {h : Header} {initial plan : ℕ} (left : Left k fields directory h initial plan)
+    {before : List ℕ} {s : State} {l : List ℕ} {i : ℕ} (w : Reached k before s l i) {m : List ℕ} (row : m ≡ putRow l i (s .words)) where
+  written : (rest : List (List ℕ)) → drop i (statesOf k) ≡ s .words ∷ rest → m ≡ putRows before 0 (take (i + 1) (statesOf k))
+  written rest here =
       let none : i ≡ 0 + i = omega arith in
-      e ∙ ap₂ (λ (x : List ℕ) (n : ℕ). putRow x n (s .words)) (w .rows) none ∙ put-next (statesOf k) i (s .words) rest before 0 here
+      row ∙ ap₂ (λ (x : List ℕ) (n : ℕ). putRow x n (s .words)) (w .rows) none ∙ put-next (statesOf k) i (s .words) rest before 0 here
       ∙ ap (λ (n : ℕ). putRows before 0 (take n (statesOf k))) (sym (add-one i))
 
-  module _ (a : ℕ) (more : i < length (k .plan)) (e : a ≡ getD (k .plan) i 0) where
-    -- The cue that is due, and those after it.
+  -- Cue n is due, and x is its step.
+  module _ (n : ℕ) (more : i < h .cues) (e : n ≡ i + 1) (x : Stepped)
+      (is : IsStep fields (getD directory (getD fields (plan + n) 0) 0) (s .words) x) where
+    a : ℕ
+    a = getD fields (plan + n) 0
+
+    steps : (x .ok, x .state .words) ≡ step (s .words) (actionAt (k .actions) a)
+    unfolding a
+    steps =
+        let known = cue-known left i n more e in
+        is (actionAt (k .actions) a) (action-good left a known) (action-stands left a known)
+
+    -- That cue, and those after it.
     due : drop i (k .plan) ≡ a ∷ drop (i + 1) (k .plan)
-    due = drop-cons (k .plan) i 0 more ∙ ap₂ (λ (x n : ℕ). x ∷ drop n (k .plan)) (sym e) (sym (add-one i))
+    unfolding a
+    due =
+        let long = plan-long left in
+        drop-cons (k .plan) i 0 (omega arith) ∙ ap₂ (λ (y m : ℕ). y ∷ drop m (k .plan)) (sym (cue-is left i n more e)) (sym (add-one i))
 
     -- State i and those after it.
     due-states : drop i (statesOf k) ≡ s .words ∷ states (k .actions) (drop (i + 1) (k .plan)) (next (s .words) (actionAt (k .actions) a))
     unfolding states
     due-states = w .later ∙ ap (λ (plan : List ℕ). states (k .actions) plan (s .words)) due
 
-    module _ (x : Stepped) (steps : (x .ok, x .state .words) ≡ step (s .words) (actionAt (k .actions) a)) (m : List ℕ) (row : m ≡ putRow l i (s .words)) where
-      pub reached-next : x .ok ≡ true → Reached k before (x .state) m (i + 1)
-      reached-next ok =
-          let y = step-yes (s .words) (actionAt (k .actions) a) x steps ok in
-          record {
-            stop = w .stop ∙ ap (λ (plan : List ℕ). firstStop (k .actions) plan (s .words) (i + 1)) due
-                ∙ stop-next (k .actions) a (drop (i + 1) (k .plan)) (s .words) (x .state .words) (i + 1) (y .0) (y .1);
-            later = drop-next (statesOf k) i (s .words) _ due-states ∙ ap (states (k .actions) (drop (i + 1) (k .plan))) (sym (y .1));
-            rows = written m _ due-states row;
-          }
+    pub reached-next : x .ok ≡ true → Reached k before (x .state) m (i + 1)
+    reached-next ok =
+        let y = step-yes (s .words) (actionAt (k .actions) a) x steps ok in
+        record {
+          stop = w .stop ∙ ap (λ (plan : List ℕ). firstStop (k .actions) plan (s .words) (i + 1)) due
+              ∙ stop-next (k .actions) a (drop (i + 1) (k .plan)) (s .words) (x .state .words) (i + 1) (y .0) (y .1);
+          later = drop-next (statesOf k) i (s .words) _ due-states ∙ ap (states (k .actions) (drop (i + 1) (k .plan))) (sym (y .1));
+          rows = written _ due-states;
+        }
 
-      pub reached-stop : x .ok ≡ false → RanAs k (Stopped (i + 1)) before m
-      reached-stop fails =
-          let stops : stopOf k ≡ some (i + 1) =
-          w .stop ∙ ap (λ (plan : List ℕ). firstStop (k .actions) plan (s .words) (i + 1)) due
-          ∙ stop-here (k .actions) a (drop (i + 1) (k .plan)) (s .words) (i + 1)
-          (step-no (s .words) (actionAt (k .actions) a) x steps fails) in
-          record {
-            answer = sym (ap ranOf stops);
-            written = written m _ due-states row ∙ sym (ap (λ (o : Option ℕ). putRows before 0 (reached o (statesOf k))) stops);
-          }
+    pub reached-stop : x .ok ≡ false → RanAs k (Stopped (i + 1)) before m
+    reached-stop fails =
+        let stops : stopOf k ≡ some (i + 1) =
+        w .stop ∙ ap (λ (plan : List ℕ). firstStop (k .actions) plan (s .words) (i + 1)) due
+        ∙ stop-here (k .actions) a (drop (i + 1) (k .plan)) (s .words) (i + 1)
+        (step-no (s .words) (actionAt (k .actions) a) x steps fails) in
+        record {
+          answer = sym (ap ranOf stops);
+          written = written _ due-states ∙ sym (ap (λ (o : Option ℕ). putRows before 0 (reached o (statesOf k))) stops);
+        }
 
-  pub reached-all : (m : List ℕ) → length (k .plan) ≤ i → m ≡ putRow l i (s .words) → RanAs k All before m
+  -- No cue is due.
+  pub reached-all : h .cues ≤ i → RanAs k All before m
   unfolding states firstStop
-  reached-all m over e =
-      let none-left : drop i (k .plan) ≡ [] = drop-of-length-le (k .plan) {i = i} over in
+  reached-all over =
+      let long = plan-long left in
+      let none-left : drop i (k .plan) ≡ [] = drop-of-length-le (k .plan) {i = i} (omega arith) in
       let runs : stopOf k ≡ none = w .stop ∙ ap (λ (plan : List ℕ). firstStop (k .actions) plan (s .words) (i + 1)) none-left in
       let last : drop i (statesOf k) ≡ s .words ∷ [] = w .later ∙ ap (λ (plan : List ℕ). states (k .actions) plan (s .words)) none-left in
       let whole : take (i + 1) (statesOf k) ≡ statesOf k = take-whole (statesOf k) (i + 1) (drop-next (statesOf k) i (s .words) [] last) in
       record {
         answer = sym (ap ranOf runs);
-        written = written m [] last e ∙ ap (putRows before 0) whole ∙ sym (ap (λ (o : Option ℕ). putRows before 0 (reached o (statesOf k))) runs);
+        written = written [] last ∙ ap (putRows before 0) whole ∙ sym (ap (λ (o : Option ℕ). putRows before 0 (reached o (statesOf k))) runs);
       }

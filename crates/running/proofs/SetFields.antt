@@ -1,8 +1,8 @@
--- The set that stands at a place among the fields: its members in turn, what it is where the fields of a set stand, and the four sets of an
+-- The sets that stand among the fields: a set's members in turn, what they make where the fields of a set stand, and the four sets of an
 -- action's line, one after the other. Assumes nothing.
 use mathlib.Core.Path.{_≡_, sym, ap, ap₂, subst, _∙_}
 use mathlib.Core.List.{List, [], _∷_, _++_, append-nil}
-use Prim.Native.Nat.{ℕ, suc, _+_, _-_, _≤_, _<_}
+use Prim.Native.Nat.{ℕ, zero, suc, _+_, _-_, _≤_, _<_}
 use native.Mathlib.Numerals.{add-one}
 use native.Mathlib.Omega.{arith}
 use lib.ListN.{length, getD, take, drop}
@@ -10,12 +10,11 @@ use lib.Seq.{drop-cons, take-append-seam}
 use Rattle.rules.specs.State.{State, Action, noPropositions, insert, insertAll}
 use Rattle.rules.specs.Fields.{propositionsOf, lineFields, initialLine, actionLine}
 use Rattle.rules.proofs.Judgement.Sound.{IsSet, GoodAction}
-use Rattle.state.specs.Action.{actionOf}
 use Rattle.fields.specs.Standing.{Stands}
 use Rattle.fields.proofs.Standing.{stands-left, stands-right, stands-rest, stands-first, stands-inside, stands-as}
 use Rattle.fields.proofs.Lines.{setFields, initial-fields, action-fields}
-use Rattle.running.specs.declared.sets.SetRead.{SetRead}
-use Rattle.running.specs.Sets.{setFrom}
+use Rattle.rows.specs.Rows.{rowAt}
+use Rattle.running.specs.Sets.{membersAt, past, actionIn}
 
 -- ---- The loop over a set's members: those from i to the end
 
@@ -39,89 +38,91 @@ module _ (fields : List ℕ) (at : ℕ) (s : State) (rest : List ℕ) (here : St
   count-is = stands-first fields at (length (propositionsOf s)) (propositionsOf s ++ rest) here
 
   -- Its members lie inside the list.
-  pub set-inside : at + 1 + getD fields at 0 ≤ length fields
+  set-inside : past fields at ≤ length fields
+  unfolding past
   set-inside =
       let all = stands-inside fields at (setFields s) (stands-left fields at (setFields s) rest here) (omega arith) in
       omega (arith, count-is)
 
-  module _ (r : SetRead) (e : r ≡ setFrom fields at) where
-    pub set-is : IsSet s → r .set .words ≡ s
-    unfolding setFrom
-    set-is kept =
-        let members = stands-rest fields at (length (propositionsOf s)) (propositionsOf s ++ rest) here in
-        let split = stands-left fields (at + 1) (propositionsOf s) rest members in
-        ap (λ (x : SetRead). x .set .words) e
-        ∙ ap (insertAll noPropositions) (ap₂ take count-is (split .here) ∙ take-append-seam (propositionsOf s) (split .rest))
-        ∙ kept
+  set-is : IsSet s → insertAll noPropositions (membersAt fields at) ≡ s
+  unfolding membersAt
+  set-is kept =
+      let members = stands-rest fields at (length (propositionsOf s)) (propositionsOf s ++ rest) here in
+      let split = stands-left fields (at + 1) (propositionsOf s) rest members in
+      ap (insertAll noPropositions) (ap₂ take count-is (split .here) ∙ take-append-seam (propositionsOf s) (split .rest)) ∙ kept
 
-    -- What follows it stands at the next place.
-    pub set-next : Stands fields (r .next) rest
-    unfolding setFrom
-    set-next =
-        let next : at + suc (length (propositionsOf s)) ≡ r .next = omega (arith, count-is, ap (λ (x : SetRead). x .next) e) in
-        subst (λ (p : ℕ). Stands fields p rest) next (stands-right fields at (setFields s) rest here)
+  -- What follows it stands at the place past it.
+  set-next : Stands fields (past fields at) rest
+  unfolding past
+  set-next =
+      let next : at + suc (length (propositionsOf s)) ≡ at + 1 + getD fields at 0 = omega (arith, count-is) in
+      subst (λ (p : ℕ). Stands fields p rest) next (stands-right fields at (setFields s) rest here)
+
+-- ---- Sets one after the other
+
+abbrev allFields : List State → List ℕ
+allFields [] = []
+allFields (s ∷ ss) = setFields s ++ allFields ss
+
+-- The place of set i, where the first is at a place.
+abbrev pub placeOf : List ℕ → ℕ → ℕ → ℕ
+placeOf fields at zero = at
+placeOf fields at (suc i) = past fields (placeOf fields at i)
+
+-- Set i of some, and what follows it.
+abbrev fromSet : List State → ℕ → List ℕ
+fromSet ss i = setFields (getD ss i noPropositions) ++ allFields (drop (suc i) ss)
+
+sets-here : (fields : List ℕ) (at : ℕ) (ss : List State) → Stands fields at (allFields ss) → (i : ℕ) → i < length ss
+    → Stands fields (placeOf fields at i) (fromSet ss i)
+sets-here fields at ss here zero h = stands-as fields at (allFields ss) (fromSet ss 0) (ap allFields (drop-cons ss 0 noPropositions h)) here
+sets-here fields at ss here (suc i) h =
+    stands-as fields (placeOf fields at (suc i)) (allFields (drop (suc i) ss)) (fromSet ss (suc i)) (ap allFields (drop-cons ss (suc i) noPropositions h))
+    (set-next fields (placeOf fields at i) (getD ss i noPropositions) (allFields (drop (suc i) ss)) (sets-here fields at ss here i (omega arith)))
 
 -- ---- The lines that have sets
 
--- The set of an I line stands after its letter.
-pub initial-here : (fields : List ℕ) (at : ℕ) (s : State) → Stands fields at (lineFields (initialLine s)) → Stands fields (at + 1) (setFields s ++ [])
-initial-here fields at s here =
-    stands-rest fields at 73 (setFields s ++ [])
-    (stands-as fields at (lineFields (initialLine s)) (73 ∷ (setFields s ++ []))
-    (initial-fields s ∙ ap (λ (l : List ℕ). 73 ∷ l) (sym (append-nil (setFields s)))) here)
+module _ (fields : List ℕ) (at : ℕ) (s : State) (here : Stands fields at (lineFields (initialLine s))) where
+  -- The set of an I line stands after its letter.
+  initial-here : Stands fields (at + 1) (setFields s ++ [])
+  initial-here =
+      stands-rest fields at 73 (setFields s ++ [])
+      (stands-as fields at (lineFields (initialLine s)) (73 ∷ (setFields s ++ []))
+      (initial-fields s ∙ ap (λ (l : List ℕ). 73 ∷ l) (sym (append-nil (setFields s)))) here)
 
--- The last of an action's four sets; the last two; the last three.
-abbrev fromDeleted : Action → List ℕ
-fromDeleted a = setFields (a .deleted) ++ []
+  pub initial-inside : past fields (at + 1) ≤ length fields
+  initial-inside = set-inside fields (at + 1) s [] initial-here
 
-abbrev fromAdded : Action → List ℕ
-fromAdded a = setFields (a .added) ++ fromDeleted a
+  pub initial-is : IsSet s → insertAll noPropositions (membersAt fields (at + 1)) ≡ s
+  initial-is = set-is fields (at + 1) s [] initial-here
 
-abbrev fromForbidden : Action → List ℕ
-fromForbidden a = setFields (a .forbidden) ++ fromAdded a
-
--- The four sets of an A line stand after its letter, one after the other.
-pub action-here : (fields : List ℕ) (at : ℕ) (a : Action) → Stands fields at (lineFields (actionLine a))
-    → Stands fields (at + 1) (setFields (a .needed) ++ fromForbidden a)
-action-here fields at a here =
-    stands-rest fields at 65 (setFields (a .needed) ++ fromForbidden a)
-    (stands-as fields at (lineFields (actionLine a)) (65 ∷ (setFields (a .needed) ++ fromForbidden a))
-    (action-fields a
-    ∙ ap (λ (l : List ℕ). 65 ∷ (setFields (a .needed) ++ (setFields (a .forbidden) ++ (setFields (a .added) ++ l)))) (sym (append-nil (setFields (a .deleted)))))
-    here)
+abbrev setsOf : Action → List State
+setsOf a = a .needed ∷ a .forbidden ∷ a .added ∷ a .deleted ∷ []
 
 module _ (fields : List ℕ) (at : ℕ) (a : Action) (here : Stands fields at (lineFields (actionLine a))) where
-  needed-here : Stands fields (at + 1) (setFields (a .needed) ++ fromForbidden a)
-  needed-here = action-here fields at a here
+  -- The four sets of an A line stand after its letter, one after the other.
+  set-here : (i : ℕ) → i < 4 → Stands fields (placeOf fields (at + 1) i) (fromSet (setsOf a) i)
+  set-here =
+      sets-here fields (at + 1) (setsOf a)
+      (stands-rest fields at 65 (allFields (setsOf a))
+      (stands-as fields at (lineFields (actionLine a)) (65 ∷ allFields (setsOf a))
+      (action-fields a
+      ∙ ap (λ (l : List ℕ). 65 ∷ (setFields (a .needed) ++ (setFields (a .forbidden) ++ (setFields (a .added) ++ l)))) (sym (append-nil (setFields (a .deleted)))))
+      here))
 
-  pub needed-inside : at + 1 + 1 + getD fields (at + 1) 0 ≤ length fields
-  needed-inside = set-inside fields (at + 1) (a .needed) (fromForbidden a) needed-here
+  pub action-inside : (i : ℕ) → i < 4 → past fields (placeOf fields (at + 1) i) ≤ length fields
+  action-inside i h =
+      set-inside fields (placeOf fields (at + 1) i) (getD (setsOf a) i noPropositions) (allFields (drop (suc i) (setsOf a))) (set-here i h)
 
-  module _ (n : SetRead) (en : n ≡ setFrom fields (at + 1)) where
-    forbidden-here : Stands fields (n .next) (fromForbidden a)
-    forbidden-here = set-next fields (at + 1) (a .needed) (fromForbidden a) needed-here n en
-
-    pub forbidden-inside : n .next + 1 + getD fields (n .next) 0 ≤ length fields
-    forbidden-inside = set-inside fields (n .next) (a .forbidden) (fromAdded a) forbidden-here
-
-    module _ (f : SetRead) (ef : f ≡ setFrom fields (n .next)) where
-      added-here : Stands fields (f .next) (fromAdded a)
-      added-here = set-next fields (n .next) (a .forbidden) (fromAdded a) forbidden-here f ef
-
-      pub added-inside : f .next + 1 + getD fields (f .next) 0 ≤ length fields
-      added-inside = set-inside fields (f .next) (a .added) (fromDeleted a) added-here
-
-      module _ (p : SetRead) (ep : p ≡ setFrom fields (f .next)) where
-        deleted-here : Stands fields (p .next) (fromDeleted a)
-        deleted-here = set-next fields (f .next) (a .added) (fromDeleted a) added-here p ep
-
-        pub deleted-inside : p .next + 1 + getD fields (p .next) 0 ≤ length fields
-        deleted-inside = set-inside fields (p .next) (a .deleted) [] deleted-here
-
-        pub action-is : (d : SetRead) → d ≡ setFrom fields (p .next) → GoodAction a → actionOf (n .set) (f .set) (p .set) (d .set) ≡ a
-        action-is d ed good =
-            let needed = set-is fields (at + 1) (a .needed) (fromForbidden a) needed-here n en (good .needed-set) in
-            let forbidden = set-is fields (n .next) (a .forbidden) (fromAdded a) forbidden-here f ef (good .forbidden-set) in
-            let added = set-is fields (f .next) (a .added) (fromDeleted a) added-here p ep (good .added-set) in
-            let deleted = set-is fields (p .next) (a .deleted) [] deleted-here d ed (good .deleted-set) in
-            λ j. record { needed = needed j; forbidden = forbidden j; added = added j; deleted = deleted j }
+  pub action-is : (words : List ℕ)
+      → ((i : ℕ) → i < 4 → rowAt words i ≡ insertAll noPropositions (membersAt fields (placeOf fields (at + 1) i))) → GoodAction a → actionIn words ≡ a
+  unfolding actionIn
+  action-is words rows good =
+      let set : (i : ℕ) → i < 4 → IsSet (getD (setsOf a) i noPropositions) → rowAt words i ≡ getD (setsOf a) i noPropositions =
+      λ i h kept. rows i h
+      ∙ set-is fields (placeOf fields (at + 1) i) (getD (setsOf a) i noPropositions) (allFields (drop (suc i) (setsOf a))) (set-here i h) kept in
+      let needed = set 0 (omega arith) (good .needed-set) in
+      let forbidden = set 1 (omega arith) (good .forbidden-set) in
+      let added = set 2 (omega arith) (good .added-set) in
+      let deleted = set 3 (omega arith) (good .deleted-set) in
+      λ j. record { needed = needed j; forbidden = forbidden j; added = added j; deleted = deleted j }

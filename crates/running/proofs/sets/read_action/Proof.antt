@@ -1,59 +1,26 @@
--- `read_action`: its four sets stand after the line's letter, one after the other. Assumes nothing.
-use Rattle.running.proofs.SetFields.{needed-inside, forbidden-inside, added-inside, deleted-inside, action-is}
+-- `read_action`: its own words are zero before, and the action's sets after. Assumes nothing.
+use Rattle.rules.specs.State.{wordCount}
 use Rattle.running.proofs.sets.read_action.Statement.{statement}
 use Rattle.running.proofs.sets.read_action.Tie as tie
-use native.Mathlib.Omega.{arith}
+use borrow.Author.Needs.{needs}
+use mathlib.Core.Path.{refl, _∙_}
 
-add-set-at : tie.Need-add-set-at
-add-set-at c =
-    let a = c .before .args in
-    let p = c .before .pre in
-    let inside = needed-inside (a .fields .now) (a .at) (p .0) (p .1) in
-    omega arith
+slice-aggregate-decode : tie.Need-slice-aggregate-decode
+slice-aggregate-decode c = search needs
 
-set-at-requires : tie.Need-set-at-requires
-set-at-requires c κs =
-    let a = c .before .args in
-    let p = c .before .pre in
-    needed-inside (a .fields .now) (a .at) (p .0) (p .1)
+decode-requires : tie.Need-decode-requires
+unfolding wordCount
+decode-requires c κs = (c .before .before .pre, refl)
 
-set-at-requires-2 : tie.Need-set-at-requires-2
-set-at-requires-2 c κs =
-    let a = c .before .before .args in
-    let p = c .before .before .pre in
-    forbidden-inside (a .fields .now) (a .at) (p .0) (p .1) (c .set-at .result) (c .set-at .ensures)
+slice-aggregate-sets-in : tie.Need-slice-aggregate-sets-in
+slice-aggregate-sets-in c = search needs
 
-set-at-requires-3 : tie.Need-set-at-requires-3
-set-at-requires-3 c κs =
-    let a = c .before .before .before .args in
-    let p = c .before .before .before .pre in
-    let n = c .before .set-at in
-    added-inside (a .fields .now) (a .at) (p .0) (p .1) (n .result) (n .ensures) (c .set-at2 .result) (c .set-at2 .ensures)
-
-set-at-requires-4 : tie.Need-set-at-requires-4
-set-at-requires-4 c κs =
-    let a = c .before .before .before .before .args in
-    let p = c .before .before .before .before .pre in
-    let n = c .before .before .set-at in
-    let f = c .before .set-at2 in
-    deleted-inside (a .fields .now) (a .at) (p .0) (p .1) (n .result) (n .ensures) (f .result) (f .ensures) (c .set-at3 .result) (c .set-at3 .ensures)
+sets-in-requires : tie.Need-sets-in-requires
+unfolding wordCount
+sets-in-requires c κs = c .before .before .decode .kept .1 .1 .0
 
 returns : tie.Need-returns
-returns c =
-    let a = c .before .before .before .before .before .before .before .before .before .args in
-    let n = c .before .before .before .before .before .before .before .set-at in
-    let f = c .before .before .before .before .before .before .set-at2 in
-    let p = c .before .before .before .before .before .set-at3 in
-    let d = c .before .before .before .before .set-at4 in
-    λ act good here. action-is (a .fields .now) (a .at) act here (n .result) (n .ensures) (f .result) (f .ensures) (p .result) (p .ensures) (d .result) (d .ensures) good
+returns c = λ a good here. c .sets-in .ensures ∙ c .before .before .before .decode .ensures a good here
 
 pub read-action-spec : {M : Type 1} → statement M
-read-action-spec =
-    tie.close
-    (tie.spec
-    add-set-at
-    set-at-requires
-    set-at-requires-2
-    set-at-requires-3
-    set-at-requires-4
-    returns)
+read-action-spec = tie.close (tie.spec slice-aggregate-decode decode-requires slice-aggregate-sets-in sets-in-requires returns)

@@ -1,29 +1,32 @@
 -- `read_initial`: its set stands after the line's letter. Assumes nothing.
-use Prim.Native.Nat.{_+_}
-use Rattle.running.proofs.SetFields.{set-inside, set-is, initial-here}
+use Rattle.rules.specs.State.{wordCount, noPropositions}
+use Rattle.running.proofs.SetFields.{initial-inside, initial-is}
 use Rattle.running.proofs.sets.read_initial.Statement.{statement}
 use Rattle.running.proofs.sets.read_initial.Tie as tie
-use mathlib.Core.List.{[]}
+use Rattle.running.specs.Sets.{past}
+use borrow.Author.Needs.{needs}
+use mathlib.Core.Path.{_∙_}
 use native.Mathlib.Omega.{arith}
 
-add-set-at : tie.Need-add-set-at
-add-set-at c =
-    let a = c .before .args in
-    let p = c .before .pre in
-    let inside = set-inside (a .fields .now) (a .at + 1) (p .0) [] (initial-here (a .fields .now) (a .at) (p .0) (p .1)) in
-    omega arith
+add-put-members : tie.Need-add-put-members
+unfolding past
+add-put-members c =
+    let s = c .before in
+    omega (arith, initial-inside (s .args .fields .now) (s .args .at) (s .pre .0) (s .pre .1))
 
-set-at-requires : tie.Need-set-at-requires
-set-at-requires c κs =
-    let a = c .before .args in
-    let p = c .before .pre in
-    set-inside (a .fields .now) (a .at + 1) (p .0) [] (initial-here (a .fields .now) (a .at) (p .0) (p .1))
+slice-aggregate-put-members : tie.Need-slice-aggregate-put-members
+slice-aggregate-put-members c = search needs
+
+put-members-requires : tie.Need-put-members-requires
+put-members-requires c κs =
+    let s = c .before .before in
+    initial-inside (s .args .fields .now) (s .args .at) (s .pre .0) (s .pre .1)
 
 returns : tie.Need-returns
+unfolding wordCount noPropositions
 returns c =
-    let a = c .before .before .before .args in
-    let r = c .before .set-at in
-    λ s kept here. set-is (a .fields .now) (a .at + 1) s [] (initial-here (a .fields .now) (a .at) s here) (r .result) (r .ensures) kept
+    let a = c .before .before .before .before .args in
+    λ s kept here. c .before .put-members .ensures .1 ∙ initial-is (a .fields .now) (a .at) s here kept
 
 pub read-initial-spec : {M : Type 1} → statement M
-read-initial-spec = tie.close (tie.spec add-set-at set-at-requires returns)
+read-initial-spec = tie.close (tie.spec add-put-members slice-aggregate-put-members put-members-requires returns)

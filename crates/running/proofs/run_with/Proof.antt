@@ -1,0 +1,42 @@
+-- `run_with`: the directory finds the line of each action that is held. Assumes nothing.
+use Rattle.rules.specs.State.{actionAt}
+use Rattle.running.proofs.Reached.{actions-listed, action-stands}
+use Rattle.running.proofs.run_with.Statement.{statement}
+use Rattle.running.proofs.run_with.Tie as tie
+use borrow.Author.Needs.{needs}
+use native.Mathlib.Omega.{arith}
+
+held-requires : tie.Need-held-requires
+held-requires c κs = search needs
+
+decode-actions-requires : tie.Need-decode-actions-requires
+decode-actions-requires c κs =
+    let p = c .before .before .before .before .before .before .pre in
+    let held = c .before .held .ensures in
+    let listed = actions-listed (p .0 .1) in
+    (omega arith, (λ i h. (actionAt (p .0 .0 .actions) i, action-stands (p .0 .1) i (omega arith)), (held .1, p .1 .1)))
+
+run-cues-requires : tie.Need-run-cues-requires
+run-cues-requires c κs =
+    let p = c .before .before .before .before .before .before .before .before .before .before .before .pre in
+    (p .0, (p .1 .0, c .before .before .before .before .decode-actions .ensures))
+
+same-length : tie.Need-same-length
+same-length c = search needs
+
+same-length-2 : tie.Need-same-length-2
+same-length-2 c = search needs
+
+returns : tie.Need-returns
+returns c = search needs
+
+pub run-with-spec : {M : Type 1} → statement M
+run-with-spec =
+    tie.close
+    (tie.spec
+    held-requires
+    decode-actions-requires
+    run-cues-requires
+    same-length
+    same-length-2
+    returns)

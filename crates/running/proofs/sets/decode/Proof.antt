@@ -1,0 +1,112 @@
+-- `decode`: the rows below i have the sets of the line, and the others are zero (Filling). Assumes nothing.
+use Prim.Native.Nat.{ℕ, _+_, _-_, _*_, _≤_}
+use Rattle.rows.proofs.Filling.{Filling, filling-none, filling-blank, filling-next}
+use Rattle.rows.specs.Rows.{rowAt}
+use Rattle.rules.specs.State.{wordCount, noPropositions, insertAll}
+use Rattle.running.proofs.SetFields.{placeOf, action-inside, action-is}
+use Rattle.running.proofs.sets.decode.Statement.{statement}
+use Rattle.running.proofs.sets.decode.Tie as tie
+use Rattle.running.specs.Sets.{membersAt, past, actionSize}
+use borrow.Author.Needs.{needs}
+use lib.ListN.{length, length-replicate}
+use mathlib.Core.List.{List}
+use mathlib.Core.Path.{_≡_, refl, sym, ap, ap₂, subst, _∙_}
+use native.Mathlib.Numerals.{add-one}
+use native.Mathlib.Omega.{arith}
+
+-- s is set j of the line.
+abbrev IsSetOf : List ℕ → ℕ → ℕ → List ℕ → Type 0
+IsSetOf fields at j s = s ≡ insertAll noPropositions (membersAt fields (placeOf fields (at + 1) j))
+
+abbrev Inv-loop : tie.InvT-loop
+Inv-loop fields at words₀ place₀ i₀ words place i =
+    (place ≡ placeOf fields (at + 1) i) × Filling wordCount 4 actionSize (IsSetOf fields at) words i
+
+abbrev μ-loop : tie.MeasureT-loop
+μ-loop fields at words₀ place₀ i₀ words place i = 4 - i
+
+add-place : tie.Need-add-place Inv-loop μ-loop
+unfolding past
+add-place c =
+    let s = c .before .before in
+    let inside = action-inside (s .args .fields .now) (s .args .at) (s .pre .0 .0) (s .pre .0 .1) 0 (omega arith) in
+    omega arith
+
+loop-holds : tie.Need-loop-holds Inv-loop μ-loop
+loop-holds c = (refl, filling-none (c .before .before .pre .1) (omega arith))
+
+mul-from : tie.Need-mul-from Inv-loop μ-loop
+mul-from c = search needs
+
+add-to : tie.Need-add-to Inv-loop μ-loop
+add-to c = search needs
+
+mul-put-members : tie.Need-mul-put-members Inv-loop μ-loop
+mul-put-members c = search needs
+
+sub-put-members : tie.Need-sub-put-members Inv-loop μ-loop
+sub-put-members c = search needs
+
+part-put-members-start : tie.Need-part-put-members-start Inv-loop μ-loop
+part-put-members-start c = search needs
+
+part-put-members-end : tie.Need-part-put-members-end Inv-loop μ-loop
+unfolding wordCount
+part-put-members-end c = search needs
+
+put-members-requires : tie.Need-put-members-requires Inv-loop μ-loop
+put-members-requires c κs =
+    let s = c .before .before .before .before .before in
+    let l = c .before .before .loop in
+    subst (λ (p : ℕ). past (s .args .fields .now) p ≤ length (s .args .fields .now)) (sym (l .inv .0))
+    (action-inside (s .args .fields .now) (s .args .at) (s .pre .0 .0) (s .pre .0 .1) (l .i) (c .before .loop-test .taken))
+
+add-i : tie.Need-add-i Inv-loop μ-loop
+add-i c = search needs
+
+loop-less : tie.Need-loop-less Inv-loop μ-loop
+loop-less c = search needs
+
+loop-again : tie.Need-loop-again Inv-loop μ-loop
+unfolding wordCount noPropositions
+loop-again c =
+    let a = c .before .before .before .before .before .before .before .before .args in
+    let l = c .before .before .before .before .before .loop in
+    let more = c .before .before .before .before .loop-test .taken in
+    let put = c .before .before .put-members in
+    let blank = filling-blank (l .inv .1) more (4 * l .i) refl in (
+      put .ensures .0 ∙ ap (past (a .fields .now)) (l .inv .0) ∙ ap (placeOf (a .fields .now) (a .at + 1)) (sym (add-one (l .i))),
+      filling-next (l .inv .1) more (4 * l .i) refl (put .kept .1 .1 .0) (put .ensures .1 ∙ ap₂ insertAll blank (ap (membersAt (a .fields .now)) (l .inv .0))),
+    )
+
+same-length : tie.Need-same-length Inv-loop μ-loop
+same-length c = c .before .loop .inv .1 .long ∙ sym (ap length (c .before .before .before .before .pre .1) ∙ length-replicate actionSize 0)
+
+returns : tie.Need-returns Inv-loop μ-loop
+unfolding rowAt
+returns c =
+    let a = c .before .before .before .before .args in
+    let l = c .before .loop in
+    let over = c .loop-test .left in
+    λ act good here. action-is (a .fields .now) (a .at) act here (l .words) (λ i h. l .inv .1 .done i (omega arith)) good
+
+pub decode-spec : {M : Type 1} → statement M
+decode-spec =
+    tie.close
+    (tie.spec
+    Inv-loop
+    μ-loop
+    add-place
+    loop-holds
+    mul-from
+    add-to
+    mul-put-members
+    sub-put-members
+    part-put-members-start
+    part-put-members-end
+    put-members-requires
+    add-i
+    loop-less
+    loop-again
+    same-length
+    returns)
