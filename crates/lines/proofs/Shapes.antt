@@ -1,12 +1,13 @@
--- A byte that is none of the letters of 01's table starts no line. Assumes nothing.
+-- The bytes of the constant table: one that is none of the letters of 01's table starts no line, and which item another stands for.
+-- Assumes nothing.
 use mathlib.Core.Path.{_≡_, refl, sym, ap, _∙_}
 use mathlib.Core.List.{List, [], _∷_}
 use mathlib.Core.Option.{Option, none, some}
 use mathlib.Core.Bool.{Bool, true, false}
-use Prim.Native.Nat.{ℕ}
-use borrow.Author.Tests.{ne-eqb}
-use Rattle.rules.specs.Table.{Row, rowIn, rowOf, table}
-use Rattle.lines.specs.Shapes.{shapeRow, rowShown, itemsOf}
+use Prim.Native.Nat.{ℕ, _≤_, _<_}
+use borrow.Author.Tests.{ne-eqb, lt-ltb, le-ltb}
+use Rattle.rules.specs.Table.{Row, rowIn, rowOf, table, one, cues}
+use Rattle.lines.specs.Shapes.{shapeRow, rowShown, itemsOf, kindOf, itemOf}
 
 -- A byte is none of the letters of these rows.
 abbrev pub NoLetterOf : ℕ → List Row → Type 0
@@ -21,3 +22,13 @@ none-in l (r ∷ rs) h =
 pub shape-other : (l : ℕ) → NoLetterOf l table → shapeRow 0 ≡ rowShown (rowOf l)
 unfolding shapeRow rowShown itemsOf rowOf table
 shape-other l h = ap rowShown (sym (none-in l table h))
+
+-- ---- Items
+
+pub item-one : (b : ℕ) → b < 20 → itemOf b ≡ one (kindOf b)
+unfolding itemOf
+item-one b h = rw (lt-ltb b 20 h, itemOf)
+
+pub item-cues : (b : ℕ) → 20 ≤ b → (b ≡ 20 → ⊥) → (b ≡ 21 → ⊥) → itemOf b ≡ cues
+unfolding itemOf
+item-cues b h x y = rw (itemOf, le-ltb b 20 h, ne-eqb b 20 x, ne-eqb b 21 y)

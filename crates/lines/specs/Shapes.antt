@@ -4,53 +4,46 @@ use mathlib.Core.Bool.{true, false}
 use mathlib.Core.List.{List, [], _∷_}
 use mathlib.Core.Option.{Option, none, some}
 use Prim.Native.Nat.{ℕ, zero, suc, _/_, _%_}
-use lib.Dec.{eqb}
+use lib.Dec.{eqb, ltb}
+use lib.ListN.{getD}
 use Rattle.rules.specs.Table as T
 use Rattle.rules.specs.Table.{Kind, Item, one, set, subtaskList, cues, Row, roleNumber}
 
--- A byte of a shape, and what it stands for.
-pub record Code (A : Type 0) : Type 0 where
-  pub byte : ℕ
-  pub meaning : A
-
-abbrev pub is : {A : Type 0} → ℕ → A → Code A
-is b m = record { byte = b; meaning = m }
-
-abbrev pub lookUp : {A : Type 0} → ℕ → List (Code A) → A → A
-lookUp b [] other = other
-lookUp b (x ∷ xs) other = elim (eqb b (x .byte)) [ true ↦ x .meaning | false ↦ lookUp b xs other ]
-
-abbrev pub kinds : List (Code Kind)
+-- The kinds of numbers by their bytes, from 0 to 19. The two that ask for more than a range come early, and a task comes twice.
+abbrev pub kinds : List Kind
 kinds =
-    is 1 (T.upTo 256)
-    ∷ is 2 (T.upTo 1024)
-    ∷ is 3 (T.upTo 2048)
-    ∷ is 4 T.goal
-    ∷ is 5 (T.upTo 1000)
-    ∷ is 6 (T.oneUpTo 3000)
-    ∷ is 7 T.compound
-    ∷ is 8 (T.upTo 64)
-    ∷ is 9 T.subtask
-    ∷ is 10 T.otherSubtask
-    ∷ is 11 T.proposition
-    ∷ is 12 T.subtaskSet
-    ∷ is 13 T.aMethod
-    ∷ is 14 T.gap
-    ∷ is 15 T.anAction
-    ∷ is 16 T.position
-    ∷ is 17 (T.upTo 32)
-    ∷ is 18 T.memberCount
+    T.task
+    ∷ T.goal
+    ∷ T.otherSubtask
+    ∷ T.upTo 256
+    ∷ T.upTo 1024
+    ∷ T.upTo 2048
+    ∷ T.upTo 1000
+    ∷ T.oneUpTo 3000
+    ∷ T.compound
+    ∷ T.upTo 64
+    ∷ T.subtask
+    ∷ T.proposition
+    ∷ T.subtaskSet
+    ∷ T.aMethod
+    ∷ T.gap
+    ∷ T.anAction
+    ∷ T.position
+    ∷ T.upTo 32
+    ∷ T.memberCount
+    ∷ T.task
     ∷ []
 
--- The kind of number that a byte stands for: any other byte, a task.
 unfoldable pub kindOf : ℕ → Kind
-kindOf b = lookUp b kinds T.task
+kindOf b = getD kinds b T.task
 
-abbrev pub items : List (Code Item)
-items = is 20 set ∷ is 21 subtaskList ∷ is 22 cues ∷ []
-
+-- The item that a byte stands for: a number of a kind, a set, a list of subtasks, and from 22 on the cues.
 unfoldable pub itemOf : ℕ → Item
-itemOf b = lookUp b items (one (kindOf b))
+itemOf b =
+    elim (ltb b 20) [
+      | true ↦ one (kindOf b)
+      | false ↦ elim (eqb b 20) [ true ↦ set | false ↦ elim (eqb b 21) [ true ↦ subtaskList | false ↦ cues ] ]
+    ]
 
 -- The items of the bytes of a number, lowest first, up to its last byte that is not 0.
 abbrev pub itemsIn : ℕ → ℕ → List Item

@@ -6,6 +6,7 @@ ghost use lib.Dec.{leb, eqb};
 ghost use Rattle.rules.specs.Text.{numberAt, feedFollows};
 ghost use Rattle.rules.specs.Table.{one, set, within, leastAfter, readMembers, readList};
 ghost use Rattle.lines.specs.Shapes.{kindOf, itemOf};
+ghost use Rattle.lines.specs.Ranges.{Known};
 ghost use Rattle.lines.specs.Reading.{inKind, readItemIn, asTaken, Room, MembersLeft, ItemLeft};
 use crate::range;
 use crate::range::KNOWN;
@@ -40,6 +41,8 @@ enum Taken {
 
 // Whether v is at least `low`, and in the range of its kind.
 fn admits(low: u64, kind: u64, x: &[u32; KNOWN], before: &[u32; VALUES], v: u32) -> bool
+    requires { ⌜ kind < 20 ⌝ }
+    requires { ⌜ Known (now x) ⌝ }
     ensures { λ r. ⌜ r ≡ leb low v && inKind (now (x .entry)) (now (before .entry)) kind v ⌝ }
 {
     if low <= v as u64 {
@@ -58,6 +61,8 @@ fn take_number(
     low: u64,
 ) -> Taken
     requires { ⌜ feedFollows (now text) (c .at) ≡ true ⌝ }
+    requires { ⌜ kind < 20 ⌝ }
+    requires { ⌜ Known (now x) ⌝ }
     ensures { λ r. ⌜ r ≡ asTaken (within (λ v. leb low v && inKind (now (x .entry)) (now (before .entry)) kind v) (numberAt (now (text .entry)) (c .at))) ⌝ }
 {
     match c.number(text) {
@@ -97,6 +102,8 @@ fn members(
 ) -> Outcome
     requires { ⌜ field < 2 ^ 41 ⌝ }
     requires { ⌜ Room (now text) (now fields) from (c .at) ⌝ }
+    requires { ⌜ kind < 20 ⌝ }
+    requires { ⌜ Known (now x) ⌝ }
     ensures { λ r. ⌜ MembersLeft 0 from (now (fields .entry)) (readMembers (now (text .entry)) (inKind (now (x .entry)) (now (before .entry)) kind) (eqb kind 11) count 0 field (c .at)) r (now (fields .exit)) ⌝ }
 {
     let mut at = c;
@@ -143,6 +150,8 @@ fn list(
 ) -> Outcome
     requires { ⌜ field < 2 ^ 40 ⌝ }
     requires { ⌜ Room (now text) (now fields) from (c .at) ⌝ }
+    requires { ⌜ (counts < 20) × (kind < 20) ⌝ }
+    requires { ⌜ Known (now x) ⌝ }
     ensures { λ r. ⌜ ItemLeft set from (now (fields .entry)) (readList (now (text .entry)) (inKind (now (x .entry)) (now (before .entry)) counts) (inKind (now (x .entry)) (now (before .entry)) kind) (eqb kind 11) field (c .at)) r (now (fields .exit)) ⌝ }
 {
     match take_number(text, c, x, before, counts, 0) {
@@ -177,6 +186,8 @@ fn single(
 ) -> Outcome
     requires { ⌜ field < 2 ^ 40 ⌝ }
     requires { ⌜ Room (now text) (now fields) from (c .at) ⌝ }
+    requires { ⌜ kind < 20 ⌝ }
+    requires { ⌜ Known (now x) ⌝ }
     ensures { λ r. ⌜ ItemLeft (one (kindOf kind)) from (now (fields .entry)) (readItemIn (now (text .entry)) (now (x .entry)) (now (before .entry)) (one (kindOf kind)) field (c .at)) r (now (fields .exit)) ⌝ }
 {
     match take_number(text, c, x, before, kind, 0) {
@@ -207,12 +218,15 @@ pub fn read_item(
 ) -> Outcome
     requires { ⌜ field < 2 ^ 40 ⌝ }
     requires { ⌜ Room (now text) (now fields) from (c .at) ⌝ }
+    requires { ⌜ Known (now x) ⌝ }
     ensures { λ r. ⌜ ItemLeft (itemOf item) from (now (fields .entry)) (readItemIn (now (text .entry)) (now (x .entry)) (now (before .entry)) (itemOf item) field (c .at)) r (now (fields .exit)) ⌝ }
 {
+    if item < 20 {
+        return single(text, c, x, before, item, field, fields, from);
+    }
     match item {
         20 => list(text, c, x, before, 18, PROPOSITION, field, fields, from),
         21 => list(text, c, x, before, 17, 19, field, fields, from),
-        22 => members(text, c, x, before, 15, x[5], field, fields, from),
-        _ => single(text, c, x, before, item, field, fields, from),
+        _ => members(text, c, x, before, 15, x[5], field, fields, from),
     }
 }

@@ -9,6 +9,7 @@ ghost use Rattle.rules.specs.Text.{endingAt, feedFollows};
 ghost use Rattle.rules.specs.Case.{headerIn};
 ghost use Rattle.rules.specs.Table.{roleNumber, readItems, readLine};
 ghost use Rattle.lines.specs.Shapes.{itemsOf};
+ghost use Rattle.lines.specs.Ranges.{Known};
 ghost use Rattle.lines.specs.Reading.{roleOf, Ready, Room, finishOf, ItemsLeft, LineLeft};
 use crate::item;
 use crate::item::Outcome;
@@ -81,6 +82,7 @@ fn items(
 ) -> Finish
     requires { ⌜ shape < 256 ^ 7 ⌝ }
     requires { ⌜ Room (now text) (now fields) (from + 1) (c .at) ⌝ }
+    requires { ⌜ Known (now x) ⌝ }
     ensures { λ r. ⌜ ItemsLeft (itemsOf shape) 1 (from + 1) (now (fields .entry)) (readItems (now (text .entry)) (headerIn (now (x .entry))) (getD (now (x .entry)) 7 0) letter (itemsOf shape) [] 2 (c .at)) r (now (fields .exit)) ⌝ }
 {
     let mut at = c;
@@ -122,6 +124,7 @@ pub fn read_line(
 ) -> Finish
     requires { ⌜ ((p : ℕ) → feedFollows (now text) p ≡ ltb p past) ⌝ }
     requires { ⌜ Ready (now text) (now fields) from (c .at) ⌝ }
+    requires { ⌜ Known (now x) ⌝ }
     ensures { λ r. ⌜ LineLeft from (now (fields .entry)) (readLine (now (text .entry)) (roleOf due) (headerIn (now (x .entry))) (getD (now (x .entry)) 7 0) (c .at)) r (now (fields .exit)) ⌝ }
 {
     let at = c.at;

@@ -1,23 +1,20 @@
 // The ranges of the numbers of a line.
 ghost use mathlib.Core.Path.{_≡_};
-ghost use mathlib.Core.Bool.{_&&_, not};
-ghost use Prim.Native.Nat.{_+_};
-ghost use lib.Dec.{leb, ltb, eqb};
+ghost use Prim.Native.Nat.{_<_};
 ghost use Rattle.rules.specs.Table.{isCompound};
+ghost use Rattle.lines.specs.Shapes.{kindOf};
+ghost use Rattle.lines.specs.Ranges.{apartFrom, Known};
 ghost use Rattle.lines.specs.Reading.{inKind};
 
 // How many numbers of a line are kept: seven items at most follow a letter, and eight are copied as whole halves.
 pub const VALUES: usize = 8;
 
-// What is known before a line, lent as numbers: the header's in their order, and then the subtask count of the method whose constraints are
-// read.
-pub const KNOWN: usize = 8;
+// What is known before a line, lent as numbers: the header's in their order, the subtask count of the method whose constraints are read, and
+// then for each kind of number the least and the greatest of its range.
+pub const KNOWN: usize = 48;
 
-fn between(low: u32, v: u32, high: u32) -> bool
-    ensures { λ r. ⌜ r ≡ leb low v && leb v high ⌝ }
-{
-    if low <= v { v <= high } else { false }
-}
+// Where the ranges start: that of kind k at RANGES + 2 * k.
+const RANGES: usize = 8;
 
 fn is_compound(actions: u32, compounds: u32, t: u32) -> bool
     ensures { λ r. ⌜ r ≡ isCompound actions compounds t ⌝ }
@@ -29,47 +26,37 @@ fn is_compound(actions: u32, compounds: u32, t: u32) -> bool
     }
 }
 
-// An action or a compound task.
-fn is_task(actions: u32, compounds: u32, t: u32) -> bool
-    ensures { λ r. ⌜ r ≡ ltb t (actions + compounds) ⌝ }
+// What two kinds ask for besides: the goal is compound by the counts in its own line, and j is not i.
+fn apart(kind: u64, before: &[u32; VALUES], v: u32) -> bool
+    requires { ⌜ kind < 3 ⌝ }
+    ensures { λ r. ⌜ r ≡ apartFrom (now (before .entry)) (kindOf kind) v ⌝ }
 {
-    if actions <= t {
-        t - actions < compounds
+    if kind == 1 {
+        is_compound(before[1], before[2], v)
+    } else if kind == 2 {
+        v != before[0]
     } else {
         true
     }
 }
 
-// A subtask number other than i.
-fn is_other(j: u32, count: u32, i: u32) -> bool
-    ensures { λ r. ⌜ r ≡ ltb j count && not (eqb j i) ⌝ }
-{
-    if j < count { j != i } else { false }
-}
-
-// Whether v is in the range of the kind of number that a shape's byte stands for, after the numbers before it in its line.
+// Whether v is in the range of the kind of number that a shape's byte stands for, after the numbers before it in its line: two loads, where
+// a match on the kind would be a jump for every number.
 pub fn in_range(kind: u64, x: &[u32; KNOWN], before: &[u32; VALUES], v: u32) -> bool
+    requires { ⌜ kind < 20 ⌝ }
+    requires { ⌜ Known (now x) ⌝ }
     ensures { λ r. ⌜ r ≡ inKind (now (x .entry)) (now (before .entry)) kind v ⌝ }
 {
-    match kind {
-        1 => v <= 256,
-        2 => v <= 1024,
-        3 => v <= 2048,
-        4 => is_compound(before[1], before[2], v),
-        5 => v <= 1000,
-        6 => between(1, v, 3000),
-        7 => is_compound(x[1], x[2], v),
-        8 => v <= 64,
-        9 => v < x[7],
-        10 => is_other(v, x[7], before[0]),
-        11 => v < x[0],
-        12 => subsets::fits(v, x[7]),
-        13 => v < x[3],
-        14 => v <= x[5],
-        15 => v < x[1],
-        16 => between(1, v, x[5]),
-        17 => v <= 32,
-        18 => v <= x[0],
-        _ => is_task(x[1], x[2], v),
+    let at = RANGES + 2 * kind as usize;
+    if v < x[at] {
+        return false;
+    }
+    if x[at + 1] < v {
+        return false;
+    }
+    if kind < 3 {
+        apart(kind, before, v)
+    } else {
+        true
     }
 }

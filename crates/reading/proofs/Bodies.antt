@@ -5,7 +5,7 @@ use mathlib.Core.List.{List, map}
 use Prim.Native.Nat.{ℕ, _+_}
 use native.Mathlib.Omega.{arith}
 use lib.Dec.{ltb}
-use lib.ListN.{length}
+use lib.ListN.{length, getD}
 use lib.Seq.{sets}
 use Rattle.rules.specs.declared.Header.{Header}
 use Rattle.rules.specs.declared.Answer.{Answer}
@@ -13,11 +13,12 @@ use Rattle.rules.specs.declared.Answer.the-variants.{Unreadable}
 use Rattle.rules.specs.State.{State, Action}
 use Rattle.rules.specs.Table as T
 use Rattle.rules.specs.Result.{found, refused, _>>_}
-use Rattle.rules.specs.Case.{Method, NodeLine, Case, Valued, Read, initialOf, actionOf, planOf, asNode, oneLine, many, oneMethod, readBody, noSurplus}
+use Rattle.rules.specs.Case.{Method, NodeLine, Case, Valued, Read, headerIn, initialOf, actionOf, planOf, asNode, oneLine, many, oneMethod, readBody, noSurplus}
 use Rattle.rules.specs.Fields.{lineFields, initialLine, actionLine, cuesLine, nodeLine}
 use Rattle.rules.proofs.Judgement.Sound.{GoodHeader}
 use Rattle.rules.proofs.Judgement.Back.{initial-back, action-back, plan-back, node-back}
 use Rattle.fields.specs.Directory.{methodsFrom}
+use Rattle.lines.specs.Ranges.{knownOf}
 use Rattle.reading.specs.declared.CaseRead.{CaseRead}
 use Rattle.reading.specs.declared.CaseRead.the-variants.{Case as CaseIs, Refused as CaseRefused}
 use Rattle.reading.specs.declared.Spot.{Spot}
@@ -35,7 +36,8 @@ actionShown a = lineFields (actionLine a)
 abbrev nodeShown : NodeLine → List ℕ
 nodeShown x = lineFields (nodeLine x)
 
-module _ (text : List ℕ) (h : Header) (past : ℕ) (first : Spot) (w d : List ℕ) (good : GoodHeader h) (due : Due text past w first) where
+module _ (text : List ℕ) (h : Header) (past : ℕ) (first : Spot) (w d : List ℕ) (good : GoodHeader h) (due : Due text past w first)
+    (x : List ℕ) (known : x ≡ knownOf h 0) where
   abbrev bodyRead : Read Case
   bodyRead = readBody text h (first .line) (first .start .at)
 
@@ -57,22 +59,26 @@ module _ (text : List ℕ) (h : Header) (past : ℕ) (first : Spot) (w d : List 
     pub fields : v ≡ sets w (first .from) (lineFields (initialLine i))
     pub next : Due text past v s
 
-  module _ (g : Group) (v : List ℕ) (q : Left lineFields (first .from) w (valuedLine text h T.initial 0 (first .line) (first .start .at)) g v) where
+  module _ (g : Group) (v : List ℕ) (q : Left lineFields (first .from) w (valuedLine text (headerIn x) T.initial (getD x 7 0) (first .line) (first .start .at)) g v) where
+    initial-read : Left lineFields (first .from) w (valuedLine text h T.initial 0 (first .line) (first .start .at)) g v
+    unfolding knownOf
+    initial-read = subst (λ (l : List ℕ). Left lineFields (first .from) w (valuedLine text (headerIn l) T.initial (getD l 7 0) (first .line) (first .start .at)) g v) known q
+
     initial-left : Left (λ i. lineFields (initialLine i)) (first .from) w initialRead g v
     initial-left =
         left-alike lineFields (λ i. lineFields (initialLine i)) (first .from) w (valuedLine text h T.initial 0 (first .line) (first .start .at)) initialRead g v
-        (line-meant text h T.initial 0 initialOf initialLine (initial-back h good) (first .line) (first .start .at)) q
+        (line-meant text h T.initial 0 initialOf initialLine (initial-back h good) (first .line) (first .start .at)) initial-read
 
     pub after1 : (s : Spot) → g ≡ Done s → After1 s v
     after1 s e =
-        let x = went (λ i. lineFields (initialLine i)) (first .from) w initialRead g v initial-left s e in
+        let y = went (λ i. lineFields (initialLine i)) (first .from) w initialRead g v initial-left s e in
         record {
-          i = x .0;
-          is = x .1;
-          from = x .2;
-          fields = x .3;
+          i = y .0;
+          is = y .1;
+          from = y .2;
+          fields = y .3;
           next = due-next lineFields text past w v first s (valuedLine text h T.initial 0 (first .line) (first .start .at)) g due
-              (line-goes text h T.initial 0 (first .line) (first .start .at) (first .from) (due .ahead) (due .inside)) q e;
+              (line-goes text h T.initial 0 (first .line) (first .start .at) (first .from) (due .ahead) (due .inside)) initial-read e;
         }
 
     pub refused1 : (a : Answer) → g ≡ Refused a → (u e : List ℕ) → Refuses a u e
@@ -98,35 +104,43 @@ module _ (text : List ℕ) (h : Header) (past : ℕ) (first : Spot) (w d : List 
     pub next : Due text past v s
 
   module _ (s : Spot) (v : List ℕ) (b : After1 s v) (g : Group) (u e : List ℕ)
-      (q : Left (together lineFields) (s .from) v (many (valuedLine text h T.action 0) (h .actions) (s .line) (s .start .at)) g u)
-      (p : Placed lineFields (s .from) 0 d (many (valuedLine text h T.action 0) (h .actions) (s .line) (s .start .at)) e) where
+      (q : Left (together lineFields) (s .from) v (many (valuedLine text (headerIn x) T.action (getD x 7 0)) (getD x 1 0) (s .line) (s .start .at)) g u)
+      (p : Placed lineFields (s .from) 0 d (many (valuedLine text (headerIn x) T.action (getD x 7 0)) (getD x 1 0) (s .line) (s .start .at)) e) where
     abbrev actionsValued : Read (List Valued)
     actionsValued = many (valuedLine text h T.action 0) (h .actions) (s .line) (s .start .at)
+
+    actions-are : many (valuedLine text (headerIn x) T.action (getD x 7 0)) (getD x 1 0) (s .line) (s .start .at) ≡ actionsValued
+    unfolding knownOf
+    actions-are = ap (λ (l : List ℕ). many (valuedLine text (headerIn l) T.action (getD l 7 0)) (getD l 1 0) (s .line) (s .start .at)) known
+
+    actions-read : Left (together lineFields) (s .from) v actionsValued g u
+    actions-read = subst (λ (r : Read (List Valued)). Left (together lineFields) (s .from) v r g u) actions-are q
 
     actions-left : Left (together actionShown) (s .from) v (actionsRead s) g u
     actions-left =
         many-left lineFields actionShown (s .from) v actionsValued (actionsRead s) g u
-        (lines-meant text h T.action 0 actionOf actionLine (action-back h good) (h .actions) (s .line) (s .start .at)) q
+        (lines-meant text h T.action 0 actionOf actionLine (action-back h good) (h .actions) (s .line) (s .start .at)) actions-read
 
     actions-placed : Placed actionShown (s .from) 0 d (actionsRead s) e
     actions-placed =
         many-placed lineFields actionShown (s .from) 0 d actionsValued (actionsRead s) e
-        (lines-meant text h T.action 0 actionOf actionLine (action-back h good) (h .actions) (s .line) (s .start .at)) p
+        (lines-meant text h T.action 0 actionOf actionLine (action-back h good) (h .actions) (s .line) (s .start .at))
+        (subst (λ (r : Read (List Valued)). Placed lineFields (s .from) 0 d r e) actions-are p)
 
     pub after2 : (t : Spot) → g ≡ Done t → After2 t u e
     after2 t z =
-        let x = went (together actionShown) (s .from) v (actionsRead s) g u actions-left t z in
+        let y = went (together actionShown) (s .from) v (actionsRead s) g u actions-left t z in
         record {
           s₁ = s;
           v₁ = v;
           before = b;
-          acts = x .0;
-          is = x .1;
-          from = x .2;
-          fields = x .3;
-          placed = subst (λ (r : Read (List Action)). Placed actionShown (s .from) 0 d r e) (x .1) actions-placed;
+          acts = y .0;
+          is = y .1;
+          from = y .2;
+          fields = y .3;
+          placed = subst (λ (r : Read (List Action)). Placed actionShown (s .from) 0 d r e) (y .1) actions-placed;
           next = due-next (together lineFields) text past v u s t actionsValued g (b .next)
-              (many-goes text lineFields (valuedLine text h T.action 0) (line-goes text h T.action 0) (h .actions) (s .line) (s .start .at) (s .from) (b .next .ahead) (b .next .inside)) q z;
+              (many-goes text lineFields (valuedLine text h T.action 0) (line-goes text h T.action 0) (h .actions) (s .line) (s .start .at) (s .from) (b .next .ahead) (b .next .inside)) actions-read z;
         }
 
     pub refused2 : (a : Answer) → g ≡ Refused a → (u′ e′ : List ℕ) → Refuses a u′ e′
@@ -152,29 +166,37 @@ module _ (text : List ℕ) (h : Header) (past : ℕ) (first : Spot) (w d : List 
     pub placed : e ≡ sets e₂ methodsFrom (starts (s₂ .from) (map methodFields ms))
     pub next : Due text past v s
 
-  module _ (s : Spot) (v e : List ℕ) (b : After2 s v e) (g : Group) (u f : List ℕ) (q : Left (together methodFields) (s .from) v (methodsRead s) g u)
-      (p : Placed methodFields (s .from) methodsFrom e (methodsRead s) f) where
+  module _ (s : Spot) (v e : List ℕ) (b : After2 s v e) (g : Group) (u f : List ℕ)
+      (q : Left (together methodFields) (s .from) v (many (oneMethod text (headerIn x)) (getD x 3 0) (s .line) (s .start .at)) g u)
+      (p : Placed methodFields (s .from) methodsFrom e (many (oneMethod text (headerIn x)) (getD x 3 0) (s .line) (s .start .at)) f) where
+    methods-are : many (oneMethod text (headerIn x)) (getD x 3 0) (s .line) (s .start .at) ≡ methodsRead s
+    unfolding knownOf
+    methods-are = ap (λ (l : List ℕ). many (oneMethod text (headerIn l)) (getD l 3 0) (s .line) (s .start .at)) known
+
+    methods-left : Left (together methodFields) (s .from) v (methodsRead s) g u
+    methods-left = subst (λ (r : Read (List Method)). Left (together methodFields) (s .from) v r g u) methods-are q
+
     pub after3 : (t : Spot) → g ≡ Done t → After3 t u f
     after3 t z =
-        let x = went (together methodFields) (s .from) v (methodsRead s) g u q t z in
+        let y = went (together methodFields) (s .from) v (methodsRead s) g u methods-left t z in
         record {
           s₂ = s;
           v₂ = v;
           e₂ = e;
           before = b;
-          ms = x .0;
-          is = x .1;
-          from = x .2;
-          fields = x .3;
-          placed = subst (λ (r : Read (List Method)). Placed methodFields (s .from) methodsFrom e r f) (x .1) p;
+          ms = y .0;
+          is = y .1;
+          from = y .2;
+          fields = y .3;
+          placed = subst (λ (r : Read (List Method)). Placed methodFields (s .from) methodsFrom e r f) (methods-are ∙ y .1) p;
           next = due-next (together methodFields) text past v u s t (methodsRead s) g (b .next)
-              (many-goes text methodFields (oneMethod text h) (method-goes text h) (h .methods) (s .line) (s .start .at) (s .from) (b .next .ahead) (b .next .inside)) q z;
+              (many-goes text methodFields (oneMethod text h) (method-goes text h) (h .methods) (s .line) (s .start .at) (s .from) (b .next .ahead) (b .next .inside)) methods-left z;
         }
 
     pub refused3 : (a : Answer) → g ≡ Refused a → (u′ e′ : List ℕ) → Refuses a u′ e′
     unfolding readBody
     refused3 a z u′ e′ =
-        let none = halted (together methodFields) (s .from) v (methodsRead s) g u q a z in
+        let none = halted (together methodFields) (s .from) v (methodsRead s) g u methods-left a z in
         refuses a u′ e′ (rw (b .before .is, b .is, none))
 
   -- ---- The plan
@@ -192,24 +214,28 @@ module _ (text : List ℕ) (h : Header) (past : ℕ) (first : Spot) (w d : List 
     pub next : Due text past v s
 
   module _ (s : Spot) (v e : List ℕ) (b : After3 s v e) (g : Group) (u : List ℕ)
-      (q : Left lineFields (s .from) v (valuedLine text h T.plan 0 (s .line) (s .start .at)) g u) where
+      (q : Left lineFields (s .from) v (valuedLine text (headerIn x) T.plan (getD x 7 0) (s .line) (s .start .at)) g u) where
+    plan-read : Left lineFields (s .from) v (valuedLine text h T.plan 0 (s .line) (s .start .at)) g u
+    unfolding knownOf
+    plan-read = subst (λ (l : List ℕ). Left lineFields (s .from) v (valuedLine text (headerIn l) T.plan (getD l 7 0) (s .line) (s .start .at)) g u) known q
+
     plan-left : Left (λ cs. lineFields (cuesLine cs)) (s .from) v (planRead s) g u
     plan-left =
         left-alike lineFields (λ cs. lineFields (cuesLine cs)) (s .from) v (valuedLine text h T.plan 0 (s .line) (s .start .at)) (planRead s) g u
-        (line-meant text h T.plan 0 planOf cuesLine (plan-back h) (s .line) (s .start .at)) q
+        (line-meant text h T.plan 0 planOf cuesLine (plan-back h) (s .line) (s .start .at)) plan-read
 
     pub after4 : (t : Spot) → g ≡ Done t → After4 s t u e
     after4 t z =
-        let x = went (λ cs. lineFields (cuesLine cs)) (s .from) v (planRead s) g u plan-left t z in
+        let y = went (λ cs. lineFields (cuesLine cs)) (s .from) v (planRead s) g u plan-left t z in
         record {
           v₃ = v;
           before = b;
-          cs = x .0;
-          is = x .1;
-          from = x .2;
-          fields = x .3;
+          cs = y .0;
+          is = y .1;
+          from = y .2;
+          fields = y .3;
           next = due-next lineFields text past v u s t (valuedLine text h T.plan 0 (s .line) (s .start .at)) g (b .next)
-              (line-goes text h T.plan 0 (s .line) (s .start .at) (s .from) (b .next .ahead) (b .next .inside)) q z;
+              (line-goes text h T.plan 0 (s .line) (s .start .at) (s .from) (b .next .ahead) (b .next .inside)) plan-read z;
         }
 
     pub refused4 : (a : Answer) → g ≡ Refused a → (u′ e′ : List ℕ) → Refuses a u′ e′
@@ -224,11 +250,16 @@ module _ (text : List ℕ) (h : Header) (past : ℕ) (first : Spot) (w d : List 
   nodesRead s = many (oneLine text h T.node 0 asNode) (h .nodes) (s .line) (s .start .at)
 
   module _ (plan s : Spot) (v e : List ℕ) (b : After4 plan s v e) (g : Group) (u : List ℕ)
-      (q : Left (together lineFields) (s .from) v (many (valuedLine text h T.node 0) (h .nodes) (s .line) (s .start .at)) g u) where
+      (q : Left (together lineFields) (s .from) v (many (valuedLine text (headerIn x) T.node (getD x 7 0)) (h .nodes) (s .line) (s .start .at)) g u) where
+    nodes-valued : Left (together lineFields) (s .from) v (many (valuedLine text h T.node 0) (h .nodes) (s .line) (s .start .at)) g u
+    unfolding knownOf
+    nodes-valued =
+        subst (λ (l : List ℕ). Left (together lineFields) (s .from) v (many (valuedLine text (headerIn l) T.node (getD l 7 0)) (h .nodes) (s .line) (s .start .at)) g u) known q
+
     nodes-left : Left (together nodeShown) (s .from) v (nodesRead s) g u
     nodes-left =
         many-left lineFields nodeShown (s .from) v (many (valuedLine text h T.node 0) (h .nodes) (s .line) (s .start .at)) (nodesRead s) g u
-        (lines-meant text h T.node 0 asNode nodeLine (node-back h) (h .nodes) (s .line) (s .start .at)) q
+        (lines-meant text h T.node 0 asNode nodeLine (node-back h) (h .nodes) (s .line) (s .start .at)) nodes-valued
 
     pub refused5 : (a : Answer) → g ≡ Refused a → (u′ e′ : List ℕ) → Refuses a u′ e′
     unfolding readBody
@@ -260,7 +291,7 @@ module _ (text : List ℕ) (h : Header) (past : ℕ) (first : Spot) (w d : List 
       ended : Due text past u end
       ended =
           due-next (together lineFields) text past v u s end (many (valuedLine text h T.node 0) (h .nodes) (s .line) (s .start .at)) g (b .next)
-          (many-goes text lineFields (valuedLine text h T.node 0) (line-goes text h T.node 0) (h .nodes) (s .line) (s .start .at) (s .from) (b .next .ahead) (b .next .inside)) q z
+          (many-goes text lineFields (valuedLine text h T.node 0) (line-goes text h T.node 0) (h .nodes) (s .line) (s .start .at) (s .from) (b .next .ahead) (b .next .inside)) nodes-valued z
 
       -- Where each group starts.
       at₁ : two .s₁ .from ≡ actionsAt k (first .from)

@@ -1,7 +1,7 @@
 -- A whole case: the fields that its groups leave are those of the case, and the directory finds its lines among them. Assumes nothing.
 use mathlib.Core.Path.{_≡_, refl, sym, ap, ap₂, subst, transport, _∙_}
 use mathlib.Core.List.{List, [], _∷_, _++_, map, flatten, append-assoc}
-use Prim.Native.Nat.{ℕ, zero, suc, _+_, _-_, _≤_, _<_}
+use Prim.Native.Nat.{ℕ, zero, suc, _+_, _≤_, _<_}
 use native.Mathlib.Omega.{arith}
 use lib.Dec.{ltb}
 use lib.ListN.{length, getD, drop, set, length-append, length-map}
@@ -18,6 +18,7 @@ use Rattle.rules.specs.Fields.{lineFields, linesFields, headerLine, actionLine,
 use Rattle.rules.proofs.Judgement.Reading.{ReadSays, one-line-says}
 use Rattle.rules.proofs.Judgement.Sound.{GoodHeader, header-good, Sound, sound}
 use Rattle.rules.proofs.Judgement.Back.{header-back}
+use Rattle.lines.specs.Ranges.{knownOf}
 use Rattle.text.specs.declared.Cursor.{Cursor}
 use Rattle.text.specs.Cursor.{cursor}
 use Rattle.fields.specs.Standing.{Stands}
@@ -215,9 +216,10 @@ module _ (text : List ℕ) (past : ℕ) (w d : List ℕ) (feeds : (p : ℕ) → 
   abbrev first : Read Valued
   first = valuedLine text noHeader T.header 0 1 0
 
-  pub first-left : (c₀ : Cursor) → c₀ ≡ cursor 0 → (g : Group) (v : List ℕ) → Left lineFields 0 w (valuedLine text noHeader T.header 0 1 (c₀ .at)) g v
-      → Left lineFields 0 w first g v
-  first-left c₀ e g v q = subst (λ (c : Cursor). Left lineFields 0 w (valuedLine text noHeader T.header 0 1 (c .at)) g v) e q
+  pub first-left : (c₀ : Cursor) → c₀ ≡ cursor 0 → (x : List ℕ) → x ≡ knownOf noHeader 0 → (g : Group) (v : List ℕ)
+      → Left lineFields 0 w (valuedLine text (headerIn x) T.header (getD x 7 0) 1 (c₀ .at)) g v → Left lineFields 0 w first g v
+  unfolding knownOf
+  first-left c₀ e x k g v q = transport (λ j. Left lineFields 0 w (valuedLine text (headerIn (k j)) T.header (getD (k j) 7 0) 1 (e j .at)) g v) q
 
   -- The header that it is.
   abbrev headed : Read Header

@@ -4,17 +4,19 @@ use mathlib.Core.Path.{_≡_, refl, sym, ap, ap₂, subst, transport, _∙_}
 use mathlib.Core.List.{List, [], _∷_, _++_, map}
 use Prim.Native.Nat.{ℕ, suc, _+_, _-_, _*_, _≤_, _<_}
 use native.Mathlib.Omega.{arith}
-use lib.ListN.{length, getD, set, length-append}
-use lib.Seq.{sets, getD-append-seam, getD-set-same, getD-set-other, length-sets}
+use lib.ListN.{length, getD, length-append}
+use lib.Seq.{sets, getD-append-seam, length-sets}
+use borrow.Author.Tests.{leb-true}
 use Rattle.rules.specs.declared.Header.{Header}
 use Rattle.rules.specs.declared.Answer.{Answer}
 use Rattle.rules.specs.Table as T
-use Rattle.rules.specs.Table.{Value, scalar, listed, rowOf, table}
+use Rattle.rules.specs.Table.{Value, scalar, listed, rowOf, table, roleNumber, inRange}
 use Rattle.rules.specs.Result.{found, refused, _>>=_}
 use Rattle.rules.specs.Case.{Constraint, Method, Valued, Read, headerIn, scalarAt, membersAt, asConstraint, oneLine, many, oneMethod}
 use Rattle.rules.specs.Fields.{lineFields, linesFields, constraintLine, methodLines}
-use Rattle.rules.proofs.Judgement.Reading.{ReadSays, one-line-says}
+use Rattle.rules.proofs.Judgement.Reading.{ForLine, ReadSays, one-line-says}
 use Rattle.rules.proofs.Judgement.Back.{methodLine, method-back, constraint-back}
+use Rattle.lines.specs.Ranges.{knownOf}
 use Rattle.fields.specs.Standing.{Stands}
 use Rattle.fields.proofs.Standing.{sets-stand, stands-at, sets-append}
 use Rattle.reading.specs.declared.Spot.{Spot}
@@ -24,29 +26,10 @@ use Rattle.reading.specs.Groups.{spot, joined, valuedLine, Due, Left, to
 use Rattle.reading.proofs.Turns.{Goes, AlwaysGoes, line-goes, many-goes, went, halted, Numbered, many-numbered}
 use Rattle.reading.proofs.Meant.{Alike, many-left, lines-meant, means-found, means-refused}
 
--- ---- What is known before the lines of a method
-
--- Its M line is read without a subtask count.
+-- The M line is read without a subtask count.
 pub method-zero : (text : List ℕ) (h : Header) (k n place from : ℕ) (w : List ℕ) (g : Group) (u : List ℕ) → k ≡ 0
     → Left lineFields from w (valuedLine text h T.method k n place) g u → Left lineFields from w (valuedLine text h T.method 0 n place) g u
 method-zero text h k n place from w g u e l = subst (λ (j : ℕ). Left lineFields from w (valuedLine text h T.method j n place) g u) e l
-
--- Its constraints by the same header, and its own subtask count.
-own-left : (text xs : List ℕ) (s : ℕ) → 7 < length xs → (count n place from : ℕ) (w : List ℕ) (g : Group) (u : List ℕ)
-    → Left (together lineFields) from w (many (valuedLine text (headerIn (set xs 7 s)) T.constraint (getD (set xs 7 s) 7 0)) count n place) g u
-    → Left (together lineFields) from w (many (valuedLine text (headerIn xs) T.constraint s) count n place) g u
-own-left text xs s long count n place from w g u l =
-    let same : (i : ℕ) → i < 7 → getD (set xs 7 s) i 0 ≡ getD xs i 0 = λ i h. getD-set-other xs 7 i s 0 (λ e. omega arith) in
-    let header : headerIn (set xs 7 s) ≡ headerIn xs = λ j. record {
-      propositions = same 0 (omega arith) j;
-      actions = same 1 (omega arith) j;
-      compounds = same 2 (omega arith) j;
-      methods = same 3 (omega arith) j;
-      goal = same 4 (omega arith) j;
-      cues = same 5 (omega arith) j;
-      nodes = same 6 (omega arith) j;
-    } in
-    transport (λ j. Left (together lineFields) from w (many (valuedLine text (header j) T.constraint (getD-set-same xs 7 s 0 long j)) count n place) g u) l
 
 -- The fields of lines in turn, one list after the other.
 pub lines-joined : {A : Type 0} (asLine : A → Valued) (xs : List A) → linesFields (map asLine xs) ≡ together (λ a. lineFields (asLine a)) xs
@@ -68,6 +51,11 @@ method-fields vs cs e = ap₂ (λ (n : ℕ) (l : List ℕ). lineFields (77, scal
 line-fields : (vs : List Value) → lineFields (methodLine vs) ≡ 77 ∷ scalarAt vs 0 ∷ length (membersAt vs 1) ∷ (membersAt vs 1 ++ (scalarAt vs 2 ∷ []))
 unfolding lineFields methodLine rowOf table
 line-fields vs = refl
+
+-- An M line that is read has at most 32 subtasks.
+few-subtasks : (h : Header) → ForLine h 0 T.method (λ l vs. scalarAt vs 1 ≤ 32)
+unfolding ForLine table roleNumber inRange scalarAt
+few-subtasks h = (λ t ht vs n hs c hc. leb-true (length vs) 32 n, tt)
 
 -- Readings that end alike go alike.
 goes-alike : {A B : Type 0} (text : List ℕ) (f : A → List ℕ) (g : B → List ℕ) (n place from : ℕ) (x : Read (List A)) (y : Read (List B)) → Alike (map f) (map g) x y
@@ -191,17 +179,25 @@ module _ (text : List ℕ) (h : Header) where
           ap (λ (k : ℕ). getD v k 0) last ∙ stands-at v (at .from) (lineFields (read .0)) (3 + length ss) stands (let n = sized in omega arith)
           ∙ ap₂ (λ (l : List ℕ) (k : ℕ). getD l k 0) spelled third ∙ getD-append-seam ss (scalarAt (read .0 .1) 2) [] 0
 
-      -- What the constraint lines leave, after the M line, is what the method leaves.
-      pub method-left : (r : Group) (u : List ℕ)
-          → Left (together lineFields) (s .from) v (many (valuedLine text h T.constraint (getD v (at .from + 2) 0)) (getD v (s .from - 1) 0) (s .line) (s .start .at)) r u
+      pub few-read : getD v (at .from + 2) 0 ≤ 32
+      few-read =
+          let few : (x : Valued) → Type 0 = λ x. scalarAt (x .1) 1 ≤ 32 in
+          subst (λ (k : ℕ). k ≤ 32) (sym subtasks-read)
+          (subst (ReadSays few) (read .1) (one-line-says text h T.method 0 (λ y. y) (at .line) (at .start .at) few (few-subtasks h)))
+
+      -- What the constraint lines leave, after the M line, is what the method leaves: by the same header, and its own subtask count.
+      pub method-left : (own : List ℕ) → own ≡ knownOf h (getD v (at .from + 2) 0) → (r : Group) (u : List ℕ)
+          → Left (together lineFields) (s .from) v (many (valuedLine text (headerIn own) T.constraint (getD own 7 0)) (getD v (s .from - 1) 0) (s .line) (s .start .at)) r u
           → Left methodFields (at .from) w (oneMethod text h (at .line) (at .start .at)) r u
-      method-left r u z =
+      unfolding knownOf
+      method-left own known r u z =
+          let same : own ≡ knownOf h (scalarAt (read .0 .1) 1) = known ∙ ap (knownOf h) subtasks-read in
           subst (λ (y : Read Method). Left methodFields (at .from) w y r u) (sym (method-goes-on (at .line) (at .start .at) (read .0) (s .line) (s .start .at) (read .1)))
           (go (after-line (read .0 .1) (s .line) (s .start .at)) refl
           (many-left lineFields constraintFields (s .from) v (many (valuedLine text h T.constraint (scalarAt (read .0 .1) 1)) (scalarAt (read .0 .1) 2) (s .line) (s .start .at))
           (after-line (read .0 .1) (s .line) (s .start .at)) r u
           (lines-meant text h T.constraint (scalarAt (read .0 .1) 1) asConstraint constraintLine (constraint-back h (scalarAt (read .0 .1) 1)) (scalarAt (read .0 .1) 2) (s .line) (s .start .at))
-          (transport (λ j. Left (together lineFields) (s .from) v (many (valuedLine text h T.constraint (subtasks-read j)) (count-read j) (s .line) (s .start .at)) r u) z)))
+          (transport (λ j. Left (together lineFields) (s .from) v (many (valuedLine text (headerIn (same j)) T.constraint (getD (same j) 7 0)) (count-read j) (s .line) (s .start .at)) r u) z)))
         where
           go : (y : Read (List Constraint)) → after-line (read .0 .1) (s .line) (s .start .at) ≡ y → Left (together constraintFields) (s .from) v y r u
               → Left methodFields (at .from) w (whole-method (read .0 .1) y) r u
@@ -215,12 +211,3 @@ module _ (text : List ℕ) (h : Header) where
                     ∙ ap (sets w (at .from)) (sym fields),
               )
           go (refused a) d k = k
-
--- The same of the numbers that the code knows before the constraint lines.
-pub method-own : (text xs : List ℕ) (past : ℕ) (at s : Spot) (w v : List ℕ) (g : Group) (due : Due text past w at)
-    → Left lineFields (at .from) w (valuedLine text (headerIn xs) T.method 0 (at .line) (at .start .at)) g v → g ≡ Done s → 7 < length xs → (r : Group) (u : List ℕ)
-    → Left (together lineFields) (s .from) v (many (valuedLine text (headerIn (set xs 7 (getD v (at .from + 2) 0))) T.constraint (getD (set xs 7 (getD v (at .from + 2) 0)) 7 0)) (getD v (s .from - 1) 0) (s .line) (s .start .at)) r u
-    → Left methodFields (at .from) w (oneMethod text (headerIn xs) (at .line) (at .start .at)) r u
-method-own text xs past at s w v g due q e long r u l =
-    method-left text (headerIn xs) past at s w v g due q e r u
-    (own-left text xs (getD v (at .from + 2) 0) long (getD v (s .from - 1) 0) (s .line) (s .start .at) (s .from) v r u l)

@@ -2,7 +2,7 @@
 use mathlib.Core.Path.{_≡_}
 use mathlib.Core.Bool.{Bool, true, false}
 use mathlib.Core.List.{List, [], _∷_, _++_, map}
-use Prim.Native.Nat.{ℕ, _+_, _*_, _<_, _≤_}
+use Prim.Native.Nat.{ℕ, _+_, _*_, _≤_}
 use lib.Dec.{ltb}
 use lib.ListN.{length, getD}
 use lib.Seq.{sets}
@@ -42,9 +42,9 @@ afterLine n from (Range field) = Refused (OutOfRange n field)
 abbrev pub valuedLine : List ℕ → Header → T.Role → ℕ → ℕ → ℕ → Read Valued
 valuedLine text h due s n place = oneLine text h due s (λ x. x) n place
 
--- The numbers that are known before a line of no method: the header's seven, and no subtask count.
+-- Before a line of no method no subtask count is known.
 abbrev pub NoSubtasks : List ℕ → Type 0
-NoSubtasks x = (7 < length x) × (getD x 7 0 ≡ 0)
+NoSubtasks x = getD x 7 0 ≡ 0
 
 -- A line may be due at a spot: it is in the text, each line before it took a byte at least, so that its number fits 32 bits, and each field
 -- before its own took two, so that there is room for these.

@@ -7,6 +7,7 @@ ghost use Rattle.rules.specs.Table as T;
 ghost use Rattle.rules.specs.Fields.{lineFields};
 ghost use Rattle.rules.specs.Case.{headerIn, oneMethod, many, readBody, readCase};
 ghost use Rattle.rules.proofs.Judgement.Sound.{GoodHeader};
+ghost use Rattle.lines.specs.Ranges.{Known};
 ghost use Rattle.lines.specs.Reading.{roleOf};
 ghost use Rattle.fields.specs.Directory.{Roomy, methodsFrom, directorySize};
 ghost use Rattle.reading.specs.Groups.{Fits, NoSubtasks, afterLine, valuedLine, Due, Left, together, methodFields, Placed, wholeCase};
@@ -85,6 +86,7 @@ fn next_line(
     fields: &mut [u32],
 ) -> Group
     requires { ⌜ Due (now text) past (now fields) at ⌝ }
+    requires { ⌜ Known (now x) ⌝ }
     ensures { λ r. ⌜ Left lineFields (at .from) (now (fields .entry)) (valuedLine (now (text .entry)) (headerIn (now (x .entry))) (roleOf due) (getD (now (x .entry)) 7 0) (at .line) (at .start .at)) r (now (fields .exit)) ⌝ }
 {
     let line = at.line;
@@ -104,6 +106,7 @@ fn lines_of(
     fields: &mut [u32],
 ) -> Group
     requires { ⌜ Due (now text) past (now fields) from ⌝ }
+    requires { ⌜ Known (now x) ⌝ }
     ensures { λ r. ⌜ Left (together lineFields) (from .from) (now (fields .entry)) (many (valuedLine (now (text .entry)) (headerIn (now (x .entry))) (roleOf due) (getD (now (x .entry)) 7 0)) count (from .line) (from .start .at)) r (now (fields .exit)) ⌝ }
 {
     let mut at = from;
@@ -130,6 +133,7 @@ fn one_line(
     fields: &mut [u32],
 ) -> Group
     requires { ⌜ Due (now text) past (now fields) at ⌝ }
+    requires { ⌜ Known (now x) ⌝ }
     ensures { λ r. ⌜ Left lineFields (at .from) (now (fields .entry)) (valuedLine (now (text .entry)) (headerIn (now (x .entry))) (roleOf due) (getD (now (x .entry)) 7 0) (at .line) (at .start .at)) r (now (fields .exit)) ⌝ }
 {
     lines_of(text, past, at, due, x, 1, fields)
@@ -139,6 +143,7 @@ fn one_line(
 fn one_method(text: &[u8], past: usize, at: Spot, x: &[u32; KNOWN], fields: &mut [u32]) -> Group
     requires { ⌜ Due (now text) past (now fields) at ⌝ }
     requires { ⌜ NoSubtasks (now x) ⌝ }
+    requires { ⌜ Known (now x) ⌝ }
     ensures { λ r. ⌜ Left methodFields (at .from) (now (fields .entry)) (oneMethod (now (text .entry)) (headerIn (now (x .entry))) (at .line) (at .start .at)) r (now (fields .exit)) ⌝ }
 {
     let from = at.from;
@@ -147,8 +152,7 @@ fn one_method(text: &[u8], past: usize, at: Spot, x: &[u32; KNOWN], fields: &mut
             // The third field is the number of subtasks, the last the number of constraints.
             let subtasks = fields[from + 2];
             let count = fields[next.from - 1];
-            let mut own = *x;
-            own[7] = subtasks;
+            let own = lines::with_subtasks(x, subtasks);
             lines_of(text, past, next, Role::Constraint, &own, count, fields)
         }
         Group::Refused { answer } => Group::Refused { answer },
@@ -166,6 +170,7 @@ fn actions(
 ) -> Group
     requires { ⌜ Due (now text) past (now fields) from ⌝ }
     requires { ⌜ (getD (now x) 1 0 ≤ 1024) × (directorySize ≤ length (now directory)) ⌝ }
+    requires { ⌜ Known (now x) ⌝ }
     ensures left { λ r. ⌜ Left (together lineFields) (from .from) (now (fields .entry)) (many (valuedLine (now (text .entry)) (headerIn (now (x .entry))) T.action (getD (now (x .entry)) 7 0)) (getD (now (x .entry)) 1 0) (from .line) (from .start .at)) r (now (fields .exit)) ⌝ }
     ensures placed { λ _. ⌜ Placed lineFields (from .from) 0 (now (directory .entry)) (many (valuedLine (now (text .entry)) (headerIn (now (x .entry))) T.action (getD (now (x .entry)) 7 0)) (getD (now (x .entry)) 1 0) (from .line) (from .start .at)) (now (directory .exit)) ⌝ }
 {
@@ -197,6 +202,7 @@ fn methods(
 ) -> Group
     requires { ⌜ Due (now text) past (now fields) from ⌝ }
     requires { ⌜ (getD (now x) 3 0 ≤ 2048) × (directorySize ≤ length (now directory)) × NoSubtasks (now x) ⌝ }
+    requires { ⌜ Known (now x) ⌝ }
     ensures left { λ r. ⌜ Left (together methodFields) (from .from) (now (fields .entry)) (many (oneMethod (now (text .entry)) (headerIn (now (x .entry)))) (getD (now (x .entry)) 3 0) (from .line) (from .start .at)) r (now (fields .exit)) ⌝ }
     ensures placed { λ _. ⌜ Placed methodFields (from .from) methodsFrom (now (directory .entry)) (many (oneMethod (now (text .entry)) (headerIn (now (x .entry)))) (getD (now (x .entry)) 3 0) (from .line) (from .start .at)) (now (directory .exit)) ⌝ }
 {
@@ -267,16 +273,7 @@ fn body(
     requires { ⌜ GoodHeader header × (directorySize ≤ length (now directory)) ⌝ }
     ensures { λ r. ⌜ BodyLeft header (first .from) (now (fields .entry)) (now (directory .entry)) (toTheEnd (now (text .entry)) (readBody (now (text .entry)) header (first .line) (first .start .at))) r (now (fields .exit)) (now (directory .exit)) ⌝ }
 {
-    let known = [
-        header.propositions,
-        header.actions,
-        header.compounds,
-        header.methods,
-        header.goal,
-        header.cues,
-        header.nodes,
-        0,
-    ];
+    let known = lines::known(header);
     let x = &known;
     let action = match one_line(text, past, first, Role::Initial, x, fields) {
         Group::Done { next } => next,
@@ -309,7 +306,16 @@ pub fn read_case(text: &[u8], fields: &mut [u32], directory: &mut [u32]) -> Case
 {
     let past = text::past_last_feed(text);
     // The ranges of the N line ask for no header.
-    let known = [0u32; KNOWN];
+    let none = Header {
+        propositions: 0,
+        actions: 0,
+        compounds: 0,
+        methods: 0,
+        goal: 0,
+        cues: 0,
+        nodes: 0,
+    };
+    let known = lines::known(none);
     let start = Cursor::new();
     let first = Spot {
         line: 1,

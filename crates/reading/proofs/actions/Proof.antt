@@ -38,7 +38,7 @@ loop-holds c =
 
 -- src/lib.rt:167:15
 one-line-requires : tie.Need-one-line-requires Inv-loop μ-loop
-one-line-requires c κs = c .before .before .loop .inv .progress .due
+one-line-requires c κs = (c .before .before .loop .inv .progress .due, c .before .before .before .before .before .before .before .pre .1 .1)
 
 -- src/lib.rt:168:27
 enum-known-next : tie.Need-enum-known-next Inv-loop μ-loop
@@ -58,7 +58,7 @@ mul-directory : tie.Need-mul-directory Inv-loop μ-loop
 unfolding directorySize
 mul-directory c =
     let k = c .before .before .before .before .before .before .before .before .loop .inv .size in
-    let p = c .before .before .before .before .before .before .before .before .before .before .before .before .before .pre .1 in
+    let p = c .before .before .before .before .before .before .before .before .before .before .before .before .before .pre .1 .0 in
     let t = c .before .before .before .before .before .before .before .loop-test .taken in
     omega (arith, p .0, p .1)
 
@@ -67,7 +67,7 @@ slice-write-directory : tie.Need-slice-write-directory Inv-loop μ-loop
 unfolding directorySize
 slice-write-directory c =
     let k = c .before .before .before .before .before .before .before .before .loop .inv .size in
-    let p = c .before .before .before .before .before .before .before .before .before .before .before .before .before .pre .1 in
+    let p = c .before .before .before .before .before .before .before .before .before .before .before .before .before .pre .1 .0 in
     let t = c .before .before .before .before .before .before .before .loop-test .taken in
     omega (arith, p .0, p .1)
 

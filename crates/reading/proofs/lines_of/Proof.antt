@@ -25,11 +25,11 @@ loop-holds c =
     let s = c .before .before in
     let a = s .args in
     let one = valuedLine (a .text .now) (headerIn (a .x .now)) (roleOf (a .due)) (getD (a .x .now) 7 0) in
-    begins (a .text .now) (a .past) lineFields one (a .count) (a .from) (a .fields .now) (s .pre)
+    begins (a .text .now) (a .past) lineFields one (a .count) (a .from) (a .fields .now) (s .pre .0)
 
 -- src/lib.rt:112:15
 next-line-requires : tie.Need-next-line-requires Inv-loop μ-loop
-next-line-requires c κs = c .before .before .loop .inv .due
+next-line-requires c κs = (c .before .before .loop .inv .due, c .before .before .before .before .before .pre .1)
 
 -- src/lib.rt:113:27
 enum-known-next : tie.Need-enum-known-next Inv-loop μ-loop

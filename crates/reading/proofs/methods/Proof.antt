@@ -36,7 +36,8 @@ loop-holds c =
 
 -- src/lib.rt:199:15
 one-method-requires : tie.Need-one-method-requires Inv-loop μ-loop
-one-method-requires c κs = (c .before .before .loop .inv .progress .due, c .before .before .before .before .before .before .before .pre .1 .2)
+one-method-requires c κs =
+    let p = c .before .before .before .before .before .before .before .pre .1 in (c .before .before .loop .inv .progress .due, (p .0 .2, p .1))
 
 -- src/lib.rt:200:27
 enum-known-next : tie.Need-enum-known-next Inv-loop μ-loop
@@ -56,7 +57,7 @@ add-directory : tie.Need-add-directory Inv-loop μ-loop
 unfolding directorySize
 add-directory c =
     let k = c .before .before .before .before .before .before .before .before .loop .inv .size in
-    let p = c .before .before .before .before .before .before .before .before .before .before .before .before .before .pre .1 in
+    let p = c .before .before .before .before .before .before .before .before .before .before .before .before .before .pre .1 .0 in
     let t = c .before .before .before .before .before .before .before .loop-test .taken in
     omega (arith, p .0, p .1)
 
@@ -65,7 +66,7 @@ mul-directory : tie.Need-mul-directory Inv-loop μ-loop
 unfolding directorySize
 mul-directory c =
     let k = c .before .before .before .before .before .before .before .before .loop .inv .size in
-    let p = c .before .before .before .before .before .before .before .before .before .before .before .before .before .pre .1 in
+    let p = c .before .before .before .before .before .before .before .before .before .before .before .before .before .pre .1 .0 in
     let t = c .before .before .before .before .before .before .before .loop-test .taken in
     omega (arith, p .0, p .1)
 
@@ -74,7 +75,7 @@ slice-write-directory : tie.Need-slice-write-directory Inv-loop μ-loop
 unfolding directorySize
 slice-write-directory c =
     let k = c .before .before .before .before .before .before .before .before .loop .inv .size in
-    let p = c .before .before .before .before .before .before .before .before .before .before .before .before .before .pre .1 in
+    let p = c .before .before .before .before .before .before .before .before .before .before .before .before .before .pre .1 .0 in
     let t = c .before .before .before .before .before .before .before .loop-test .taken in
     omega (arith, p .0, p .1)
 

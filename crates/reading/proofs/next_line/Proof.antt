@@ -22,7 +22,7 @@ after-requires : tie.Need-after-requires
 after-requires c κs =
     let s = c .before .before .before .before .before .before in
     let a = s .args in
-    let d = s .pre in
+    let d = s .pre .0 in
     let r = c .before .before .read-line in (
       let n = d .counted in let i = d .inside in let t = d .short in omega arith,
       line-fits (a .text .now) (a .at .from) (a .at .start .at) (a .fields .now) (readLine (a .text .now) (roleOf (a .due)) (headerIn (a .x .now)) (getD (a .x .now) 7 0) (a .at .start .at)) (r .result) _ (d .short)

@@ -1,11 +1,12 @@
 -- `one_method`: the M line's numbers say which constraint lines follow. Assumes nothing.
 use lib.ListN.{getD}
 use Rattle.rules.specs.Case.{headerIn}
-use Rattle.reading.proofs.MethodLines.{method-zero, method-own, inside-fields, method-refused}
+use Rattle.reading.proofs.MethodLines.{method-zero, method-left, inside-fields, few-read, method-refused}
 use Rattle.reading.proofs.Turns.{line-goes, due-next}
 use Rattle.reading.specs.Groups.{valuedLine}
 use Rattle.rules.specs.Fields.{lineFields}
 use Rattle.rules.specs.Table as T
+use Rattle.lines.proofs.Ranges.{made-known}
 use native.Mathlib.Omega.{arith}
 use borrow.Author.Needs.{needs}
 use Rattle.reading.proofs.one_method.Statement.{statement}
@@ -33,7 +34,7 @@ slice-read-subtasks c =
     let s = c .before .before .before .before .before .before .before .before .before .before in
     let a = s .args in
     let r = c .before .before .before .before .before .before .one-line in
-    let read = method-zero (a .text .now) (headerIn (a .x .now)) (getD (a .x .now) 7 0) (a .at .line) (a .at .start .at) (a .at .from) (a .fields .now) (r .result) _ (s .pre .1 .1) (r .ensures) in
+    let read = method-zero (a .text .now) (headerIn (a .x .now)) (getD (a .x .now) 7 0) (a .at .line) (a .at .start .at) (a .at .from) (a .fields .now) (r .result) _ (s .pre .1 .0) (r .ensures) in
     let n = c .before .before .next .given in
     inside-fields (a .text .now) (headerIn (a .x .now)) (a .past) (a .at) (n .0 .0) (a .fields .now) _ (r .result) (s .pre .0) read (n .1) .0
 
@@ -43,7 +44,7 @@ sub-count c =
     let s = c .before .before .before .before .before .before .before .before .before .before .before in
     let a = s .args in
     let r = c .before .before .before .before .before .before .before .one-line in
-    let read = method-zero (a .text .now) (headerIn (a .x .now)) (getD (a .x .now) 7 0) (a .at .line) (a .at .start .at) (a .at .from) (a .fields .now) (r .result) _ (s .pre .1 .1) (r .ensures) in
+    let read = method-zero (a .text .now) (headerIn (a .x .now)) (getD (a .x .now) 7 0) (a .at .line) (a .at .start .at) (a .at .from) (a .fields .now) (r .result) _ (s .pre .1 .0) (r .ensures) in
     let n = c .before .before .before .next .given in
     inside-fields (a .text .now) (headerIn (a .x .now)) (a .past) (a .at) (n .0 .0) (a .fields .now) _ (r .result) (s .pre .0) read (n .1) .1
 
@@ -53,7 +54,7 @@ mul-count c =
     let s = c .before .before .before .before .before .before .before .before .before .before .before in
     let a = s .args in
     let r = c .before .before .before .before .before .before .before .one-line in
-    let read = method-zero (a .text .now) (headerIn (a .x .now)) (getD (a .x .now) 7 0) (a .at .line) (a .at .start .at) (a .at .from) (a .fields .now) (r .result) _ (s .pre .1 .1) (r .ensures) in
+    let read = method-zero (a .text .now) (headerIn (a .x .now)) (getD (a .x .now) 7 0) (a .at .line) (a .at .start .at) (a .at .from) (a .fields .now) (r .result) _ (s .pre .1 .0) (r .ensures) in
     let n = c .before .before .before .next .given in
     let i = inside-fields (a .text .now) (headerIn (a .x .now)) (a .past) (a .at) (n .0 .0) (a .fields .now) _ (r .result) (s .pre .0) read (n .1) in
     let l = r .kept .1 .1 .1 .1 .1 .0 in
@@ -65,12 +66,18 @@ slice-read-count c =
     let s = c .before .before .before .before .before .before .before .before .before .before .before .before in
     let a = s .args in
     let r = c .before .before .before .before .before .before .before .before .one-line in
-    let read = method-zero (a .text .now) (headerIn (a .x .now)) (getD (a .x .now) 7 0) (a .at .line) (a .at .start .at) (a .at .from) (a .fields .now) (r .result) _ (s .pre .1 .1) (r .ensures) in
+    let read = method-zero (a .text .now) (headerIn (a .x .now)) (getD (a .x .now) 7 0) (a .at .line) (a .at .start .at) (a .at .from) (a .fields .now) (r .result) _ (s .pre .1 .0) (r .ensures) in
     let n = c .before .before .before .before .next .given in
     inside-fields (a .text .now) (headerIn (a .x .now)) (a .past) (a .at) (n .0 .0) (a .fields .now) _ (r .result) (s .pre .0) read (n .1) .2
 
-array-write-own : tie.Need-array-write-own
-array-write-own c = search needs
+with-subtasks-requires : tie.Need-with-subtasks-requires
+with-subtasks-requires c κs =
+    let s = c .before .before .before .before .before .before .before .before .before .before .before .before in
+    let a = s .args in
+    let r = c .before .before .before .before .before .before .before .before .one-line in
+    let read = method-zero (a .text .now) (headerIn (a .x .now)) (getD (a .x .now) 7 0) (a .at .line) (a .at .start .at) (a .at .from) (a .fields .now) (r .result) _ (s .pre .1 .0) (r .ensures) in
+    let n = c .before .before .before .before .next .given in
+    (few-read (a .text .now) (headerIn (a .x .now)) (a .past) (a .at) (n .0 .0) (a .fields .now) _ (r .result) (s .pre .0) read (n .1), s .pre .1 .1)
 
 -- src/lib.rt:139:13
 lines-of-requires : tie.Need-lines-of-requires
@@ -78,11 +85,12 @@ lines-of-requires c κs =
     let s = c .before .before .before .before .before .before .before .before .before .before .before .before .before .before .before in
     let a = s .args in
     let r = c .before .before .before .before .before .before .before .before .before .before .before .one-line in
-    let read = method-zero (a .text .now) (headerIn (a .x .now)) (getD (a .x .now) 7 0) (a .at .line) (a .at .start .at) (a .at .from) (a .fields .now) (r .result) _ (s .pre .1 .1) (r .ensures) in
+    let read = method-zero (a .text .now) (headerIn (a .x .now)) (getD (a .x .now) 7 0) (a .at .line) (a .at .start .at) (a .at .from) (a .fields .now) (r .result) _ (s .pre .1 .0) (r .ensures) in
     let n = c .before .before .before .before .before .before .before .next .given in
     let one = valuedLine (a .text .now) (headerIn (a .x .now)) T.method 0 in
-    due-next lineFields (a .text .now) (a .past) (a .fields .now) _ (a .at) (n .0 .0) (one (a .at .line) (a .at .start .at)) (r .result) (s .pre .0)
-    (line-goes (a .text .now) (headerIn (a .x .now)) T.method 0 (a .at .line) (a .at .start .at) (a .at .from) (s .pre .0 .ahead) (s .pre .0 .inside)) read (n .1)
+    let due = due-next lineFields (a .text .now) (a .past) (a .fields .now) _ (a .at) (n .0 .0) (one (a .at .line) (a .at .start .at)) (r .result) (s .pre .0)
+    (line-goes (a .text .now) (headerIn (a .x .now)) T.method 0 (a .at .line) (a .at .start .at) (a .at .from) (s .pre .0 .ahead) (s .pre .0 .inside)) read (n .1) in
+    (due, made-known (headerIn (a .x .now)) _ (c .before .before .with-subtasks .ensures))
 
 -- src/lib.rt:141:26
 enum-known-answer : tie.Need-enum-known-answer
@@ -98,9 +106,10 @@ returns c =
     let s = c .before .before .before .before .before .before .before .before .before .before .before .before .before .before .before .before .before .before in
     let a = s .args in
     let r = c .before .before .before .before .before .before .before .before .before .before .before .before .before .before .one-line in
-    let read = method-zero (a .text .now) (headerIn (a .x .now)) (getD (a .x .now) 7 0) (a .at .line) (a .at .start .at) (a .at .from) (a .fields .now) (r .result) _ (s .pre .1 .1) (r .ensures) in
+    let read = method-zero (a .text .now) (headerIn (a .x .now)) (getD (a .x .now) 7 0) (a .at .line) (a .at .start .at) (a .at .from) (a .fields .now) (r .result) _ (s .pre .1 .0) (r .ensures) in
     let n = c .before .before .before .before .before .before .before .before .before .before .next .given in
-    method-own (a .text .now) (a .x .now) (a .past) (a .at) (n .0 .0) (a .fields .now) _ (r .result) (s .pre .0) read (n .1) (s .pre .1 .0) _ _ (c .before .before .lines-of .ensures)
+    let own = c .before .before .before .before .before .with-subtasks in
+    method-left (a .text .now) (headerIn (a .x .now)) (a .past) (a .at) (n .0 .0) (a .fields .now) _ (r .result) (s .pre .0) read (n .1) (own .result) (own .ensures) _ _ (c .before .before .lines-of .ensures)
 
 -- src/lib.rt:124:1
 same-length-2 : tie.Need-same-length-2
@@ -112,7 +121,7 @@ returns-2 c =
     let s = c .before .before .before .before .before .before .before .before .before in
     let a = s .args in
     let r = c .before .before .before .before .before .one-line in
-    let read = method-zero (a .text .now) (headerIn (a .x .now)) (getD (a .x .now) 7 0) (a .at .line) (a .at .start .at) (a .at .from) (a .fields .now) (r .result) _ (s .pre .1 .1) (r .ensures) in
+    let read = method-zero (a .text .now) (headerIn (a .x .now)) (getD (a .x .now) 7 0) (a .at .line) (a .at .start .at) (a .at .from) (a .fields .now) (r .result) _ (s .pre .1 .0) (r .ensures) in
     let e = c .before .answer .given in
     method-refused (a .text .now) (headerIn (a .x .now)) (a .past) (a .at) (a .at) (a .fields .now) _ (r .result) (s .pre .0) read (e .0 .0) (e .1) _
 
@@ -128,7 +137,7 @@ one-method-spec =
     sub-count
     mul-count
     slice-read-count
-    array-write-own
+    with-subtasks-requires
     lines-of-requires
     enum-known-answer
     same-length

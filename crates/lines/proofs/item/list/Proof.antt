@@ -16,7 +16,7 @@ use native.Mathlib.Omega.{arith}
 
 -- src/item.rt:147:11
 take-number-requires : tie.Need-take-number-requires
-take-number-requires c κs = c .before .before .pre .1 .feeds
+take-number-requires c κs = let p = c .before .before .pre .1 in (p .0 .feeds, (p .1 .0 .0, p .1 .1))
 
 -- src/item.rt:148:25
 enum-known-value : tie.Need-enum-known-value
@@ -32,7 +32,7 @@ slice-write-fields c =
     let e = c .before .before .before .before .before .before in
     let v = c .before .value .given .0 in
     room-here (e .args .text .now) (e .args .fields .now) (e .args .from) (e .args .c .at)
-    (λ w. leb 0 w && inKind (e .args .x .now) (e .args .before .now) (e .args .counts) w) (v .0) (v .1 .0) (e .pre .1)
+    (λ w. leb 0 w && inKind (e .args .x .now) (e .args .before .now) (e .args .counts) w) (v .0) (v .1 .0) (e .pre .1 .0)
     (sym (c .before .value .given .1) ∙ c .before .before .before .take-number .ensures)
 
 -- src/item.rt:150:57
@@ -47,13 +47,12 @@ add-members-2 c = search needs
 members-requires : tie.Need-members-requires
 members-requires c κs =
     let e = c .before .before .before .before .before .before .before in
-    let v = c .before .before .value .given .0 in (
-      omega (arith, e .pre .0),
-      room-next (e .args .text .now) (e .args .fields .now) (e .args .from) (e .args .c .at)
-          (λ w. leb 0 w && inKind (e .args .x .now) (e .args .before .now) (e .args .counts) w) (v .0) (v .1 .0) (e .pre .1)
-          (sym (c .before .before .value .given .1) ∙ c .before .before .before .before .take-number .ensures)
-          (set (e .args .fields .now) (e .args .from) (v .0)) (length-set (e .args .fields .now) (e .args .from) (v .0)),
-    )
+    let v = c .before .before .value .given .0 in
+    let room = room-next (e .args .text .now) (e .args .fields .now) (e .args .from) (e .args .c .at)
+    (λ w. leb 0 w && inKind (e .args .x .now) (e .args .before .now) (e .args .counts) w) (v .0) (v .1 .0) (e .pre .1 .0)
+    (sym (c .before .before .value .given .1) ∙ c .before .before .before .before .take-number .ensures)
+    (set (e .args .fields .now) (e .args .from) (v .0)) (length-set (e .args .fields .now) (e .args .from) (v .0)) in
+    (omega (arith, e .pre .0), (room, (e .pre .1 .1 .0 .1, e .pre .1 .1 .1)))
 
 -- src/item.rt:152:23
 enum-told : tie.Need-enum-told

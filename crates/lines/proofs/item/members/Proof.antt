@@ -34,14 +34,14 @@ loop-holds c =
     let g : a .field + 0 ≡ a .field = omega arith in (
       omega arith,
       refl,
-      subst (λ (k : ℕ). Room (a .text .now) (a .fields .now) k (a .c .at)) (sym f) (c .before .before .pre .1),
+      subst (λ (k : ℕ). Room (a .text .now) (a .fields .now) k (a .c .at)) (sym f) (c .before .before .pre .1 .0),
       λ r u h.
           transport (λ j. MembersLeft 0 (f j) (a .fields .now) (readMembers (a .text .now) (inKind (a .x .now) (a .before .now) (a .kind)) (eqb (a .kind) 11) (n j) 0 (g j) (a .c .at)) r u) h,
     )
 
 -- src/item.rt:105:15
 take-number-requires : tie.Need-take-number-requires Inv-loop μ-loop
-take-number-requires c κs = c .before .loop .inv .2 .feeds
+take-number-requires c κs = (c .before .loop .inv .2 .feeds, c .before .before .before .before .pre .1 .1)
 
 -- src/item.rt:106:29
 enum-known-value : tie.Need-enum-known-value Inv-loop μ-loop

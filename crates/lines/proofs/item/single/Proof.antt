@@ -14,7 +14,7 @@ use mathlib.Core.Path.{refl, sym, _∙_}
 
 -- src/item.rt:171:11
 take-number-requires : tie.Need-take-number-requires
-take-number-requires c κs = c .before .before .pre .1 .feeds
+take-number-requires c κs = let p = c .before .before .pre .1 in (p .0 .feeds, p .1)
 
 -- src/item.rt:172:25
 enum-known-value : tie.Need-enum-known-value
@@ -30,7 +30,7 @@ slice-write-fields c =
     let e = c .before .before .before .before .before .before in
     let v = c .before .value .given .0 in
     room-here (e .args .text .now) (e .args .fields .now) (e .args .from) (e .args .c .at)
-    (λ w. leb 0 w && inKind (e .args .x .now) (e .args .before .now) (e .args .kind) w) (v .0) (v .1 .0) (e .pre .1)
+    (λ w. leb 0 w && inKind (e .args .x .now) (e .args .before .now) (e .args .kind) w) (v .0) (v .1 .0) (e .pre .1 .0)
     (sym (c .before .value .given .1) ∙ c .before .before .before .take-number .ensures)
 
 -- src/item.rt:176:24

@@ -11,7 +11,7 @@ use mathlib.Core.Bool.{Bool, _&&_}
 use mathlib.Core.Path.{refl, sym, _∙_}
 
 number-requires : tie.Need-number-requires
-number-requires c κs = c .before .pre
+number-requires c κs = c .before .pre .0
 
 enum-known-value : tie.Need-enum-known-value
 enum-known-value c = search needs

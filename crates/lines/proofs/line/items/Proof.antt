@@ -20,7 +20,7 @@ abbrev μ-loop : tie.MeasureT-loop
 
 -- src/line.rt:88:5
 loop-holds : tie.Need-loop-holds Inv-loop μ-loop
-loop-holds c = let a = c .before .before .args in begins (a .text .now) (a .x .now) (a .letter) (a .shape) (a .from) (a .c) (a .fields .now) (c .before .before .pre .1) (c .before .before .pre .0)
+loop-holds c = let a = c .before .before .args in begins (a .text .now) (a .x .now) (a .letter) (a .shape) (a .from) (a .c) (a .fields .now) (c .before .before .pre .1 .0) (c .before .before .pre .0)
 
 -- src/line.rt:89:27
 sub-put : tie.Need-sub-put Inv-loop μ-loop
@@ -35,7 +35,8 @@ read-item-requires : tie.Need-read-item-requires Inv-loop μ-loop
 read-item-requires c κs =
     let a = c .before .before .before .before .before .before .args in
     let l = c .before .before .before .loop in
-    item-room (a .text .now) (a .x .now) (a .letter) (a .shape) (a .from) (a .c) (a .fields .now) (l .at) (l .values) (l .field) (l .rest) (l .i) (l .fields) (l .inv) (c .before .before .loop-test .taken)
+    let room = item-room (a .text .now) (a .x .now) (a .letter) (a .shape) (a .from) (a .c) (a .fields .now) (l .at) (l .values) (l .field) (l .rest) (l .i) (l .fields) (l .inv) (c .before .before .loop-test .taken) in
+    (room .0, (room .1, c .before .before .before .before .before .before .pre .1 .1))
 
 -- src/line.rt:92:17
 enum-known-value : tie.Need-enum-known-value Inv-loop μ-loop

@@ -61,16 +61,19 @@ items-requires c κs =
     let f = s .pre .0 (a .c .at) ∙ lt-ltb (a .c .at) (a .past) (c .before .before .before .before .before .before .before .before .before .if1 .left) in
     let got = letter-read (letterAt (a .text .now) (a .c .at)) (sym (c .before .before .byte .given .1) ∙ c .before .before .before .before .letter .ensures) in
     let next = letter-next (a .text .now) (a .c .at) got in
-    let low = s .pre .1 .ahead in
-    let room = s .pre .1 in (
+    let low = s .pre .1 .0 .ahead in
+    let room = s .pre .1 .0 in (
       search needs,
-      record {
-        short = room .short;
-        inside = next .1;
-        long = let l = room .long in let e = length-set (a .fields .now) (a .from) (c .before .before .byte .given .0 .0) in omega arith;
-        ahead = omega (arith, next .0);
-        feeds = letter-feeds (a .text .now) (a .c .at) got f;
-      },
+      (
+        record {
+          short = room .short;
+          inside = next .1;
+          long = let l = room .long in let e = length-set (a .fields .now) (a .from) (c .before .before .byte .given .0 .0) in omega arith;
+          ahead = omega (arith, next .0);
+          feeds = letter-feeds (a .text .now) (a .c .at) got f;
+        },
+        s .pre .1 .1,
+      ),
     )
 
 enum-told : tie.Need-enum-told
