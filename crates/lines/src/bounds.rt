@@ -1,6 +1,6 @@
 // What is known before a line is read: the header, the subtask count, and the range of each kind of number, worked out once.
 ghost use mathlib.Core.Path.{_≡_};
-ghost use Prim.Native.Nat.{_+_, _-_, _^_, _≤_};
+ghost use Prim.Native.Nat.{_+_, _≤_};
 ghost use Rattle.rules.specs.Case.{headerIn};
 ghost use Rattle.lines.specs.Ranges.{allBelow, knownOf, Known};
 use crate::range::KNOWN;
@@ -18,14 +18,6 @@ fn below(n: u32) -> Bounds
     } else {
         Bounds(0, n - 1)
     }
-}
-
-// The greatest set of n subtasks: every bit below the count.
-fn greatest_set(n: u32) -> u32
-    requires { ⌜ n ≤ 32 ⌝ }
-    ensures { λ r. ⌜ r ≡ 2 ^ n - 1 ⌝ }
-{
-    ((1u64 << n) - 1) as u32
 }
 
 // What a header makes known, with no subtasks: its numbers, and then two for each kind, in the order of the kinds' bytes.
@@ -110,6 +102,6 @@ pub fn with_subtasks(x: &[u32; KNOWN], n: u32) -> [u32; KNOWN]
     own[13] = subtask.1;
     own[28] = subtask.0;
     own[29] = subtask.1;
-    own[33] = greatest_set(n);
+    own[33] = subsets::all(n);
     own
 }

@@ -153,7 +153,15 @@ fn one_method(text: &[u8], past: usize, at: Spot, x: &[u32; KNOWN], fields: &mut
             let subtasks = fields[from + 2];
             let count = fields[next.from - 1];
             let own = lines::with_subtasks(x, subtasks);
-            lines_of(text, past, next, Role::Constraint, &own, count, fields)
+            // Field by field: the three were stored one by one, and a copy of the whole would wait for them.
+            let line = next.line;
+            let start = next.start;
+            let first = Spot {
+                line,
+                start,
+                from: next.from,
+            };
+            lines_of(text, past, first, Role::Constraint, &own, count, fields)
         }
         Group::Refused { answer } => Group::Refused { answer },
     }

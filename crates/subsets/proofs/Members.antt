@@ -5,17 +5,16 @@ use mathlib.Core.Logic.{_≢_, _↔_}
 use mathlib.Core.Bool.{Bool, true, false, xor, true≢false}
 use mathlib.Core.List.{List, [], _∷_, map, headD, tail, List·Memᴰ, List·Memᴰ·head, List·Memᴰ·not-nil}
 use Prim.Native.Nat.{ℕ, suc, _+_, _/_, _%_, _^_, _≤_, _<_}
-use native.Mathlib.Nat.{div-one, div-eq-of-lt, div-lt-iff-lt-mul, lt-of-lt-of-le, one-mul, zero-add}
+use native.Mathlib.Nat.{div-one, lt-of-lt-of-le, zero-add}
 use native.Mathlib.Numerals.{add-one}
 use native.Mathlib.Decide.{decLt}
 use native.Mathlib.Omega.{arith}
 use lib.Arith.{lt-one}
 use lib.Bits.{bitXor}
 use lib.Count.{ones, ones-step, trailingZeros, under}
-use lib.Dec.{eqb, ltb}
 use lib.ListN.{length, getD}
-use lib.Pow.{pow-pos, pow-mono, shr-shr, shr-lt}
-use borrow.Author.Tests.{eq-eqb, ne-eqb, eqb-true, eqb-false, lt-ltb, le-ltb}
+use lib.Pow.{pow-mono, shr-shr, shr-lt}
+use borrow.Author.Tests.{eq-eqb, ne-eqb, eqb-true, eqb-false}
 use Rattle.rules.specs.State.{bit}
 use Rattle.rules.specs.Index.{Span, pick}
 use Rattle.rules.proofs.Bits.{bit-xor, bit-above, bit-zero, bit-pow, no-bits}
@@ -136,21 +135,6 @@ size-from u =
 pub size-is : (u : ℕ) → u < 2 ^ 32 → length (membersOf u) ≡ ones u
 unfolding membersOf
 size-is u h = size-from u 32 0 (subst (λ (x : ℕ). x < 2 ^ 32) (sym (div-one u)) h) ∙ ap ones (div-one u)
-
--- ---- the range of a set
-
--- A shift leaves nothing exactly if the set has no bit at or above n.
-pub shift-fits : (u n : ℕ) → eqb (u / 2 ^ n) 0 ≡ ltb u (2 ^ n)
-shift-fits u n = go (decLt u (2 ^ n))
-  where
-    go : Dec (u < 2 ^ n) → eqb (u / 2 ^ n) 0 ≡ ltb u (2 ^ n)
-    go (yes l) = eq-eqb (u / 2 ^ n) 0 (div-eq-of-lt l) ∙ sym (lt-ltb u (2 ^ n) l)
-    go (no l) =
-        ne-eqb (u / 2 ^ n) 0 (λ e. l (subst (λ (x : ℕ). u < x) (one-mul (2 ^ n)) (div-lt-iff-lt-mul (pow-pos n) .0 (omega arith))))
-        ∙ sym (le-ltb u (2 ^ n) (omega arith))
-
-pub wide-fits : (u n : ℕ) → u < 2 ^ 32 → 32 ≤ n → ltb u (2 ^ n) ≡ true
-wide-fits u n h l = lt-ltb u (2 ^ n) (lt-of-lt-of-le h (pow-mono l))
 
 -- ---- the spans of a set
 

@@ -2,8 +2,7 @@
 // subtask, then the rest".
 ghost use mathlib.Core.Path.{_≡_};
 ghost use mathlib.Core.List.{headD, tail};
-ghost use Prim.Native.Nat.{_^_};
-ghost use lib.Dec.{ltb};
+ghost use Prim.Native.Nat.{_-_, _≤_, _^_};
 ghost use lib.ListN.{length};
 ghost use Rattle.subsets.specs.Members.{membersOf};
 
@@ -31,9 +30,10 @@ pub fn others(u: u32) -> u32
     u ^ (1u32 << lowest(u))
 }
 
-// Whether the set has "no bit at or above the count" n.
-pub fn fits(u: u32, n: u32) -> bool
-    ensures { λ r. ⌜ r ≡ ltb u (2 ^ n) ⌝ }
+// The set of all of n subtasks, as a mask. A set has "no bit at or above the count" where it is at most this.
+pub fn all(n: u32) -> u32
+    requires { ⌜ n ≤ 32 ⌝ }
+    ensures { λ r. ⌜ r ≡ 2 ^ n - 1 ⌝ }
 {
-    if n < 32 { u >> n == 0 } else { true }
+    ((1u64 << n) - 1) as u32
 }

@@ -82,15 +82,15 @@ with-subtasks-requires c κs =
 -- src/lib.rt:139:13
 lines-of-requires : tie.Need-lines-of-requires
 lines-of-requires c κs =
-    let s = c .before .before .before .before .before .before .before .before .before .before .before .before .before .before .before in
+    let s = c .before .before .before .before .before .before .before .before .before .before .before .before .before .before .before .before in
     let a = s .args in
-    let r = c .before .before .before .before .before .before .before .before .before .before .before .one-line in
+    let r = c .before .before .before .before .before .before .before .before .before .before .before .before .one-line in
     let read = method-zero (a .text .now) (headerIn (a .x .now)) (getD (a .x .now) 7 0) (a .at .line) (a .at .start .at) (a .at .from) (a .fields .now) (r .result) _ (s .pre .1 .0) (r .ensures) in
-    let n = c .before .before .before .before .before .before .before .next .given in
+    let n = c .before .before .before .before .before .before .before .before .next .given in
     let one = valuedLine (a .text .now) (headerIn (a .x .now)) T.method 0 in
     let due = due-next lineFields (a .text .now) (a .past) (a .fields .now) _ (a .at) (n .0 .0) (one (a .at .line) (a .at .start .at)) (r .result) (s .pre .0)
     (line-goes (a .text .now) (headerIn (a .x .now)) T.method 0 (a .at .line) (a .at .start .at) (a .at .from) (s .pre .0 .ahead) (s .pre .0 .inside)) read (n .1) in
-    (due, made-known (headerIn (a .x .now)) _ (c .before .before .with-subtasks .ensures))
+    (due, made-known (headerIn (a .x .now)) _ (c .before .before .before .with-subtasks .ensures))
 
 -- src/lib.rt:141:26
 enum-known-answer : tie.Need-enum-known-answer
@@ -103,12 +103,12 @@ same-length c = search needs
 -- src/lib.rt:124:1
 returns : tie.Need-returns
 returns c =
-    let s = c .before .before .before .before .before .before .before .before .before .before .before .before .before .before .before .before .before .before in
+    let s = c .before .before .before .before .before .before .before .before .before .before .before .before .before .before .before .before .before .before .before in
     let a = s .args in
-    let r = c .before .before .before .before .before .before .before .before .before .before .before .before .before .before .one-line in
+    let r = c .before .before .before .before .before .before .before .before .before .before .before .before .before .before .before .one-line in
     let read = method-zero (a .text .now) (headerIn (a .x .now)) (getD (a .x .now) 7 0) (a .at .line) (a .at .start .at) (a .at .from) (a .fields .now) (r .result) _ (s .pre .1 .0) (r .ensures) in
-    let n = c .before .before .before .before .before .before .before .before .before .before .next .given in
-    let own = c .before .before .before .before .before .with-subtasks in
+    let n = c .before .before .before .before .before .before .before .before .before .before .before .next .given in
+    let own = c .before .before .before .before .before .before .with-subtasks in
     method-left (a .text .now) (headerIn (a .x .now)) (a .past) (a .at) (n .0 .0) (a .fields .now) _ (r .result) (s .pre .0) read (n .1) (own .result) (own .ensures) _ _ (c .before .before .lines-of .ensures)
 
 -- src/lib.rt:124:1

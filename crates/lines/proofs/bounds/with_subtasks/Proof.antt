@@ -23,8 +23,8 @@ array-write-own-4 c = search needs
 array-write-own-5 : tie.Need-array-write-own-5
 array-write-own-5 c = search needs
 
-greatest-set-requires : tie.Need-greatest-set-requires
-greatest-set-requires c κs = search needs
+all-requires : tie.Need-all-requires
+all-requires c κs = search needs
 
 array-write-own-6 : tie.Need-array-write-own-6
 array-write-own-6 c = search needs
@@ -35,7 +35,7 @@ returns c =
     let s = c .before .before .before in
     let b = c .before .before .below .ensures in
     let x = s .pre .1 in
-    λ j. set (set (set (set (set (set (x j) 7 (s .args .n)) 12 (b j .0)) 13 (b j .1)) 28 (b j .0)) 29 (b j .1)) 33 (c .greatest-set .ensures j)
+    λ j. set (set (set (set (set (set (x j) 7 (s .args .n)) 12 (b j .0)) 13 (b j .1)) 28 (b j .0)) 29 (b j .1)) 33 (c .all .ensures j)
 
 pub with-subtasks-spec : {M : Type 1} → statement M
 with-subtasks-spec =
@@ -47,6 +47,6 @@ with-subtasks-spec =
     array-write-own-3
     array-write-own-4
     array-write-own-5
-    greatest-set-requires
+    all-requires
     array-write-own-6
     returns)

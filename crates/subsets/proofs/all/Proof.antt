@@ -1,4 +1,4 @@
--- `greatest_set`: the bit at the count, less one. Assumes nothing.
+-- `all`: the bit at the count, less one. Assumes nothing.
 use Rattle.rules.proofs.Bits.{shifted-one}
 use native.Mathlib.Nat.{one-le-pow}
 use native.Mathlib.Omega.{arith}
@@ -7,8 +7,8 @@ use lib.Pow.{pow-mono}
 use mathlib.Core.Path.{ap}
 use Prim.Native.Nat.{ℕ, _-_, _≤_, _^_}
 use borrow.Author.Needs.{needs}
-use Rattle.lines.proofs.bounds.greatest_set.Statement.{statement}
-use Rattle.lines.proofs.bounds.greatest_set.Tie as tie
+use Rattle.subsets.proofs.all.Statement.{statement}
+use Rattle.subsets.proofs.all.Tie as tie
 
 shl-result : tie.Need-shl-result
 shl-result c = search needs
@@ -25,5 +25,5 @@ cast-result c =
 returns : tie.Need-returns
 returns c = ap (λ (k : ℕ). k - 1) (shifted-one 64 (c .args .n) (omega arith))
 
-pub greatest-set-spec : {M : Type 1} → statement M
-greatest-set-spec = tie.close (tie.spec shl-result sub-result cast-result returns)
+pub all-spec : {M : Type 1} → statement M
+all-spec = tie.close (tie.spec shl-result sub-result cast-result returns)
