@@ -38,11 +38,6 @@ columns-none states n columns f t e =
       right = λ p m. absurd (false≢true (sym (member-zeros wordCount p) ∙ m));
     }
 
--- Two lists of zeros, as a caller makes them.
-pub columns-new : (states : List ℕ) (n : ℕ) → n ≤ 64 * stateWords → wordCount * n ≤ length states
-    → Columns states n (replicate (columnCount * columnWords) 0) (replicate wordCount 0)
-columns-new states n f t = columns-none states n (replicate (columnCount * columnWords) 0) f t (length-replicate {A = ℕ} (columnCount * columnWords) 0)
-
 -- A proposition of a state has its place among the columns.
 pub place : (columns : List ℕ) (p : ℕ) → length columns ≡ columnCount * columnWords → p / 64 < wordCount
     → columnWords * p + columnWords ≤ length columns

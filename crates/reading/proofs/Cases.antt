@@ -37,10 +37,6 @@ use Rattle.reading.proofs.MethodLines.{lines-joined}
 
 -- ---- Lists
 
-joined-append : (xss yss : List (List ℕ)) → joined (xss ++ yss) ≡ joined xss ++ joined yss
-joined-append [] yss = refl
-joined-append (xs ∷ xss) yss = ap (λ (l : List ℕ). xs ++ l) (joined-append xss yss) ∙ sym (append-assoc xs (joined xss) (joined yss))
-
 -- Each of several lists stands where it starts.
 stands-each : (fields : List ℕ) (at : ℕ) (xss : List (List ℕ)) (i : ℕ) → Stands fields at (joined xss) → i < length xss
     → Stands fields (getD (starts at xss) i 0) (getD xss i [])

@@ -44,16 +44,9 @@ take-sets : (m : ℕ) (w : List ℕ) (i : ℕ) (vs : List ℕ) → m ≤ i → t
 take-sets m w i [] h = refl
 take-sets m w i (v ∷ vs) h = take-sets m (set w i v) (suc i) vs (omega arith) ∙ take-set-le m w i v h
 
--- A part of a list that ends before the stores, or begins after them, keeps what it has.
+-- A part of a list that ends before the stores keeps what it has.
 pub slice-sets-after : (f t : ℕ) (w : List ℕ) (i : ℕ) (vs : List ℕ) → t ≤ i → slice f t (sets w i vs) ≡ slice f t w
 slice-sets-after f t w i vs h = ap (drop f) (take-sets t w i vs h)
-
-pub slice-set-before : (f t : ℕ) (w : List ℕ) (i v : ℕ) → i < f → f ≤ t → slice f t (set w i v) ≡ slice f t w
-slice-set-before f t w i v h b = ap (drop f) (take-set-lt t w i v (omega arith)) ∙ drop-set-lt f (take t w) i v h
-
-pub slice-sets-before : (f t : ℕ) (w : List ℕ) (i : ℕ) (vs : List ℕ) → i + length vs ≤ f → f ≤ t → slice f t (sets w i vs) ≡ slice f t w
-slice-sets-before f t w i [] h b = refl
-slice-sets-before f t w i (v ∷ vs) h b = slice-sets-before f t (set w i v) (suc i) vs (omega arith) b ∙ slice-set-before f t w i v (omega arith) b
 
 pub slice-set-in : (f t : ℕ) (w : List ℕ) (i v : ℕ) → f + i < t → slice f t (set w (f + i) v) ≡ set (slice f t w) i v
 slice-set-in f t w i v h = ap (drop f) (take-set-lt t w (f + i) v h) ∙ drop-set-add f (take t w) i v
@@ -117,9 +110,3 @@ mutual
   pub length-rowsAll : (ts : Trees) (n : ℕ) → length (rowsAll ts n) ≡ 3 * sizes ts
   length-rowsAll noTree n = refl
   length-rowsAll (more t ts) n = omega (arith, length-append (rows t n) (rowsAll ts (n + size t)), length-rows t n, length-rowsAll ts (n + size t))
-
-pub size-some : (t : Tree) → 0 < size t
-unfolding size
-size-some (leaf a i) = omega arith
-size-some (empty m g) = omega arith
-size-some (task m ts) = omega arith

@@ -21,14 +21,12 @@ Inv-loop text past x fields₀ directory₀ count at₀ i₀ fields directory at
 abbrev μ-loop : tie.MeasureT-loop
 μ-loop text past x fields₀ directory₀ count at₀ i₀ fields directory at i = count - i
 
--- src/lib.rt:162:17
 element-copy-out-count : tie.Need-element-copy-out-count Inv-loop μ-loop
 element-copy-out-count c = search needs
 
 cast-count : tie.Need-cast-count Inv-loop μ-loop
 cast-count c = search needs
 
--- src/lib.rt:165:5
 loop-holds : tie.Need-loop-holds Inv-loop μ-loop
 loop-holds c =
     let s = c .before .before .before .before in
@@ -36,15 +34,12 @@ loop-holds c =
     let one = valuedLine (a .text .now) (headerIn (a .x .now)) T.action (getD (a .x .now) 7 0) in
     list-begins (a .text .now) (a .past) lineFields one (getD (a .x .now) 1 0) (a .from) (a .fields .now) 0 (a .directory .now) (s .pre .0)
 
--- src/lib.rt:167:15
 one-line-requires : tie.Need-one-line-requires Inv-loop μ-loop
 one-line-requires c κs = (c .before .before .loop .inv .progress .due, c .before .before .before .before .before .before .before .pre .1 .1)
 
--- src/lib.rt:168:27
 enum-known-next : tie.Need-enum-known-next Inv-loop μ-loop
 enum-known-next c = search needs
 
--- src/lib.rt:169:32
 cast-directory : tie.Need-cast-directory Inv-loop μ-loop
 cast-directory c =
     let d = c .before .before .before .before .before .before .before .before .loop .inv .progress .due in
@@ -53,7 +48,6 @@ cast-directory c =
     let z = d .short in
     omega arith
 
--- src/lib.rt:169:17
 mul-directory : tie.Need-mul-directory Inv-loop μ-loop
 unfolding directorySize
 mul-directory c =
@@ -62,7 +56,6 @@ mul-directory c =
     let t = c .before .before .before .before .before .before .before .loop-test .taken in
     omega (arith, p .0, p .1)
 
--- src/lib.rt:169:17
 slice-write-directory : tie.Need-slice-write-directory Inv-loop μ-loop
 unfolding directorySize
 slice-write-directory c =
@@ -71,15 +64,12 @@ slice-write-directory c =
     let t = c .before .before .before .before .before .before .before .loop-test .taken in
     omega (arith, p .0, p .1)
 
--- src/lib.rt:171:17
 add-i : tie.Need-add-i Inv-loop μ-loop
 add-i c = search needs
 
--- src/lib.rt:165:5
 loop-less : tie.Need-loop-less Inv-loop μ-loop
 loop-less c = search needs
 
--- src/lib.rt:165:5
 loop-again : tie.Need-loop-again Inv-loop μ-loop
 loop-again c =
     let s = c .before .before .before .before .before .before .before .before .before .before .before .before .before in
@@ -90,19 +80,15 @@ loop-again c =
     let n = c .before .next .given in
     list-goes-on (a .text .now) (a .past) lineFields one (getD (a .x .now) 1 0) (a .from) (a .fields .now) (line-goes (a .text .now) (headerIn (a .x .now)) T.action (getD (a .x .now) 7 0)) (l .at) (l .fields) (l .i) (l .inv .progress) (c .before .before .before .before .before .before .before .loop-test .taken) (r .result) _ (r .ensures) 0 (a .directory .now) (l .directory) (l .inv .size) (l .inv .placed) (n .0 .0) (l .i) (n .1) (omega arith)
 
--- src/lib.rt:173:30
 enum-known-answer : tie.Need-enum-known-answer Inv-loop μ-loop
 enum-known-answer c = search needs
 
--- src/lib.rt:173:42
 same-length : tie.Need-same-length Inv-loop μ-loop
 same-length c = c .before .before .before .before .before .one-line .kept .1 .1 .1 .1 .1 .0 ∙ c .before .before .before .before .before .before .before .before .loop .inv .progress .kept
 
--- src/lib.rt:173:42
 same-length-2 : tie.Need-same-length-2 Inv-loop μ-loop
 same-length-2 c = c .before .before .before .before .before .before .before .before .loop .inv .size
 
--- src/lib.rt:173:42
 returns : tie.Need-returns Inv-loop μ-loop
 returns c =
     let s = c .before .before .before .before .before .before .before .before .before .before .before .before .before in
@@ -115,15 +101,12 @@ returns c =
       list-stops (a .text .now) (a .past) lineFields one (getD (a .x .now) 1 0) (a .from) (a .fields .now) (line-goes (a .text .now) (headerIn (a .x .now)) T.action (getD (a .x .now) 7 0)) (l .at) (l .fields) (l .i) (l .inv .progress) (c .before .before .before .before .before .before .before .loop-test .taken) (r .result) _ (r .ensures) 0 (a .directory .now) (l .directory) (l .inv .size) (l .inv .placed) (e .0 .0) (e .1) _,
     )
 
--- src/lib.rt:146:1
 same-length-3 : tie.Need-same-length-3 Inv-loop μ-loop
 same-length-3 c = c .before .loop .inv .progress .kept
 
--- src/lib.rt:146:1
 same-length-4 : tie.Need-same-length-4 Inv-loop μ-loop
 same-length-4 c = c .before .loop .inv .size
 
--- src/lib.rt:146:1
 returns-2 : tie.Need-returns-2 Inv-loop μ-loop
 returns-2 c =
     let s = c .before .before .before .before .before .before in

@@ -6,43 +6,33 @@ use borrow.Author.Needs.{needs}
 use Rattle.reading.proofs.after.Statement.{statement}
 use Rattle.reading.proofs.after.Tie as tie
 
--- src/lib.rt:56:24
 enum-known-finish : tie.Need-enum-known-finish
 enum-known-finish c = search needs
 
--- src/lib.rt:58:23
 add-t9 : tie.Need-add-t9
 add-t9 c = search needs
 
--- src/lib.rt:60:23
 add-t10 : tie.Need-add-t10
 add-t10 c = let h = subst (Fits (c .before .before .before .args .from)) (c .before .finish .given .1) (c .before .before .before .pre .1) in omega arith
 
--- src/lib.rt:63:23
 enum-known-finish-2 : tie.Need-enum-known-finish-2
 enum-known-finish-2 c = search needs
 
--- src/lib.rt:66:24
 cast-t12 : tie.Need-cast-t12
 cast-t12 c = let h = subst (Fits (c .before .before .before .args .from)) (c .before .finish2 .given .1) (c .before .before .before .pre .1) in omega arith
 
--- src/lib.rt:69:25
 enum-known-finish-3 : tie.Need-enum-known-finish-3
 enum-known-finish-3 c = search needs
 
--- src/lib.rt:72:24
 cast-t14 : tie.Need-cast-t14
 cast-t14 c = let h = subst (Fits (c .before .before .before .args .from)) (c .before .finish3 .given .1) (c .before .before .before .pre .1) in omega arith
 
--- src/lib.rt:51:1
 returns : tie.Need-returns
 returns c = ap (afterLine (c .before .before .before .args .line) (c .before .before .before .args .from)) (sym (c .before .finish .given .1))
 
--- src/lib.rt:51:1
 returns-2 : tie.Need-returns-2
 returns-2 c = ap (afterLine (c .before .before .before .args .line) (c .before .before .before .args .from)) (sym (c .before .finish2 .given .1))
 
--- src/lib.rt:51:1
 returns-3 : tie.Need-returns-3
 returns-3 c = ap (afterLine (c .before .before .before .args .line) (c .before .before .before .args .from)) (sym (c .before .finish3 .given .1))
 

@@ -26,19 +26,15 @@ one-line-requires c κs =
     let s = e .before .before .before .before in
     (s .pre .0, made-known (s .args .header) 0 (e .known .ensures))
 
--- src/lib.rt:266:23
 enum-known-next : tie.Need-enum-known-next
 enum-known-next c = search needs
 
--- src/lib.rt:267:26
 enum-known-answer : tie.Need-enum-known-answer
 enum-known-answer c = search needs
 
--- src/lib.rt:267:38
 same-length : tie.Need-same-length
 same-length c = search needs
 
--- src/lib.rt:267:38
 returns : tie.Need-returns
 returns c =
     let e = c .before .before .before .before .before .before .before .before in
@@ -48,7 +44,6 @@ returns c =
     let x = c .before .answer .given in
     refused1 (a .text .now) (a .header) (a .past) (a .first) (a .fields .now) (a .directory .now) (s .pre .1 .0) (s .pre .0) (e .known .result) (e .known .ensures) (r₁ .result) _ (r₁ .ensures) (x .0 .0) (x .1) _ _
 
--- src/lib.rt:269:24
 actions-requires : tie.Need-actions-requires
 unfolding knownOf
 actions-requires c κs =
@@ -61,23 +56,18 @@ actions-requires c κs =
     let few = subst (λ (x : List ℕ). getD x 1 0 ≤ 1024) (sym (e .known .ensures)) (s .pre .1 .0 .few-actions) in
     (b₁ .next, ((few, s .pre .1 .1), made-known (a .header) 0 (e .known .ensures)))
 
--- src/lib.rt:270:23
 enum-known-next-2 : tie.Need-enum-known-next-2
 enum-known-next-2 c = search needs
 
--- src/lib.rt:271:26
 enum-known-answer-2 : tie.Need-enum-known-answer-2
 enum-known-answer-2 c = search needs
 
--- src/lib.rt:271:38
 same-length-2 : tie.Need-same-length-2
 same-length-2 c = search needs
 
--- src/lib.rt:271:38
 same-length-3 : tie.Need-same-length-3
 same-length-3 c = search needs
 
--- src/lib.rt:271:38
 returns-2 : tie.Need-returns-2
 returns-2 c =
     let e = c .before .before .before .before .before .before .before .before .before .before .before .before .before .before .before .before .before .before in
@@ -90,7 +80,6 @@ returns-2 c =
     let x = c .before .answer2 .given in
     refused2 (a .text .now) (a .header) (a .past) (a .first) (a .fields .now) (a .directory .now) (s .pre .1 .0) (s .pre .0) (e .known .result) (e .known .ensures) (n₁ .0 .0) _ b₁ (r₂ .result) _ _ (r₂ .ensures .0) (r₂ .ensures .1) (x .0 .0) (x .1) _ _
 
--- src/lib.rt:273:22
 methods-requires : tie.Need-methods-requires
 unfolding knownOf
 methods-requires c κs =
@@ -108,23 +97,18 @@ methods-requires c κs =
     let long = subst (λ (k : ℕ). directorySize ≤ k) (sym (r₂ .kept .1 .1 .1 .1 .1 .0)) (s .pre .1 .1) in
     (b₂ .next, ((few, long, none), made-known (a .header) 0 (e .known .ensures)))
 
--- src/lib.rt:274:23
 enum-known-next-3 : tie.Need-enum-known-next-3
 enum-known-next-3 c = search needs
 
--- src/lib.rt:275:26
 enum-known-answer-3 : tie.Need-enum-known-answer-3
 enum-known-answer-3 c = search needs
 
--- src/lib.rt:275:38
 same-length-4 : tie.Need-same-length-4
 same-length-4 c = search needs
 
--- src/lib.rt:275:38
 same-length-5 : tie.Need-same-length-5
 same-length-5 c = search needs
 
--- src/lib.rt:275:38
 returns-3 : tie.Need-returns-3
 returns-3 c =
     let e = c .before .before .before .before .before .before .before .before .before .before .before .before .before .before .before .before .before .before .before .before .before .before .before .before .before .before .before .before in
@@ -140,7 +124,6 @@ returns-3 c =
     let x = c .before .answer3 .given in
     refused3 (a .text .now) (a .header) (a .past) (a .first) (a .fields .now) (a .directory .now) (s .pre .1 .0) (s .pre .0) (e .known .result) (e .known .ensures) (n₂ .0 .0) _ _ b₂ (r₃ .result) _ _ (r₃ .ensures .0) (r₃ .ensures .1) (x .0 .0) (x .1) _ _
 
--- src/lib.rt:277:22
 one-line-requires-2 : tie.Need-one-line-requires-2
 one-line-requires-2 c κs =
     let e = c .before .before .before .before .before .before .before .before .before .before .before .before .before .before .before .before .before .before .before .before .before .before .before .before .before .before .before .before .before in
@@ -157,23 +140,18 @@ one-line-requires-2 c κs =
     let b₃ = after3 (a .text .now) (a .header) (a .past) (a .first) (a .fields .now) (a .directory .now) (s .pre .1 .0) (s .pre .0) (e .known .result) (e .known .ensures) (n₂ .0 .0) _ _ b₂ (r₃ .result) _ _ (r₃ .ensures .0) (r₃ .ensures .1) (n₃ .0 .0) (n₃ .1) in
     (b₃ .next, made-known (a .header) 0 (e .known .ensures))
 
--- src/lib.rt:278:23
 enum-known-next-4 : tie.Need-enum-known-next-4
 enum-known-next-4 c = search needs
 
--- src/lib.rt:279:26
 enum-known-answer-4 : tie.Need-enum-known-answer-4
 enum-known-answer-4 c = search needs
 
--- src/lib.rt:279:38
 same-length-6 : tie.Need-same-length-6
 same-length-6 c = c .before .before .before .before .before .one-line2 .kept .1 .1 .1 .1 .1 .0 ∙ c .before .before .before .before .before .before .before .before .before .before .before .before .before .before .methods .kept .1 .1 .1 .1 .0 ∙ c .before .before .before .before .before .before .before .before .before .before .before .before .before .before .before .before .before .before .before .before .before .before .before .before .actions .kept .1 .1 .1 .1 .0 ∙ c .before .before .before .before .before .before .before .before .before .before .before .before .before .before .before .before .before .before .before .before .before .before .before .before .before .before .before .before .before .before .before .before .one-line .kept .1 .1 .1 .1 .1 .0
 
--- src/lib.rt:279:38
 same-length-7 : tie.Need-same-length-7
 same-length-7 c = search needs
 
--- src/lib.rt:279:38
 returns-4 : tie.Need-returns-4
 returns-4 c =
     let e = c .before .before .before .before .before .before .before .before .before .before .before .before .before .before .before .before .before .before .before .before .before .before .before .before .before .before .before .before .before .before .before .before .before .before .before in
@@ -192,7 +170,6 @@ returns-4 c =
     let x = c .before .answer4 .given in
     refused4 (a .text .now) (a .header) (a .past) (a .first) (a .fields .now) (a .directory .now) (s .pre .1 .0) (s .pre .0) (e .known .result) (e .known .ensures) (n₃ .0 .0) _ _ b₃ (r₄ .result) _ (r₄ .ensures) (x .0 .0) (x .1) _ _
 
--- src/lib.rt:281:21
 lines-of-requires : tie.Need-lines-of-requires
 lines-of-requires c κs =
     let e = c .before .before .before .before .before .before .before .before .before .before .before .before .before .before .before .before .before .before .before .before .before .before .before .before .before .before .before .before .before .before .before .before .before .before .before .before in
@@ -212,23 +189,18 @@ lines-of-requires c κs =
     let b₄ = after4 (a .text .now) (a .header) (a .past) (a .first) (a .fields .now) (a .directory .now) (s .pre .1 .0) (s .pre .0) (e .known .result) (e .known .ensures) (n₃ .0 .0) _ _ b₃ (r₄ .result) _ (r₄ .ensures) (n₄ .0 .0) (n₄ .1) in
     (b₄ .next, made-known (a .header) 0 (e .known .ensures))
 
--- src/lib.rt:282:23
 enum-known-next-5 : tie.Need-enum-known-next-5
 enum-known-next-5 c = search needs
 
--- src/lib.rt:283:26
 enum-known-answer-5 : tie.Need-enum-known-answer-5
 enum-known-answer-5 c = search needs
 
--- src/lib.rt:283:38
 same-length-8 : tie.Need-same-length-8
 same-length-8 c = c .before .before .before .before .before .lines-of .kept .1 .1 .1 .1 .1 .1 .0 ∙ c .before .before .before .before .before .before .before .before .before .before .before .before .one-line2 .kept .1 .1 .1 .1 .1 .0 ∙ c .before .before .before .before .before .before .before .before .before .before .before .before .before .before .before .before .before .before .before .before .before .methods .kept .1 .1 .1 .1 .0 ∙ c .before .before .before .before .before .before .before .before .before .before .before .before .before .before .before .before .before .before .before .before .before .before .before .before .before .before .before .before .before .before .before .actions .kept .1 .1 .1 .1 .0 ∙ c .before .before .before .before .before .before .before .before .before .before .before .before .before .before .before .before .before .before .before .before .before .before .before .before .before .before .before .before .before .before .before .before .before .before .before .before .before .before .before .one-line .kept .1 .1 .1 .1 .1 .0
 
--- src/lib.rt:283:38
 same-length-9 : tie.Need-same-length-9
 same-length-9 c = c .before .before .before .before .before .before .before .before .before .before .before .before .before .before .before .before .before .before .before .before .before .methods .kept .1 .1 .1 .1 .1 .0 ∙ c .before .before .before .before .before .before .before .before .before .before .before .before .before .before .before .before .before .before .before .before .before .before .before .before .before .before .before .before .before .before .before .actions .kept .1 .1 .1 .1 .1 .0
 
--- src/lib.rt:283:38
 returns-5 : tie.Need-returns-5
 returns-5 c =
     let e = c .before .before .before .before .before .before .before .before .before .before .before .before .before .before .before .before .before .before .before .before .before .before .before .before .before .before .before .before .before .before .before .before .before .before .before .before .before .before .before .before .before .before in
@@ -250,19 +222,15 @@ returns-5 c =
     let x = c .before .answer5 .given in
     refused5 (a .text .now) (a .header) (a .past) (a .first) (a .fields .now) (a .directory .now) (s .pre .1 .0) (s .pre .0) (e .known .result) (e .known .ensures) (n₃ .0 .0) (n₄ .0 .0) _ _ b₄ (r₅ .result) _ (r₅ .ensures) (x .0 .0) (x .1) _ _
 
--- src/lib.rt:285:5
 whole-requires : tie.Need-whole-requires
 whole-requires c κs = search needs
 
--- src/lib.rt:249:1
 same-length-10 : tie.Need-same-length-10
 same-length-10 c = c .before .before .before .before .before .before .lines-of .kept .1 .1 .1 .1 .1 .1 .0 ∙ c .before .before .before .before .before .before .before .before .before .before .before .before .before .one-line2 .kept .1 .1 .1 .1 .1 .0 ∙ c .before .before .before .before .before .before .before .before .before .before .before .before .before .before .before .before .before .before .before .before .before .before .methods .kept .1 .1 .1 .1 .0 ∙ c .before .before .before .before .before .before .before .before .before .before .before .before .before .before .before .before .before .before .before .before .before .before .before .before .before .before .before .before .before .before .before .before .actions .kept .1 .1 .1 .1 .0 ∙ c .before .before .before .before .before .before .before .before .before .before .before .before .before .before .before .before .before .before .before .before .before .before .before .before .before .before .before .before .before .before .before .before .before .before .before .before .before .before .before .before .one-line .kept .1 .1 .1 .1 .1 .0
 
--- src/lib.rt:249:1
 same-length-11 : tie.Need-same-length-11
 same-length-11 c = c .before .before .before .before .before .before .before .before .before .before .before .before .before .before .before .before .before .before .before .before .before .before .methods .kept .1 .1 .1 .1 .1 .0 ∙ c .before .before .before .before .before .before .before .before .before .before .before .before .before .before .before .before .before .before .before .before .before .before .before .before .before .before .before .before .before .before .before .before .actions .kept .1 .1 .1 .1 .1 .0
 
--- src/lib.rt:249:1
 returns-6 : tie.Need-returns-6
 returns-6 c =
     let e = c .before .before .before .before .before .before .before .before .before .before .before .before .before .before .before .before .before .before .before .before .before .before .before .before .before .before .before .before .before .before .before .before .before .before .before .before .before .before .before .before .before .before .before in

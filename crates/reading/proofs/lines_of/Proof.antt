@@ -19,7 +19,6 @@ Inv-loop text past due x count fields₀ at₀ i₀ fields at i =
 abbrev μ-loop : tie.MeasureT-loop
 μ-loop text past due x count fields₀ at₀ i₀ fields at i = count - i
 
--- src/lib.rt:111:5
 loop-holds : tie.Need-loop-holds Inv-loop μ-loop
 loop-holds c =
     let s = c .before .before in
@@ -27,23 +26,18 @@ loop-holds c =
     let one = valuedLine (a .text .now) (headerIn (a .x .now)) (roleOf (a .due)) (getD (a .x .now) 7 0) in
     begins (a .text .now) (a .past) lineFields one (a .count) (a .from) (a .fields .now) (s .pre .0)
 
--- src/lib.rt:112:15
 next-line-requires : tie.Need-next-line-requires Inv-loop μ-loop
 next-line-requires c κs = (c .before .before .loop .inv .due, c .before .before .before .before .before .pre .1)
 
--- src/lib.rt:113:27
 enum-known-next : tie.Need-enum-known-next Inv-loop μ-loop
 enum-known-next c = search needs
 
--- src/lib.rt:115:17
 add-i : tie.Need-add-i Inv-loop μ-loop
 add-i c = search needs
 
--- src/lib.rt:111:5
 loop-less : tie.Need-loop-less Inv-loop μ-loop
 loop-less c = search needs
 
--- src/lib.rt:111:5
 loop-again : tie.Need-loop-again Inv-loop μ-loop
 loop-again c =
     let s = c .before .before .before .before .before .before .before .before .before .before .before in
@@ -54,15 +48,12 @@ loop-again c =
     let n = c .before .next .given in
     goes-on (a .text .now) (a .past) lineFields one (a .count) (a .from) (a .fields .now) (line-goes (a .text .now) (headerIn (a .x .now)) (roleOf (a .due)) (getD (a .x .now) 7 0)) (l .at) (l .fields) (l .i) (l .inv) (c .before .before .before .before .before .before .before .loop-test .taken) (r .result) _ (r .ensures) (n .0 .0) (n .1)
 
--- src/lib.rt:117:30
 enum-known-answer : tie.Need-enum-known-answer Inv-loop μ-loop
 enum-known-answer c = search needs
 
--- src/lib.rt:117:42
 same-length : tie.Need-same-length Inv-loop μ-loop
 same-length c = c .before .before .before .before .before .next-line .kept .1 .1 .1 .1 .1 .0 ∙ c .before .before .before .before .before .before .before .before .loop .inv .kept
 
--- src/lib.rt:117:42
 returns : tie.Need-returns Inv-loop μ-loop
 returns c =
     let s = c .before .before .before .before .before .before .before .before .before .before .before in
@@ -73,11 +64,9 @@ returns c =
     let e = c .before .answer .given in
     stops (a .text .now) (a .past) lineFields one (a .count) (a .from) (a .fields .now) (line-goes (a .text .now) (headerIn (a .x .now)) (roleOf (a .due)) (getD (a .x .now) 7 0)) (l .at) (l .fields) (l .i) (l .inv) (c .before .before .before .before .before .before .before .loop-test .taken) (r .result) _ (r .ensures) (e .0 .0) (e .1) _
 
--- src/lib.rt:97:1
 same-length-2 : tie.Need-same-length-2 Inv-loop μ-loop
 same-length-2 c = c .before .loop .inv .kept
 
--- src/lib.rt:97:1
 returns-2 : tie.Need-returns-2 Inv-loop μ-loop
 returns-2 c =
     let s = c .before .before .before .before in

@@ -19,14 +19,12 @@ Inv-loop text past x fields₀ directory₀ count at₀ i₀ fields directory at
 abbrev μ-loop : tie.MeasureT-loop
 μ-loop text past x fields₀ directory₀ count at₀ i₀ fields directory at i = count - i
 
--- src/lib.rt:194:17
 element-copy-out-count : tie.Need-element-copy-out-count Inv-loop μ-loop
 element-copy-out-count c = search needs
 
 cast-count : tie.Need-cast-count Inv-loop μ-loop
 cast-count c = search needs
 
--- src/lib.rt:197:5
 loop-holds : tie.Need-loop-holds Inv-loop μ-loop
 loop-holds c =
     let s = c .before .before .before .before in
@@ -34,16 +32,13 @@ loop-holds c =
     let one = oneMethod (a .text .now) (headerIn (a .x .now)) in
     list-begins (a .text .now) (a .past) methodFields one (getD (a .x .now) 3 0) (a .from) (a .fields .now) methodsFrom (a .directory .now) (s .pre .0)
 
--- src/lib.rt:199:15
 one-method-requires : tie.Need-one-method-requires Inv-loop μ-loop
 one-method-requires c κs =
     let p = c .before .before .before .before .before .before .before .pre .1 in (c .before .before .loop .inv .progress .due, (p .0 .2, p .1))
 
--- src/lib.rt:200:27
 enum-known-next : tie.Need-enum-known-next Inv-loop μ-loop
 enum-known-next c = search needs
 
--- src/lib.rt:201:47
 cast-directory : tie.Need-cast-directory Inv-loop μ-loop
 cast-directory c =
     let d = c .before .before .before .before .before .before .before .before .loop .inv .progress .due in
@@ -52,7 +47,6 @@ cast-directory c =
     let z = d .short in
     omega arith
 
--- src/lib.rt:201:27
 add-directory : tie.Need-add-directory Inv-loop μ-loop
 unfolding directorySize
 add-directory c =
@@ -61,7 +55,6 @@ add-directory c =
     let t = c .before .before .before .before .before .before .before .loop-test .taken in
     omega (arith, p .0, p .1)
 
--- src/lib.rt:201:17
 mul-directory : tie.Need-mul-directory Inv-loop μ-loop
 unfolding directorySize
 mul-directory c =
@@ -70,7 +63,6 @@ mul-directory c =
     let t = c .before .before .before .before .before .before .before .loop-test .taken in
     omega (arith, p .0, p .1)
 
--- src/lib.rt:201:17
 slice-write-directory : tie.Need-slice-write-directory Inv-loop μ-loop
 unfolding directorySize
 slice-write-directory c =
@@ -79,15 +71,12 @@ slice-write-directory c =
     let t = c .before .before .before .before .before .before .before .loop-test .taken in
     omega (arith, p .0, p .1)
 
--- src/lib.rt:203:17
 add-i : tie.Need-add-i Inv-loop μ-loop
 add-i c = search needs
 
--- src/lib.rt:197:5
 loop-less : tie.Need-loop-less Inv-loop μ-loop
 loop-less c = search needs
 
--- src/lib.rt:197:5
 loop-again : tie.Need-loop-again Inv-loop μ-loop
 unfolding methodsFrom
 loop-again c =
@@ -99,19 +88,15 @@ loop-again c =
     let n = c .before .next .given in
     list-goes-on (a .text .now) (a .past) methodFields one (getD (a .x .now) 3 0) (a .from) (a .fields .now) (method-goes (a .text .now) (headerIn (a .x .now))) (l .at) (l .fields) (l .i) (l .inv .progress) (c .before .before .before .before .before .before .before .loop-test .taken) (r .result) _ (r .ensures) methodsFrom (a .directory .now) (l .directory) (l .inv .size) (l .inv .placed) (n .0 .0) (methodsFrom + l .i) (n .1) (omega arith)
 
--- src/lib.rt:205:30
 enum-known-answer : tie.Need-enum-known-answer Inv-loop μ-loop
 enum-known-answer c = search needs
 
--- src/lib.rt:205:42
 same-length : tie.Need-same-length Inv-loop μ-loop
 same-length c = c .before .before .before .before .before .one-method .kept .1 .1 .1 .1 .0 ∙ c .before .before .before .before .before .before .before .before .loop .inv .progress .kept
 
--- src/lib.rt:205:42
 same-length-2 : tie.Need-same-length-2 Inv-loop μ-loop
 same-length-2 c = c .before .before .before .before .before .before .before .before .loop .inv .size
 
--- src/lib.rt:205:42
 returns : tie.Need-returns Inv-loop μ-loop
 unfolding methodsFrom
 returns c =
@@ -125,15 +110,12 @@ returns c =
       list-stops (a .text .now) (a .past) methodFields one (getD (a .x .now) 3 0) (a .from) (a .fields .now) (method-goes (a .text .now) (headerIn (a .x .now))) (l .at) (l .fields) (l .i) (l .inv .progress) (c .before .before .before .before .before .before .before .loop-test .taken) (r .result) _ (r .ensures) methodsFrom (a .directory .now) (l .directory) (l .inv .size) (l .inv .placed) (e .0 .0) (e .1) _,
     )
 
--- src/lib.rt:181:1
 same-length-3 : tie.Need-same-length-3 Inv-loop μ-loop
 same-length-3 c = c .before .loop .inv .progress .kept
 
--- src/lib.rt:181:1
 same-length-4 : tie.Need-same-length-4 Inv-loop μ-loop
 same-length-4 c = c .before .loop .inv .size
 
--- src/lib.rt:181:1
 returns-2 : tie.Need-returns-2 Inv-loop μ-loop
 unfolding methodsFrom
 returns-2 c =

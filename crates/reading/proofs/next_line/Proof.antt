@@ -13,11 +13,9 @@ use borrow.Author.Needs.{needs}
 use Rattle.reading.proofs.next_line.Statement.{statement}
 use Rattle.reading.proofs.next_line.Tie as tie
 
--- src/lib.rt:92:9
 read-line-requires : tie.Need-read-line-requires
 read-line-requires c κs = search needs
 
--- src/lib.rt:93:5
 after-requires : tie.Need-after-requires
 after-requires c κs =
     let s = c .before .before .before .before .before .before in
@@ -29,11 +27,9 @@ after-requires c κs =
           (line-within (a .text .now) (a .at .from) (roleOf (a .due)) (headerIn (a .x .now)) (getD (a .x .now) 7 0) (a .at .start .at) (d .ahead)) (r .ensures),
     )
 
--- src/lib.rt:79:1
 same-length : tie.Need-same-length
 same-length c = search needs
 
--- src/lib.rt:79:1
 returns : tie.Need-returns
 unfolding oneLine
 returns c =

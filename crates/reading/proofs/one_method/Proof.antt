@@ -12,23 +12,18 @@ use borrow.Author.Needs.{needs}
 use Rattle.reading.proofs.one_method.Statement.{statement}
 use Rattle.reading.proofs.one_method.Tie as tie
 
--- src/lib.rt:133:11
 one-line-requires : tie.Need-one-line-requires
 one-line-requires c κs = search needs
 
--- src/lib.rt:134:23
 enum-known-next : tie.Need-enum-known-next
 enum-known-next c = search needs
 
--- src/lib.rt:136:35
 add-subtasks : tie.Need-add-subtasks
 add-subtasks c = search needs
 
--- src/lib.rt:136:28
 mul-subtasks : tie.Need-mul-subtasks
 mul-subtasks c = search needs
 
--- src/lib.rt:136:28
 slice-read-subtasks : tie.Need-slice-read-subtasks
 slice-read-subtasks c =
     let s = c .before .before .before .before .before .before .before .before .before .before in
@@ -38,7 +33,6 @@ slice-read-subtasks c =
     let n = c .before .before .next .given in
     inside-fields (a .text .now) (headerIn (a .x .now)) (a .past) (a .at) (n .0 .0) (a .fields .now) _ (r .result) (s .pre .0) read (n .1) .0
 
--- src/lib.rt:137:32
 sub-count : tie.Need-sub-count
 sub-count c =
     let s = c .before .before .before .before .before .before .before .before .before .before .before in
@@ -48,7 +42,6 @@ sub-count c =
     let n = c .before .before .before .next .given in
     inside-fields (a .text .now) (headerIn (a .x .now)) (a .past) (a .at) (n .0 .0) (a .fields .now) _ (r .result) (s .pre .0) read (n .1) .1
 
--- src/lib.rt:137:25
 mul-count : tie.Need-mul-count
 mul-count c =
     let s = c .before .before .before .before .before .before .before .before .before .before .before in
@@ -60,7 +53,6 @@ mul-count c =
     let l = r .kept .1 .1 .1 .1 .1 .0 in
     omega arith
 
--- src/lib.rt:137:25
 slice-read-count : tie.Need-slice-read-count
 slice-read-count c =
     let s = c .before .before .before .before .before .before .before .before .before .before .before .before in
@@ -79,7 +71,6 @@ with-subtasks-requires c κs =
     let n = c .before .before .before .before .next .given in
     (few-read (a .text .now) (headerIn (a .x .now)) (a .past) (a .at) (n .0 .0) (a .fields .now) _ (r .result) (s .pre .0) read (n .1), s .pre .1 .1)
 
--- src/lib.rt:139:13
 lines-of-requires : tie.Need-lines-of-requires
 lines-of-requires c κs =
     let s = c .before .before .before .before .before .before .before .before .before .before .before .before .before .before .before .before in
@@ -92,15 +83,12 @@ lines-of-requires c κs =
     (line-goes (a .text .now) (headerIn (a .x .now)) T.method 0 (a .at .line) (a .at .start .at) (a .at .from) (s .pre .0 .ahead) (s .pre .0 .inside)) read (n .1) in
     (due, made-known (headerIn (a .x .now)) _ (c .before .before .before .with-subtasks .ensures))
 
--- src/lib.rt:141:26
 enum-known-answer : tie.Need-enum-known-answer
 enum-known-answer c = search needs
 
--- src/lib.rt:124:1
 same-length : tie.Need-same-length
 same-length c = search needs
 
--- src/lib.rt:124:1
 returns : tie.Need-returns
 returns c =
     let s = c .before .before .before .before .before .before .before .before .before .before .before .before .before .before .before .before .before .before .before in
@@ -111,11 +99,9 @@ returns c =
     let own = c .before .before .before .before .before .before .with-subtasks in
     method-left (a .text .now) (headerIn (a .x .now)) (a .past) (a .at) (n .0 .0) (a .fields .now) _ (r .result) (s .pre .0) read (n .1) (own .result) (own .ensures) _ _ (c .before .before .lines-of .ensures)
 
--- src/lib.rt:124:1
 same-length-2 : tie.Need-same-length-2
 same-length-2 c = search needs
 
--- src/lib.rt:124:1
 returns-2 : tie.Need-returns-2
 returns-2 c =
     let s = c .before .before .before .before .before .before .before .before .before in

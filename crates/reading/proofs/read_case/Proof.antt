@@ -8,7 +8,6 @@ use borrow.Author.Needs.{needs}
 use Rattle.reading.proofs.read_case.Statement.{statement}
 use Rattle.reading.proofs.read_case.Tie as tie
 
--- src/lib.rt:294:9
 past-last-feed-requires : tie.Need-past-last-feed-requires
 past-last-feed-requires c κs = search needs
 
@@ -18,7 +17,6 @@ known-requires c κs = search needs
 new-requires : tie.Need-new-requires
 new-requires c κs = search needs
 
--- src/lib.rt:315:11
 one-line-requires : tie.Need-one-line-requires
 unfolding noHeader
 one-line-requires c κs =
@@ -29,11 +27,9 @@ one-line-requires c κs =
     let z = c .before .before .new in
     (start-due (a .text .now) (f .result) (a .fields .now) (a .directory .now) (f .ensures .0) (s .pre .0) (s .pre .1) (s .pre .2) (z .result) (z .ensures), made-known noHeader 0 (k .ensures))
 
--- src/lib.rt:316:23
 enum-known-next : tie.Need-enum-known-next
 enum-known-next c = search needs
 
--- src/lib.rt:317:17
 header-of-requires : tie.Need-header-of-requires
 unfolding noHeader
 header-of-requires c κs =
@@ -46,7 +42,6 @@ header-of-requires c κs =
     let n = c .before .before .next .given in
     header-room (a .text .now) (f .result) (a .fields .now) (a .directory .now) (f .ensures .0) (s .pre .0) (s .pre .1) (s .pre .2) (r .result) _ (first-left (a .text .now) (f .result) (a .fields .now) (a .directory .now) (f .ensures .0) (s .pre .0) (s .pre .1) (s .pre .2) (z .result) (z .ensures) (k .result) (k .ensures) (r .result) _ (r .ensures)) (n .0 .0) (n .1)
 
--- src/lib.rt:318:13
 body-requires : tie.Need-body-requires
 unfolding noHeader
 body-requires c κs =
@@ -61,19 +56,15 @@ body-requires c κs =
     let h = c .before .before .header-of in
     (body-due (a .text .now) (f .result) (a .fields .now) (a .directory .now) (f .ensures .0) (s .pre .0) (s .pre .1) (s .pre .2) (r .result) _ q (n .0 .0) (n .1), (subst GoodHeader (sym (h .ensures ∙ header-is (a .text .now) (f .result) (a .fields .now) (a .directory .now) (f .ensures .0) (s .pre .0) (s .pre .1) (s .pre .2) (r .result) _ q (n .0 .0) (n .1))) (good (a .text .now) (f .result) (a .fields .now) (a .directory .now) (f .ensures .0) (s .pre .0) (s .pre .1) (s .pre .2) (r .result) _ q (n .0 .0) (n .1)), s .pre .2))
 
--- src/lib.rt:320:26
 enum-known-answer : tie.Need-enum-known-answer
 enum-known-answer c = search needs
 
--- src/lib.rt:290:1
 same-length : tie.Need-same-length
 same-length c = search needs
 
--- src/lib.rt:290:1
 same-length-2 : tie.Need-same-length-2
 same-length-2 c = search needs
 
--- src/lib.rt:290:1
 returns : tie.Need-returns
 unfolding noHeader
 returns c =
@@ -88,11 +79,9 @@ returns c =
     let h = c .before .before .before .before .before .before .before .header-of in
     case-read (a .text .now) (f .result) (a .fields .now) (a .directory .now) (f .ensures .0) (s .pre .0) (s .pre .1) (s .pre .2) (r .result) _ q (n .0 .0) (n .1) (h .result) (h .ensures) _ _ _ (c .before .before .before .before .body .ensures)
 
--- src/lib.rt:290:1
 same-length-3 : tie.Need-same-length-3
 same-length-3 c = search needs
 
--- src/lib.rt:290:1
 returns-2 : tie.Need-returns-2
 unfolding noHeader
 returns-2 c =

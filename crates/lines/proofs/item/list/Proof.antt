@@ -14,19 +14,15 @@ use mathlib.Core.Bool.{_&&_}
 use mathlib.Core.Path.{sym, _∙_}
 use native.Mathlib.Omega.{arith}
 
--- src/item.rt:147:11
 take-number-requires : tie.Need-take-number-requires
 take-number-requires c κs = let p = c .before .before .pre .1 in (p .0 .feeds, (p .1 .0 .0, p .1 .1))
 
--- src/item.rt:148:25
 enum-known-value : tie.Need-enum-known-value
 enum-known-value c = search needs
 
--- src/item.rt:149:13
 mul-fields : tie.Need-mul-fields
 mul-fields c = search needs
 
--- src/item.rt:149:13
 slice-write-fields : tie.Need-slice-write-fields
 slice-write-fields c =
     let e = c .before .before .before .before .before .before in
@@ -35,15 +31,12 @@ slice-write-fields c =
     (λ w. leb 0 w && inKind (e .args .x .now) (e .args .before .now) (e .args .counts) w) (v .0) (v .1 .0) (e .pre .1 .0)
     (sym (c .before .value .given .1) ∙ c .before .before .before .take-number .ensures)
 
--- src/item.rt:150:57
 add-members : tie.Need-add-members
 add-members c = search needs
 
--- src/item.rt:150:76
 add-members-2 : tie.Need-add-members-2
 add-members-2 c = search needs
 
--- src/item.rt:150:13
 members-requires : tie.Need-members-requires
 members-requires c κs =
     let e = c .before .before .before .before .before .before .before in
@@ -54,15 +47,12 @@ members-requires c κs =
     (set (e .args .fields .now) (e .args .from) (v .0)) (length-set (e .args .fields .now) (e .args .from) (v .0)) in
     (omega (arith, e .pre .0), (room, (e .pre .1 .1 .0 .1, e .pre .1 .1 .1)))
 
--- src/item.rt:152:23
 enum-told : tie.Need-enum-told
 enum-told c = search needs
 
--- src/item.rt:153:23
 enum-told-2 : tie.Need-enum-told-2
 enum-told-2 c = search needs
 
--- src/item.rt:132:1
 same-length : tie.Need-same-length
 same-length c =
     let a = c .before .before .before .before .before .before .before .before .before .before .args in

@@ -25,7 +25,6 @@ Inv-loop text x before kind count field fields₀ from at₀ low₀ i₀ fields 
 abbrev μ-loop : tie.MeasureT-loop
 μ-loop text x before kind count field fields₀ from at₀ low₀ i₀ fields at low i = count - i
 
--- src/item.rt:104:5
 loop-holds : tie.Need-loop-holds Inv-loop μ-loop
 loop-holds c =
     let a = c .before .before .args in
@@ -39,27 +38,21 @@ loop-holds c =
           transport (λ j. MembersLeft 0 (f j) (a .fields .now) (readMembers (a .text .now) (inKind (a .x .now) (a .before .now) (a .kind)) (eqb (a .kind) 11) (n j) 0 (g j) (a .c .at)) r u) h,
     )
 
--- src/item.rt:105:15
 take-number-requires : tie.Need-take-number-requires Inv-loop μ-loop
 take-number-requires c κs = (c .before .loop .inv .2 .feeds, c .before .before .before .before .pre .1 .1)
 
--- src/item.rt:106:29
 enum-known-value : tie.Need-enum-known-value Inv-loop μ-loop
 enum-known-value c = search needs
 
--- src/item.rt:107:31
 cast-fields : tie.Need-cast-fields Inv-loop μ-loop
 cast-fields c = search needs
 
--- src/item.rt:107:24
 add-fields : tie.Need-add-fields Inv-loop μ-loop
 add-fields c = search needs
 
--- src/item.rt:107:17
 mul-fields : tie.Need-mul-fields Inv-loop μ-loop
 mul-fields c = search needs
 
--- src/item.rt:107:17
 slice-write-fields : tie.Need-slice-write-fields Inv-loop μ-loop
 slice-write-fields c =
     let a = c .before .before .before .before .before .before .before .before .args in
@@ -68,19 +61,15 @@ slice-write-fields c =
     room-here (a .text .now) (l .fields) (a .from + l .i) (l .at .at) (λ w. leb (l .low) w && inKind (a .x .now) (a .before .now) (a .kind) w) (v .0) (v .1 .0) (l .inv .2)
     (sym (c .before .value .given .1) ∙ c .before .before .before .take-number .ensures)
 
--- src/item.rt:108:17
 least-after-requires : tie.Need-least-after-requires Inv-loop μ-loop
 least-after-requires c κs = search needs
 
--- src/item.rt:110:17
 add-i : tie.Need-add-i Inv-loop μ-loop
 add-i c = search needs
 
--- src/item.rt:104:5
 loop-less : tie.Need-loop-less Inv-loop μ-loop
 loop-less c = search needs
 
--- src/item.rt:104:5
 loop-again : tie.Need-loop-again Inv-loop μ-loop
 loop-again c =
     let a = c .before .before .before .before .before .before .before .before .before .args in
@@ -103,23 +92,18 @@ loop-again c =
           (subst (λ (k : ℕ). MembersLeft (l .i + 1) k (set (l .fields) (a .from + l .i) (v .0)) (readMembers (a .text .now) ok (eqb (a .kind) 11) (a .count - (l .i + 1)) (c .least-after .result) (a .field + (l .i + 1)) (v .1 .0 .at)) r u) put h)),
     )
 
--- src/item.rt:114:36
 enum-told : tie.Need-enum-told Inv-loop μ-loop
 enum-told c = search needs
 
--- src/item.rt:114:36
 cast-t21 : tie.Need-cast-t21 Inv-loop μ-loop
 cast-t21 c = search needs
 
--- src/item.rt:114:28
 add-t22 : tie.Need-add-t22 Inv-loop μ-loop
 add-t22 c = search needs
 
--- src/item.rt:113:17
 same-length : tie.Need-same-length Inv-loop μ-loop
 same-length c = search needs
 
--- src/item.rt:113:17
 returns : tie.Need-returns Inv-loop μ-loop
 returns c =
     let a = c .before .before .before .before .before .before .before .args in
@@ -128,23 +112,18 @@ returns c =
     (members-bad (a .text .now) (inKind (a .x .now) (a .before .now) (a .kind)) (eqb (a .kind) 11) (l .i) (a .from + l .i) (l .fields) (a .count - l .i) (a .count - (l .i + 1))
     (l .low) (a .field + l .i) (l .at .at) (omega arith) (l .fields) (sym (c .enum-told .given .1) ∙ c .before .before .take-number .ensures))
 
--- src/item.rt:119:36
 enum-told-2 : tie.Need-enum-told-2 Inv-loop μ-loop
 enum-told-2 c = search needs
 
--- src/item.rt:119:36
 cast-t23 : tie.Need-cast-t23 Inv-loop μ-loop
 cast-t23 c = search needs
 
--- src/item.rt:119:28
 add-t24 : tie.Need-add-t24 Inv-loop μ-loop
 add-t24 c = search needs
 
--- src/item.rt:118:17
 same-length-2 : tie.Need-same-length-2 Inv-loop μ-loop
 same-length-2 c = search needs
 
--- src/item.rt:118:17
 returns-2 : tie.Need-returns-2 Inv-loop μ-loop
 returns-2 c =
     let a = c .before .before .before .before .before .before .before .args in
@@ -153,19 +132,15 @@ returns-2 c =
     (members-out (a .text .now) (inKind (a .x .now) (a .before .now) (a .kind)) (eqb (a .kind) 11) (l .i) (a .from + l .i) (l .fields) (a .count - l .i) (a .count - (l .i + 1))
     (l .low) (a .field + l .i) (l .at .at) (omega arith) (l .fields) (sym (c .enum-told2 .given .1) ∙ c .before .before .take-number .ensures))
 
--- src/item.rt:126:24
 cast-t25 : tie.Need-cast-t25 Inv-loop μ-loop
 cast-t25 c = search needs
 
--- src/item.rt:126:16
 add-t26 : tie.Need-add-t26 Inv-loop μ-loop
 add-t26 c = search needs
 
--- src/item.rt:86:1
 same-length-3 : tie.Need-same-length-3 Inv-loop μ-loop
 same-length-3 c = search needs
 
--- src/item.rt:86:1
 returns-3 : tie.Need-returns-3 Inv-loop μ-loop
 returns-3 c =
     let a = c .before .before .before .before .args in

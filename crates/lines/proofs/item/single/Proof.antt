@@ -12,19 +12,15 @@ use lib.Dec.{leb}
 use mathlib.Core.Bool.{_&&_}
 use mathlib.Core.Path.{refl, sym, _∙_}
 
--- src/item.rt:171:11
 take-number-requires : tie.Need-take-number-requires
 take-number-requires c κs = let p = c .before .before .pre .1 in (p .0 .feeds, p .1)
 
--- src/item.rt:172:25
 enum-known-value : tie.Need-enum-known-value
 enum-known-value c = search needs
 
--- src/item.rt:173:13
 mul-fields : tie.Need-mul-fields
 mul-fields c = search needs
 
--- src/item.rt:173:13
 slice-write-fields : tie.Need-slice-write-fields
 slice-write-fields c =
     let e = c .before .before .before .before .before .before in
@@ -33,19 +29,15 @@ slice-write-fields c =
     (λ w. leb 0 w && inKind (e .args .x .now) (e .args .before .now) (e .args .kind) w) (v .0) (v .1 .0) (e .pre .1 .0)
     (sym (c .before .value .given .1) ∙ c .before .before .before .take-number .ensures)
 
--- src/item.rt:176:24
 add-t13 : tie.Need-add-t13
 add-t13 c = search needs
 
--- src/item.rt:180:23
 enum-told : tie.Need-enum-told
 enum-told c = search needs
 
--- src/item.rt:181:23
 enum-told-2 : tie.Need-enum-told-2
 enum-told-2 c = search needs
 
--- src/item.rt:157:1
 same-length : tie.Need-same-length
 same-length c = search needs
 

@@ -8,30 +8,24 @@ use borrow.Author.Needs.{needs}
 use Rattle.lines.proofs.line.finished.Statement.{statement}
 use Rattle.lines.proofs.line.finished.Tie as tie
 
--- src/line.rt:60:11
 line-end-requires : tie.Need-line-end-requires
 line-end-requires c κs = c .before .pre .1
 
--- src/line.rt:61:24
 enum-known-next : tie.Need-enum-known-next
 enum-known-next c = search needs
 
--- src/line.rt:62:21
 sub-t7 : tie.Need-sub-t7
 sub-t7 c = search needs
 
--- src/line.rt:65:28
 enum-told : tie.Need-enum-told
 enum-told c = search needs
 
--- src/line.rt:56:1
 returns : tie.Need-returns
 returns c =
     let a = c .before .before .before .before .before .args in
     finish-read (a .field - 1) (a .field) (endingAt (a .text .now) (a .c .at)) (Line (c .before .next .given .0 .0))
     (sym (c .before .next .given .1) ∙ c .before .before .before .line-end .ensures)
 
--- src/line.rt:56:1
 returns-2 : tie.Need-returns-2
 returns-2 c =
     let a = c .before .before .before .before .args in

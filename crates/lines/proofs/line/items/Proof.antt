@@ -18,19 +18,15 @@ abbrev μ-loop : tie.MeasureT-loop
 μ-loop text x letter shape fields₀ from at₀ values₀ field₀ rest₀ i₀ fields at values field rest i =
     7 - i
 
--- src/line.rt:88:5
 loop-holds : tie.Need-loop-holds Inv-loop μ-loop
 loop-holds c = let a = c .before .before .args in begins (a .text .now) (a .x .now) (a .letter) (a .shape) (a .from) (a .c) (a .fields .now) (c .before .before .pre .1 .0) (c .before .before .pre .0)
 
--- src/line.rt:89:27
 sub-put : tie.Need-sub-put Inv-loop μ-loop
 sub-put c = let p = c .before .loop .inv .second in omega arith
 
--- src/line.rt:89:19
 add-put : tie.Need-add-put Inv-loop μ-loop
 add-put c = let p = c .before .loop .inv .room .ahead in let q = c .before .loop .inv .room .inside in let r = c .before .loop .inv .room .short in omega arith
 
--- src/line.rt:90:15
 read-item-requires : tie.Need-read-item-requires Inv-loop μ-loop
 read-item-requires c κs =
     let a = c .before .before .before .before .before .before .args in
@@ -38,27 +34,21 @@ read-item-requires c κs =
     let room = item-room (a .text .now) (a .x .now) (a .letter) (a .shape) (a .from) (a .c) (a .fields .now) (l .at) (l .values) (l .field) (l .rest) (l .i) (l .fields) (l .inv) (c .before .before .loop-test .taken) in
     (room .0, (room .1, c .before .before .before .before .before .before .pre .1 .1))
 
--- src/line.rt:92:17
 enum-known-value : tie.Need-enum-known-value Inv-loop μ-loop
 enum-known-value c = search needs
 
--- src/line.rt:96:17
 mul-values : tie.Need-mul-values Inv-loop μ-loop
 mul-values c = let l = c .before .before .before .before .before .before .before .before .before .loop in let h = more-items (l .i) (l .rest) (l .inv .small) (c .before .before .before .before .before .before .before .before .loop-test .taken) in omega arith
 
--- src/line.rt:96:17
 array-write-values : tie.Need-array-write-values Inv-loop μ-loop
 array-write-values c = let l = c .before .before .before .before .before .before .before .before .before .loop in let h = more-items (l .i) (l .rest) (l .inv .small) (c .before .before .before .before .before .before .before .before .loop-test .taken) in omega arith
 
--- src/line.rt:100:17
 add-i : tie.Need-add-i Inv-loop μ-loop
 add-i c = let p = c .before .before .before .before .before .before .before .before .before .loop .inv .most in omega arith
 
--- src/line.rt:88:5
 loop-less : tie.Need-loop-less Inv-loop μ-loop
 loop-less c = let l = c .before .before .before .before .before .before .before .before .before .loop in let h = more-items (l .i) (l .rest) (l .inv .small) (c .before .before .before .before .before .before .before .before .loop-test .taken) in omega arith
 
--- src/line.rt:88:5
 loop-again : tie.Need-loop-again Inv-loop μ-loop
 loop-again c =
     let a = c .before .before .before .before .before .before .before .before .before .before .before .before .args in
@@ -68,15 +58,12 @@ loop-again c =
     (v .0) (v .1 .0) (v .1 .1 .0) _
     (item-told (itemOf (l .rest % 256)) (a .from + (l .field - 1)) (l .fields) (readItemIn (a .text .now) (a .x .now) (l .values) (itemOf (l .rest % 256)) (l .field) (l .at .at)) _ (c .before .value .given .1) (c .before .before .before .before .before .read-item .ensures))
 
--- src/line.rt:102:35
 enum-known-wrong : tie.Need-enum-known-wrong Inv-loop μ-loop
 enum-known-wrong c = search needs
 
--- src/line.rt:102:46
 same-length : tie.Need-same-length Inv-loop μ-loop
 same-length c = c .before .before .before .before .before .read-item .kept .1 .1 .1 .1 .1 .1 .0 ∙ c .before .before .before .before .before .before .before .before .before .loop .inv .kept
 
--- src/line.rt:102:46
 returns : tie.Need-returns Inv-loop μ-loop
 returns c =
     let a = c .before .before .before .before .before .before .before .before .before .before .before .before .args in
@@ -84,15 +71,12 @@ returns c =
     refused-bad (a .text .now) (a .x .now) (a .letter) (a .shape) (a .from) (a .c) (a .fields .now) (l .at) (l .values) (l .field) (l .rest) (l .i) (l .fields) (l .inv) (c .before .before .before .before .before .before .before .before .loop-test .taken) (c .before .wrong .given .0 .0) _ _
     (item-told (itemOf (l .rest % 256)) (a .from + (l .field - 1)) (l .fields) (readItemIn (a .text .now) (a .x .now) (l .values) (itemOf (l .rest % 256)) (l .field) (l .at .at)) _ (c .before .wrong .given .1) (c .before .before .before .before .before .read-item .ensures))
 
--- src/line.rt:103:37
 enum-known-wrong-2 : tie.Need-enum-known-wrong-2 Inv-loop μ-loop
 enum-known-wrong-2 c = search needs
 
--- src/line.rt:103:48
 same-length-2 : tie.Need-same-length-2 Inv-loop μ-loop
 same-length-2 c = c .before .before .before .before .before .read-item .kept .1 .1 .1 .1 .1 .1 .0 ∙ c .before .before .before .before .before .before .before .before .before .loop .inv .kept
 
--- src/line.rt:103:48
 returns-2 : tie.Need-returns-2 Inv-loop μ-loop
 returns-2 c =
     let a = c .before .before .before .before .before .before .before .before .before .before .before .before .args in
@@ -100,15 +84,12 @@ returns-2 c =
     refused-out (a .text .now) (a .x .now) (a .letter) (a .shape) (a .from) (a .c) (a .fields .now) (l .at) (l .values) (l .field) (l .rest) (l .i) (l .fields) (l .inv) (c .before .before .before .before .before .before .before .before .loop-test .taken) (c .before .wrong2 .given .0 .0) _ _
     (item-told (itemOf (l .rest % 256)) (a .from + (l .field - 1)) (l .fields) (readItemIn (a .text .now) (a .x .now) (l .values) (itemOf (l .rest % 256)) (l .field) (l .at .at)) _ (c .before .wrong2 .given .1) (c .before .before .before .before .before .read-item .ensures))
 
--- src/line.rt:106:5
 finished-requires : tie.Need-finished-requires Inv-loop μ-loop
 finished-requires c κs = let p = c .before .loop .inv .second in (omega arith, c .before .loop .inv .room .feeds)
 
--- src/line.rt:70:1
 same-length-3 : tie.Need-same-length-3 Inv-loop μ-loop
 same-length-3 c = c .before .before .loop .inv .kept
 
--- src/line.rt:70:1
 returns-3 : tie.Need-returns-3 Inv-loop μ-loop
 returns-3 c =
     let a = c .before .before .before .before .before .args in

@@ -7,29 +7,23 @@ use borrow.Author.Needs.{needs}
 use Rattle.replay.proofs.call.replay.Statement.{statement}
 use Rattle.replay.proofs.call.replay.Tie as tie
 
--- src/call.rt:120:5
 clear-requires : tie.Need-clear-requires
 clear-requires c κs = search needs
 
--- src/call.rt:121:9
 replay-lent-requires : tie.Need-replay-lent-requires
 replay-lent-requires c κs =
     let k = c .before .before .before .before .clear in
     k .ensures ∙ ap (λ (n : ℕ). replicate n 0) (sym (k .kept .0))
 
--- src/call.rt:122:5
 clear-work-requires : tie.Need-clear-work-requires
 clear-work-requires c κs = search needs
 
--- src/call.rt:117:1
 same-length : tie.Need-same-length
 same-length c = search needs
 
--- src/call.rt:117:1
 same-length-2 : tie.Need-same-length-2
 same-length-2 c = search needs
 
--- src/call.rt:117:1
 returns : tie.Need-returns
 unfolding workAfter
 returns c =

@@ -15,7 +15,6 @@ use borrow.Author.Needs.{needs}
 use Rattle.replay.proofs.call.replay_case.Statement.{statement}
 use Rattle.replay.proofs.call.replay_case.Tie as tie
 
--- src/call.rt:36:11
 run-requires : tie.Need-run-requires
 unfolding wordCount stateNeed
 run-requires c κs =
@@ -26,23 +25,18 @@ run-requires c κs =
     let room = p .1 .0 in
     (p .0, omega arith)
 
--- src/call.rt:37:21
 enum-told : tie.Need-enum-told
 enum-told c = search needs
 
--- src/call.rt:41:24
 enum-known-cue : tie.Need-enum-known-cue
 enum-known-cue c = search needs
 
--- src/call.rt:42:13
 clear-requires : tie.Need-clear-requires
 clear-requires c κs = search needs
 
--- src/call.rt:22:1
 same-length : tie.Need-same-length
 same-length c = search needs
 
--- src/call.rt:22:1
 returns : tie.Need-returns
 returns c =
     let s = c .before .before .before .before .before .before .before .before .before in
@@ -52,11 +46,9 @@ returns c =
     run-passes k (r .result) (a .states .now) _ (r .ensures k left) (a .header) (length (a .states .now)) (c .enum-told .given .1) (left .head) (s .pre .1 .1)
     (left-worded k (a .fields .now) (a .directory .now) (a .header) (a .initial) (a .plan) left)
 
--- src/call.rt:22:1
 same-length-2 : tie.Need-same-length-2
 same-length-2 c = search needs
 
--- src/call.rt:22:1
 returns-2 : tie.Need-returns-2
 returns-2 c =
     let s = c .before .before .before .before .before .before .before .before .before .before .before .before .before .before in

@@ -11,7 +11,6 @@ use borrow.Author.Needs.{needs}
 use Rattle.replay.proofs.call.replay_fields.Statement.{statement}
 use Rattle.replay.proofs.call.replay_fields.Tie as tie
 
--- src/call.rt:59:11
 read-case-requires : tie.Need-read-case-requires
 unfolding workNeed textMost directorySize
 read-case-requires c κs =
@@ -20,11 +19,9 @@ read-case-requires c κs =
     let short = p .1 .0 in
     (omega arith, p .1 .1 .1, omega arith)
 
--- src/call.rt:61:13
 enum-known-header : tie.Need-enum-known-header
 enum-known-header c = search needs
 
--- src/call.rt:66:14
 replay-case-requires : tie.Need-replay-case-requires
 unfolding workNeed directorySize
 replay-case-requires c κs =
@@ -38,23 +35,18 @@ replay-case-requires c κs =
     let w = left-by (a .text .now) (r .last .1 .0) (r .last .1 .1 .0) (r .result) (r .ensures) (s .pre .1 .0) (x .0 .0) (x .0 .1 .0) (x .0 .1 .1 .0) (x .0 .1 .1 .1 .0) (x .0 .1 .1 .1 .1 .0) long (x .1) in
     ((w .0, w .1), (s .pre .0 .0, s .pre .1 .1 .0))
 
--- src/call.rt:67:29
 enum-known-answer : tie.Need-enum-known-answer
 enum-known-answer c = search needs
 
--- src/call.rt:52:1
 same-length : tie.Need-same-length
 same-length c = search needs
 
--- src/call.rt:52:1
 same-length-2 : tie.Need-same-length-2
 same-length-2 c = search needs
 
--- src/call.rt:52:1
 same-length-3 : tie.Need-same-length-3
 same-length-3 c = search needs
 
--- src/call.rt:52:1
 returns : tie.Need-returns
 unfolding workNeed directorySize
 returns c =
@@ -68,15 +60,12 @@ returns c =
     let w = left-by (a .text .now) (r .last .1 .0) (r .last .1 .1 .0) (r .result) (r .ensures) (s .pre .1 .0) (x .0 .0) (x .0 .1 .0) (x .0 .1 .1 .0) (x .0 .1 .1 .1 .0) (x .0 .1 .1 .1 .1 .0) long (x .1) in
     as-replayed (replayText (a .text .now)) (replayRun (w .0)) (length (a .states .now)) _ _ (w .3) (c .before .before .replay-case .ensures (w .0) (w .1) (w .2))
 
--- src/call.rt:52:1
 same-length-4 : tie.Need-same-length-4
 same-length-4 c = search needs
 
--- src/call.rt:52:1
 same-length-5 : tie.Need-same-length-5
 same-length-5 c = search needs
 
--- src/call.rt:52:1
 returns-2 : tie.Need-returns-2
 returns-2 c =
     let s = c .before .before .before .before .before .before .before .before .before .before .before .before .before .before in

@@ -12,11 +12,9 @@ use borrow.Author.Needs.{needs}
 use Rattle.replay.proofs.call.replay_lent.Statement.{statement}
 use Rattle.replay.proofs.call.replay_lent.Tie as tie
 
--- src/call.rt:99:23
 mul-if1 : tie.Need-mul-if1
 mul-if1 c = search needs
 
--- src/call.rt:100:9
 returns : tie.Need-returns
 unfolding stateNeed wordCount
 returns c =
@@ -27,7 +25,6 @@ returns c =
     let short : s < stateNeed = omega (arith, c .if1 .taken) in
     refuses s (replay (replayLists s w) (a .text .now)) (ShortList 1) _ (short-states (a .text .now) s w short) (e .pre)
 
--- src/call.rt:103:9
 returns-2 : tie.Need-returns-2
 unfolding stateNeed wordCount workNeed
 returns-2 c =
@@ -39,7 +36,6 @@ returns-2 c =
     let short : w < workNeed = omega (arith, c .if2 .taken) in
     refuses s (replay (replayLists s w) (a .text .now)) (ShortList 3) _ (short-work (a .text .now) s w long short) (e .pre)
 
--- src/call.rt:106:9
 returns-3 : tie.Need-returns-3
 unfolding stateNeed wordCount workNeed textMost
 returns-3 c =
@@ -52,11 +48,9 @@ returns-3 c =
     let over : textMost < length (a .text .now) = omega (arith, c .if3 .taken) in
     refuses s (replay (replayLists s w) (a .text .now)) LongText _ (lists-long (a .text .now) s w long long-too ∙ text-long (a .text .now) over) (e .pre)
 
--- src/call.rt:108:21
 mul-if4 : tie.Need-mul-if4
 mul-if4 c = search needs
 
--- src/call.rt:109:9
 replay-short-requires : tie.Need-replay-short-requires
 unfolding stateNeed wordCount workNeed
 replay-short-requires c κs =
@@ -69,7 +63,6 @@ replay-short-requires c κs =
     let few = c .before .before .if4 .taken in
     ((long, long-too), (omega arith, e .pre))
 
--- src/call.rt:111:9
 replay-long-requires : tie.Need-replay-long-requires
 unfolding stateNeed wordCount workNeed textMost
 replay-long-requires c κs =
@@ -82,15 +75,12 @@ replay-long-requires c κs =
     let short : length (a .text .now) ≤ textMost = omega (arith, c .before .before .before .if3 .left) in
     ((long, long-too), (short, e .pre))
 
--- src/call.rt:95:1
 same-length : tie.Need-same-length
 same-length c = search needs
 
--- src/call.rt:95:1
 same-length-2 : tie.Need-same-length-2
 same-length-2 c = search needs
 
--- src/call.rt:95:1
 returns-4 : tie.Need-returns-4
 unfolding stateNeed wordCount workNeed
 returns-4 c =
@@ -102,15 +92,12 @@ returns-4 c =
     let long-too : workNeed ≤ w = omega (arith, c .before .before .before .before .before .before .before .before .before .if2 .left) in
     as-replayed (replay (replayLists s w) (a .text .now)) (replayText (a .text .now)) s _ _ (lists-long (a .text .now) s w long long-too) (c .before .before .before .before .replay-short .ensures)
 
--- src/call.rt:95:1
 same-length-3 : tie.Need-same-length-3
 same-length-3 c = search needs
 
--- src/call.rt:95:1
 same-length-4 : tie.Need-same-length-4
 same-length-4 c = search needs
 
--- src/call.rt:95:1
 returns-5 : tie.Need-returns-5
 unfolding stateNeed wordCount workNeed
 returns-5 c =
