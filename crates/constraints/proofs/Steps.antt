@@ -125,6 +125,10 @@ module _ {k : Case} {t : Tree} {fields : List ℕ} {header : Header} {planLine n
 
     -- ---- once they are stored
 
+    -- Of no subtasks there is nothing to note.
+    pub none-noted : subtasks ≡ 0 → work ≡ sets work subtasksFrom (siblings work (n + 1) subtasks)
+    none-noted e = sym (ap (λ (c : ℕ). sets work subtasksFrom (siblings work (n + 1) c)) e)
+
     module _ (new : List ℕ) (stores : new ≡ sets work subtasksFrom (siblings work (n + 1) subtasks)) where
       is-after : new ≡ sets work subtasksFrom (siblings work (n + 1) (countOf (subtreesOf (nodeOfTree t n))))
       is-after = stores ∙ ap (λ (c : ℕ). sets work subtasksFrom (siblings work (n + 1) c)) counted

@@ -72,6 +72,21 @@ fn node_kept(
     if count == 0 {
         return Kept::All;
     }
+    // A task with no subtasks has no nodes to note. Two calls: so the loop over the constraints is compiled as a function of its own.
+    if subtasks == 0 {
+        return first_broken_of(
+            fields,
+            counted + 1,
+            count,
+            x.line,
+            span_at(work, x.n),
+            held,
+            states,
+            work,
+            columns,
+            built,
+        );
+    }
     subtask_nodes(work, x.n, subtasks);
     first_broken_of(
         fields,

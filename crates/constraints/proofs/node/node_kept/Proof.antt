@@ -1,17 +1,26 @@
 -- `node_kept`: the method's line stands where the directory says, and the lists then hold what its tests read (Steps). Assumes nothing.
-use Prim.Native.Nat.{ℕ, _+_}
+use Prim.Native.Nat.{ℕ, _+_, _≤_}
 use Rattle.constraints.proofs.Finding.{MethodHere}
-use Rattle.constraints.proofs.Steps.{leaf-kept, Standing, standing, few-enough, room-before, listed-inside, method-found, none-follow, few-second, nodes-inside, new-leaves, new-inside, new-room, new-tested, new-kept}
+use Rattle.constraints.proofs.Steps.{leaf-kept, Standing, standing, few-enough, room-before, listed-inside, method-found, none-follow, few-second, nodes-inside, new-leaves, new-inside, new-room, new-tested, new-kept, none-noted}
 use Rattle.constraints.proofs.Stores.{leaves-all}
 use Rattle.constraints.specs.Ready.{NodeReady}
 use Rattle.constraints.specs.declared.node.Named.{Named}
 use Rattle.index.specs.Spans.{spanOf}
-use Rattle.rules.specs.Case.{methodAt, Case}
+use Rattle.rules.specs.Case.{methodAt, Case, Constraint}
+use Rattle.rules.specs.Index.{Span}
+use Rattle.rules.specs.Refusals.{Each}
+use Rattle.tree.specs.Layout.{subtasksFrom, subtasksPast}
+use Rattle.columns.specs.Columns.{Columns}
+use Rattle.parts.specs.Spans.{rowSpan, siblings}
+use Rattle.parts.specs.Tests.{Tested}
+use Rattle.constraints.specs.Methods.{ConstraintsHere}
+use lib.ListN.{length, getD}
+use lib.Seq.{sets}
 use Rattle.rules.specs.Tree.{Tree}
 use borrow.Author.Needs.{needs}
 use borrow.Author.Tests.{not-true, not-false}
 use mathlib.Core.List.{List}
-use mathlib.Core.Path.{sym, _∙_}
+use mathlib.Core.Path.{_≡_, sym, _∙_}
 use native.Mathlib.Omega.{arith}
 use Rattle.constraints.proofs.node.node_kept.Statement.{statement}
 use Rattle.constraints.proofs.node.node_kept.Tie as tie
@@ -47,6 +56,32 @@ module _ (c : tie.After-method-place) where
 
   line-of : MethodHere (fields else) (c .method-place .result) (methodAt (start else .pre .0 .0 .methods) (x else .label))
   line-of = method-found (node-of else (caller else)) (c .method-place .result) (c .method-place .ensures)
+
+  abbrev Notes : List ℕ → Type 0
+  Notes new =
+      new ≡ sets (work else) subtasksFrom (siblings (work else) (x else .n + 1) (getD (fields else) (c .method-place .result + 2) 0))
+
+  -- The method has no subtasks.
+  unnoted : getD (fields else) (c .method-place .result + 2) 0 ≡ 0 → Notes (work else)
+  unnoted = none-noted (node-of else (caller else)) (c .method-place .result) (c .method-place .ensures)
+
+  -- What the tests ask for, where the subtasks' nodes are noted and the task's span is its row's.
+  asked : (new : List ℕ) → Notes new → (own : Span) → own ≡ rowSpan new (x else .n)
+      → (subtasksPast ≤ length new) × (Columns (start else .args .states .now) (start else .args .held) (start else .args .columns .now) (start else .args .built .now)
+      × ((cs : List Constraint) × ConstraintsHere (fields else) (c .method-place .result + 3 + getD (fields else) (c .method-place .result + 2) 0 + 1) (getD (fields else) (c .method-place .result + 3 + getD (fields else) (c .method-place .result + 2) 0) 0) cs × Each (Tested new (start else .args .held) own) cs))
+  asked new noted own is =
+      let w = node-of else (caller else) in
+      let p = c .method-place in (
+        new-room w (p .result) (p .ensures) new noted,
+        (
+          start else .pre .1,
+          (
+            methodAt (start else .pre .0 .0 .methods) (x else .label) .constraints,
+            line-of .constraints,
+            new-tested w (p .result) (p .ensures) new noted own is (start else .args .held) (caller else .counted),
+          ),
+        ),
+      )
 
 names-method-requires : tie.Need-names-method-requires
 names-method-requires c κs = search needs
@@ -99,40 +134,19 @@ returns-2 c =
       (leaves-all (work e), start e .pre .1),
     )
 
-subtask-nodes-requires : tie.Need-subtask-nodes-requires
-subtask-nodes-requires c κs =
-    let m = c .before .before .before .before in
-    let w = node-of (else m) (caller (else m)) in
-    let p = m .method-place in
-    (few-enough w, (few-second w (p .result) (p .ensures), (room-before w, nodes-inside w (p .result) (p .ensures))))
-
 add-first-broken-of : tie.Need-add-first-broken-of
-add-first-broken-of c = let i = line-of (c .before .before .before .before .before .before .before) .inside in search needs
+add-first-broken-of c = let i = line-of (c .before .before .before .before) .inside in search needs
 
 span-at-requires : tie.Need-span-at-requires
 span-at-requires c κs =
-    let m = c .before .before .before .before .before .before .before .before in
-    let n = c .before .before .before .subtask-nodes in
-    new-inside (node-of (else m) (caller (else m))) (m .method-place .result) (m .method-place .ensures) (n .last .0) (n .ensures)
+    let m = c .before .before .before .before .before in
+    new-inside (node-of (else m) (caller (else m))) (m .method-place .result) (m .method-place .ensures) (work (else m)) (unnoted m (c .before .if3 .taken))
 
 first-broken-of-requires : tie.Need-first-broken-of-requires
 first-broken-of-requires c κs =
-    let m = c .before .before .before .before .before .before .before .before .before .before .before .before in
-    let e = else m in
-    let w = node-of e (caller e) in
-    let p = m .method-place in
-    let n = c .before .before .before .before .before .before .before .subtask-nodes in
-    let o = c .before .before .before .span-at in (
-      new-room w (p .result) (p .ensures) (n .last .0) (n .ensures),
-      (
-        start e .pre .1,
-        (
-          methodAt (start e .pre .0 .0 .methods) (x e .label) .constraints,
-          line-of m .constraints,
-          new-tested w (p .result) (p .ensures) (n .last .0) (n .ensures) (spanOf (o .result)) (o .ensures) (start e .args .held) (caller e .counted),
-        ),
-      ),
-    )
+    let m = c .before .before .before .before .before .before .before .before .before in
+    let o = c .before .before .before .span-at in
+    asked m (work (else m)) (unnoted m (c .before .before .before .before .before .if3 .taken)) (spanOf (o .result)) (o .ensures)
 
 same-length-2 : tie.Need-same-length-2
 same-length-2 c = search needs
@@ -145,12 +159,59 @@ same-length-4 c = search needs
 
 returns-3 : tie.Need-returns-3
 returns-3 c =
-    let m = c .before .before .before .before .before .before .before .before .before .before .before .before .before .before .before .before .before in
+    let m = c .before .before .before .before .before .before .before .before .before .before .before .before .before .before in
+    let e = else m in
+    let p = m .method-place in
+    let n = unnoted m (c .before .before .before .before .before .before .before .before .before .before .if3 .taken) in
+    let o = c .before .before .before .before .before .before .before .before .span-at in
+    let r = c .before .before .before .before .first-broken-of in (
+      (λ k t v.
+          let w = node-of e v in
+          new-kept w (p .result) (p .ensures) (work e) n (spanOf (o .result)) (o .ensures) (x e .line) (r .result)
+          (r .ensures .0 (methodAt (k .methods) (x e .label) .constraints) (method-found w (p .result) (p .ensures) .constraints))),
+      (leaves-all (work e), r .ensures .1),
+    )
+
+subtask-nodes-requires : tie.Need-subtask-nodes-requires
+subtask-nodes-requires c κs =
+    let m = c .before .before .before .before .before in
+    let w = node-of (else m) (caller (else m)) in
+    let p = m .method-place in
+    (few-enough w, (few-second w (p .result) (p .ensures), (room-before w, nodes-inside w (p .result) (p .ensures))))
+
+add-first-broken-of-2 : tie.Need-add-first-broken-of-2
+add-first-broken-of-2 c = let i = line-of (c .before .before .before .before .before .before .before .before) .inside in search needs
+
+span-at-requires-2 : tie.Need-span-at-requires-2
+span-at-requires-2 c κs =
+    let m = c .before .before .before .before .before .before .before .before .before in
+    let n = c .before .before .before .subtask-nodes in
+    new-inside (node-of (else m) (caller (else m))) (m .method-place .result) (m .method-place .ensures) (n .last .0) (n .ensures)
+
+first-broken-of-requires-2 : tie.Need-first-broken-of-requires-2
+first-broken-of-requires-2 c κs =
+    let m = c .before .before .before .before .before .before .before .before .before .before .before .before .before in
+    let n = c .before .before .before .before .before .before .before .subtask-nodes in
+    let o = c .before .before .before .span-at2 in
+    asked m (n .last .0) (n .ensures) (spanOf (o .result)) (o .ensures)
+
+same-length-5 : tie.Need-same-length-5
+same-length-5 c = search needs
+
+same-length-6 : tie.Need-same-length-6
+same-length-6 c = search needs
+
+same-length-7 : tie.Need-same-length-7
+same-length-7 c = search needs
+
+returns-4 : tie.Need-returns-4
+returns-4 c =
+    let m = c .before .before .before .before .before .before .before .before .before .before .before .before .before .before .before .before .before .before in
     let e = else m in
     let p = m .method-place in
     let n = c .before .before .before .before .before .before .before .before .before .before .before .before .subtask-nodes in
-    let o = c .before .before .before .before .before .before .before .before .span-at in
-    let r = c .before .before .before .before .first-broken-of in (
+    let o = c .before .before .before .before .before .before .before .before .span-at2 in
+    let r = c .before .before .before .before .first-broken-of2 in (
       (λ k t v.
           let w = node-of e v in
           new-kept w (p .result) (p .ensures) (n .last .0) (n .ensures) (spanOf (o .result)) (o .ensures) (x e .line) (r .result)
@@ -176,11 +237,18 @@ node-kept-spec =
     shared-slice-read-count
     same-length
     returns-2
-    subtask-nodes-requires
     add-first-broken-of
     span-at-requires
     first-broken-of-requires
     same-length-2
     same-length-3
     same-length-4
-    returns-3)
+    returns-3
+    subtask-nodes-requires
+    add-first-broken-of-2
+    span-at-requires-2
+    first-broken-of-requires-2
+    same-length-5
+    same-length-6
+    same-length-7
+    returns-4)
