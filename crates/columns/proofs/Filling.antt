@@ -1,23 +1,27 @@
--- Tests pushed in at the bottom of a word, the last first: bit i is test i. Assumes nothing.
-use mathlib.Core.Path.{_≡_, refl, sym, ap, ap₂, _∙_}
-use mathlib.Core.Bool.{Bool, true, false, _||_, not, xor}
+-- Tests pushed in at the bottom of a word, the last first: bit i is test i. So a column's words are filled, and those that sum them up. Assumes
+-- nothing.
+use mathlib.Core.Path.{_≡_, sym, ap, ap₂, _∙_}
+use mathlib.Core.Bool.{Bool, false, _||_, not, or-false, Bool·not-not}
 use mathlib.Core.List.{List}
 use Prim.Native.Nat.{ℕ, zero, suc, _+_, _-_, _*_, _/_, _%_, _^_, _≤_, _<_}
 use native.Mathlib.Decide.{ℕ-discrete}
 use native.Mathlib.Omega.{arith}
 use lib.Dec.{eqb}
-use lib.ListN.{length, set}
+use lib.ListN.{length, length-set, set}
 use lib.Seq.{getD-set-same, getD-set-other}
 use lib.Pow.{field, mod-mod-pow, shl-shr}
 use lib.Bits.{bitOr, bitXor}
 use borrow.Author.Tests.{ne-eqb}
+use Rattle.rules.specs.declared.Sign.{Sign}
+use Rattle.rules.specs.declared.Sign.the-variants.{Positive, Negative}
 use Rattle.rules.specs.State.{word, bit, member, every}
-use Rattle.rules.proofs.Bits.{bit-or, bit-xor, bit-zero, bit-half, bit-pow}
+use Rattle.rules.specs.Constraint.{signed}
+use Rattle.rules.proofs.Bits.{bit-or, bit-zero, bit-half, bit-pow}
 use Rattle.rules.proofs.Members.{member-at}
 use Rattle.rules.proofs.Tables.{every-same}
 use Rattle.rows.specs.Rows.{inRow}
-use Rattle.columns.specs.Columns.{stateWords, clear, Column}
-use Rattle.columns.proofs.Masks.{bit-ones, none-set, in-word}
+use Rattle.columns.specs.Columns.{stateWords, sumAt, columnWords, clear, asked, Summed, Column}
+use Rattle.columns.proofs.Masks.{bit-over, none-set, Turned, in-turned}
 
 -- A number cut to k bits has its first k.
 bit-mod : (n k i : ℕ) → i < k → bit (n % 2 ^ k) i ≡ bit n i
@@ -26,10 +30,6 @@ bit-mod n k i h =
     let whole : k ≡ k - i - 1 + 1 + i = omega arith in
     ap (λ (x : ℕ). eqb (x % 2) 1) (ap (λ (m : ℕ). n % 2 ^ m / 2 ^ i) whole ∙ field n (k - i - 1 + 1) i)
     ∙ ap (λ (x : ℕ). eqb x 1) (mod-mod-pow (n / 2 ^ i) (k - i - 1) 1)
-
-or-no : (x : Bool) → (x || false) ≡ x
-or-no true = refl
-or-no false = refl
 
 -- A digit in the place of bit 0, and no other bit.
 digit-first : (d : ℕ) → d < 2 → bit d 0 ≡ eqb d 1
@@ -59,7 +59,7 @@ pub pushed-later : (w d i : ℕ) → d < 2 → suc i < 64 → bit (pushed w d) (
 pushed-later w d i h k =
     bit-or (w * 2 % 2 ^ 64) d (suc i)
     ∙ ap₂ (λ (x y : Bool). x || y) (bit-mod (w * 2) 64 (suc i) k ∙ sym (bit-half (w * 2) i) ∙ ap (λ (x : ℕ). bit x i) (shl-shr w 1)) (digit-later d i h)
-    ∙ or-no (bit w i)
+    ∙ or-false (bit w i)
 
 -- The tests from l on, below `to`, in a word: one more of them.
 abbrev pub Tests : (ℕ → Bool) → ℕ → ℕ → ℕ → Type 0
@@ -73,14 +73,10 @@ tests-more f l to w d few h e all (suc i) b =
 
 -- ---- the words of a column
 
-not-clear : (b : Bool) → not (xor b true) ≡ b
-unfolding xor
-not-clear true = refl
-not-clear false = refl
-
--- A bit of a word turned over is clear exactly if the word has it.
-turned : (w i : ℕ) → i < 64 → not (bit (bitXor w (2 ^ 64 - 1)) i) ≡ bit w i
-turned w i h = ap not (bit-xor w (2 ^ 64 - 1) i ∙ ap (xor (bit w i)) (bit-ones 64 i h)) ∙ not-clear (bit w i)
+-- A store to another word leaves a bit as it is.
+clear-other : (s : List ℕ) (i x l : ℕ) → (l / 64 ≡ i → ⊥) → clear (set s i x) l ≡ clear s l
+unfolding member
+clear-other s i x l d = ap (λ (y : ℕ). not (bit y (l % 64))) (getD-set-other s i (l / 64) x 0 d)
 
 -- The words before w are right for the first n tests; so is word w, once it is stored.
 abbrev pub Right : (ℕ → Bool) → ℕ → List ℕ → ℕ → Type 0
@@ -96,39 +92,70 @@ right-more f n s w to x h tests end all l b c = go (ℕ-discrete (l / 64) w)
         let place : 64 * w + l % 64 ≡ l = omega arith in
         ap (λ (y : ℕ). not (bit y (l % 64)))
         (ap (word (set s w (bitXor x (2 ^ 64 - 1)))) q ∙ getD-set-same s w (bitXor x (2 ^ 64 - 1)) 0 h)
-        ∙ turned x (l % 64) (omega arith) ∙ tests (l % 64) (let m = end l b (omega arith) in omega arith) ∙ ap f place
-    go (no d) =
-        ap (λ (y : ℕ). not (bit y (l % 64))) (getD-set-other s w (l / 64) (bitXor x (2 ^ 64 - 1)) 0 d) ∙ all l b (omega arith)
+        ∙ ap not (bit-over x (l % 64) (omega arith)) ∙ Bool·not-not (bit x (l % 64))
+        ∙ tests (l % 64) (let m = end l b (omega arith) in omega arith) ∙ ap f place
+    go (no d) = clear-other s w (bitXor x (2 ^ 64 - 1)) l d ∙ all l b (omega arith)
 
--- ---- the last word
+-- ---- the words that sum up
 
-not-not : (b : Bool) → not (not b) ≡ b
-not-not true = refl
-not-not false = refl
+-- Word w of a column is not as a sign asks: the word turned has a bit.
+abbrev pub amiss : Sign → List ℕ → ℕ → Bool
+amiss g s w = not (every 64 (w * 64) (asked g s))
 
--- A word with a bit, and what sums it up.
-abbrev pub filledWord : List ℕ → ℕ → Bool
-filledWord s w = not (eqb (word s w) 0)
-
-pub sums-up : (s : List ℕ) (w sum : ℕ) → word s w < 2 ^ 64 → bit sum w ≡ filledWord s w → not (bit sum w) ≡ every 64 (w * 64) (clear s)
-sums-up s w sum small e =
+pub turned-amiss : (g : Sign) (s : List ℕ) (w x : ℕ) → x < 2 ^ 64 → Turned g (word s w) x → not (eqb x 0) ≡ amiss g s w
+turned-amiss g s w x h t =
     let here : w * 64 + 0 ≡ w * 64 = omega arith in
-    ap not e ∙ not-not (eqb (word s w) 0) ∙ none-set (word s w) small ∙ in-word s w 0 64 (omega arith) ∙ ap (λ (m : ℕ). every 64 m (clear s)) here
+    ap not (none-set x h ∙ in-turned g s w x 0 64 t (omega arith) ∙ ap (λ (m : ℕ). every 64 m (asked g s)) here)
 
--- Once the last word is stored, the column is right.
-module _ (s : List ℕ) (sum : ℕ) (room : stateWords < length s) where
-  kept : (l : ℕ) → l < stateWords * 64 → clear (set s stateWords sum) l ≡ clear s l
-  unfolding member stateWords
-  kept l h = ap (λ (y : ℕ). not (bit y (l % 64))) (getD-set-other s stateWords (l / 64) sum 0 (λ q. omega arith))
+-- A word sums up a column for a sign.
+abbrev pub Sums : Sign → List ℕ → ℕ → Type 0
+Sums g s sum = (w : ℕ) → w < stateWords → not (bit sum w) ≡ every 64 (w * 64) (asked g s)
 
-  pub column-done : (states : List ℕ) (p n w : ℕ) → n ≤ 64 * stateWords → n ≤ 64 * w → Right (inRow states p) n s w
-      → ((v : ℕ) → v < stateWords → not (bit sum v) ≡ every 64 (v * 64) (clear s)) → Column states p n (set s stateWords sum)
-  unfolding stateWords
-  column-done states p n w fits end all sums =
+pub tests-sum : (g : Sign) (s : List ℕ) (sum : ℕ) → Tests (amiss g s) 0 stateWords sum → Sums g s sum
+tests-sum g s sum tests w h =
+    let here : 0 + w ≡ w = omega arith in
+    ap not (tests w (omega arith) ∙ ap (amiss g s) here) ∙ Bool·not-not (every 64 (w * 64) (asked g s))
+
+-- A column with the same words of states, and that word in its place, is summed up for the sign.
+abbrev SameStates : List ℕ → List ℕ → Type 0
+SameStates s t = (l : ℕ) → l < 64 * stateWords → clear s l ≡ clear t l
+
+sum-there : (g : Sign) (s t : List ℕ) (sum w : ℕ) → w < stateWords → SameStates s t → word t (sumAt g) ≡ sum → Sums g s sum
+    → clear t (sumAt g * 64 + w) ≡ every 64 (w * 64) (asked g t)
+unfolding stateWords
+sum-there g s t sum w h same e sums =
+    ap not (member-at t (sumAt g) w (omega arith) ∙ ap (λ (y : ℕ). bit y w) e) ∙ sums w h
+    ∙ every-same 64 (w * 64) (asked g s) (asked g t) (λ l a b. ap (signed g) (same l (omega arith)))
+
+past-states : (s : List ℕ) (i x : ℕ) → stateWords ≤ i → SameStates s (set s i x)
+unfolding stateWords
+past-states s i x h l b = sym (clear-other s i x l (λ q. omega arith))
+
+-- Once the two last words are stored, the column is right.
+module _ (s : List ℕ) (x y : ℕ) (room : length s ≡ columnWords) where
+  abbrev once : List ℕ
+  once = set s stateWords x
+
+  abbrev twice : List ℕ
+  twice = set once (stateWords + 1) y
+
+  kept : SameStates s twice
+  kept l h = past-states s stateWords x (omega arith) l h ∙ past-states once (stateWords + 1) y (omega arith) l h
+
+  both-summed : (n : ℕ) → n ≤ 64 * stateWords → Sums Positive s x → Sums Negative once y → Summed twice n
+  unfolding stateWords sumAt columnWords
+  both-summed n fits p q Positive w h =
+      sum-there Positive s twice x w (omega arith) kept
+      (getD-set-other once (stateWords + 1) stateWords y 0 (λ e. omega arith) ∙ getD-set-same s stateWords x 0 (omega arith)) p
+  both-summed n fits p q Negative w h =
+      sum-there Negative once twice y w (omega arith) (past-states once (stateWords + 1) y (omega arith))
+      (getD-set-same once (stateWords + 1) y 0 (omega (arith, length-set s stateWords x))) q
+
+  pub column-done : (states : List ℕ) (p n w : ℕ) → n ≤ 64 * stateWords → n ≤ 64 * w → Right (inRow states Positive p) n s w
+      → Sums Positive s x → Sums Negative once y → Column states p n twice
+  unfolding inRow signed
+  column-done states p n w fits end all positive negative =
       record {
-        at = λ l b. kept l (omega arith) ∙ all l b (omega arith);
-        summed = λ v h.
-            ap not (member-at (set s stateWords sum) stateWords v (omega arith) ∙ ap (λ (y : ℕ). bit y v) (getD-set-same s stateWords sum 0 room))
-            ∙ sums v (omega arith)
-            ∙ every-same 64 (v * 64) (clear s) (clear (set s stateWords sum)) (λ l a b. sym (kept l (omega arith)));
+        at = λ g l b. ap (signed g) (sym (kept l (omega arith)) ∙ all l b (omega arith));
+        summed = both-summed n fits positive negative;
       }

@@ -1,6 +1,6 @@
 -- What a caller carries from test to test: it holds with no column built, one column more keeps it, and it gives the answer. Assumes nothing.
 use mathlib.Core.Path.{_≡_, refl, sym, ap, _∙_, subst}
-use mathlib.Core.Bool.{Bool, true, false, _&&_, _||_, false≢true}
+use mathlib.Core.Bool.{Bool, true, false, _||_, false≢true, and-true}
 use mathlib.Core.List.{List}
 use Prim.Native.Nat.{ℕ, _+_, _-_, _*_, _/_, _%_, _≤_, _<_}
 use native.Mathlib.Decide.{ℕ-discrete, decLt}
@@ -8,14 +8,15 @@ use native.Mathlib.Omega.{arith}
 use lib.ListN.{length, replicate, length-replicate, getD-replicate}
 use lib.Dec.{eqb}
 use borrow.Author.Tests.{eq-eqb, ne-eqb}
+use Rattle.rules.specs.declared.Sign.{Sign}
 use Rattle.rules.specs.State.{wordCount, bit, member, insert, every}
-use Rattle.rules.specs.Constraint.{holdsFrom}
+use Rattle.rules.specs.Constraint.{Holds, holdsFrom}
 use Rattle.rules.proofs.Bits.{bit-zero}
 use Rattle.rules.proofs.Members.{member-past, length-insert, member-insert}
 use Rattle.rules.proofs.Tables.{every-same, every-none}
 use Rattle.rows.specs.Rows.{putStretch, inRow}
 use Rattle.rows.proofs.Written.{length-stretch, at-put, other-put, length-put}
-use Rattle.columns.specs.Columns.{stateWords, columnWords, columnCount, columnAt, clear, Summed, Column, Columns}
+use Rattle.columns.specs.Columns.{stateWords, columnWords, columnCount, columnAt, asked, Summed, Column, Columns}
 
 -- A set of zeros has no member.
 member-zeros : (n p : ℕ) → member (replicate n 0) p ≡ false
@@ -90,27 +91,23 @@ module _ {states : List ℕ} {n : ℕ} {columns built : List ℕ} (k : Columns s
           subst (Column states q n) (sym (other-put columnWords columns p column room size q d)) (k .right q was)
 
   -- The answer from a column is that from the states.
-  pub answer : (p first past : ℕ) {r : Bool} → member built p ≡ true → past ≤ n → r ≡ every (past - first) first (clear (columnAt columns p))
-      → r ≡ holdsFrom (inRow states) p first past
+  pub answer : (g : Sign) (p first past : ℕ) {r : Bool} → member built p ≡ true → past ≤ n
+      → r ≡ every (past - first) first (asked g (columnAt columns p)) → r ≡ holdsFrom (inRow states) g p first past
   unfolding holdsFrom
-  answer p first past m h e =
-      e ∙ every-same (past - first) first (clear (columnAt columns p)) (λ l. inRow states p l) (λ l a b. k .right p m .at l (omega arith))
+  answer g p first past m h e =
+      e ∙ every-same (past - first) first (asked g (columnAt columns p)) (λ l. inRow states g p l) (λ l a b. k .right p m .at g l (omega arith))
 
   -- What sums up the column's words up to a state.
   pub summed-to : (p past : ℕ) → member built p ≡ true → past ≤ n → Summed (columnAt columns p) past
-  summed-to p past m h = λ w b. k .right p m .summed w (omega arith)
+  summed-to p past m h = λ g w b. k .right p m .summed g w (omega arith)
 
 -- No state, and one.
-pub no-state : (holds : ℕ → ℕ → Bool) (p first past : ℕ) → past ≤ first → true ≡ holdsFrom holds p first past
+pub no-state : (holds : Holds) (g : Sign) (p first past : ℕ) → past ≤ first → true ≡ holdsFrom holds g p first past
 unfolding holdsFrom
-no-state holds p first past h = sym (every-none (past - first) first (λ l. holds p l) (omega arith))
+no-state holds g p first past h = sym (every-none (past - first) first (λ l. holds g p l) (omega arith))
 
-pub one-state : (holds : ℕ → ℕ → Bool) (p first past : ℕ) → past ≡ first + 1 → holds p first ≡ holdsFrom holds p first past
+pub one-state : (holds : Holds) (g : Sign) (p first past : ℕ) → past ≡ first + 1 → holds g p first ≡ holdsFrom holds g p first past
 unfolding holdsFrom
-one-state holds p first past e =
+one-state holds g p first past e =
     let one : 1 ≡ past - first = omega arith in
-    and-yes (holds p first) ∙ ap (λ (m : ℕ). every m first (λ l. holds p l)) one
-  where
-    and-yes : (x : Bool) → x ≡ (x && true)
-    and-yes true = refl
-    and-yes false = refl
+    sym (and-true (holds g p first)) ∙ ap (λ (m : ℕ). every m first (λ l. holds g p l)) one

@@ -1,6 +1,7 @@
--- The bits of one word under two masks: none exactly if each bit of the range is clear. Assumes nothing.
-use mathlib.Core.Path.{_≡_, sym, ap, ap₂, _∙_, subst}
-use mathlib.Core.Bool.{Bool, true, _&&_, not}
+-- The bits of one word under two masks: none exactly if each bit of the range is clear; a word turned over, and as a sign asks. Assumes
+-- nothing.
+use mathlib.Core.Path.{_≡_, refl, sym, ap, ap₂, _∙_, subst}
+use mathlib.Core.Bool.{Bool, true, false, _&&_, not, xor}
 use mathlib.Core.List.{List}
 use Prim.Native.Nat.{ℕ, zero, suc, _+_, _-_, _*_, _/_, _%_, _^_, _≤_, _<_}
 use native.Mathlib.Nat.{mod-lt, mod-eq-of-lt, zero-lt-suc, pow-suc, add-comm, add-zero, zero-mul, one-mul, mul-mod-left, mul-le-mul-right}
@@ -9,11 +10,15 @@ use native.Mathlib.Decide.{ℕ-discrete}
 use native.Mathlib.Omega.{arith}
 use lib.Dec.{eqb}
 use lib.Pow.{pow-pos, shr-shr, shl-shr, mod-pow-add, mod-mod-pow, ones-lt, ones-split, high, low, high-ones}
-use lib.Bits.{bitAnd, and-mask, and-high}
+use lib.Bits.{bitAnd, bitXor, and-mask, and-high}
 use borrow.Author.Tests.{eq-eqb, ne-eqb}
+use Rattle.rules.specs.declared.Sign.{Sign}
 use Rattle.rules.specs.State.{word, bit, member, every}
+use Rattle.rules.specs.Constraint.{signed}
+use Rattle.rules.proofs.Bits.{bit-xor}
 use Rattle.rules.proofs.Members.{member-at}
 use Rattle.rules.proofs.Tables.{every-same, every-moved}
+use Rattle.columns.specs.Columns.{asked}
 
 -- ---- numbers that are all ones
 
@@ -23,12 +28,21 @@ ones-shr j k = ap (λ (n : ℕ). n / 2 ^ k) (ones-split j k) ∙ high (2 ^ j - 1
 ones-odd : (k : ℕ) → (2 ^ suc k - 1) % 2 ≡ 1
 ones-odd k = let e : 2 ^ suc k ≡ 2 ^ k * 2 = pow-suc 2 k in let p : 0 < 2 ^ k = pow-pos k in omega arith
 
-pub bit-ones : (n i : ℕ) → i < n → bit (2 ^ n - 1) i ≡ true
+bit-ones : (n i : ℕ) → i < n → bit (2 ^ n - 1) i ≡ true
 unfolding bit
 bit-ones n i h =
     let e : n ≡ suc (n - i - 1) + i = omega arith in
     ap (λ (x : ℕ). eqb (x % 2) 1) (ap (λ (m : ℕ). (2 ^ m - 1) / 2 ^ i) e ∙ ones-shr (suc (n - i - 1)) i)
     ∙ ap (λ (x : ℕ). eqb x 1) (ones-odd (n - i - 1))
+
+-- A word turned over has the bits that it had not.
+pub bit-over : (w i : ℕ) → i < 64 → bit (bitXor w (2 ^ 64 - 1)) i ≡ not (bit w i)
+unfolding xor
+bit-over w i h = bit-xor w (2 ^ 64 - 1) i ∙ ap (xor (bit w i)) (bit-ones 64 i h) ∙ xor-true (bit w i)
+  where
+    xor-true : (b : Bool) → xor b true ≡ not b
+    xor-true true = refl
+    xor-true false = refl
 
 -- ---- the lowest bits
 
@@ -117,8 +131,19 @@ none-set w h =
     let all : w / 2 ^ 0 ≡ w = omega arith in
     ap (λ (x : ℕ). eqb x 0) (sym (ap (λ (x : ℕ). x % 2 ^ 64) all ∙ mod-eq-of-lt h)) ∙ low-clear w 64 0
 
--- Bits in a word of a set, and the same bits as members.
-pub in-word : (s : List ℕ) (i lo n : ℕ) → lo + n ≤ 64 → every n lo (λ k. not (bit (word s i) k)) ≡ every n (i * 64 + lo) (λ l. not (member s l))
-in-word s i lo n h =
-    sym (every-moved n (i * 64) lo (λ l. not (member s l))
-    ∙ every-same n lo (λ k. not (member s (i * 64 + k))) (λ k. not (bit (word s i) k)) (λ k a b. ap not (member-at s i k (omega arith))))
+-- Bits in a word of a set, and the same bits as members, under any test.
+pub in-word : (f : Bool → Bool) (s : List ℕ) (i lo n : ℕ) → lo + n ≤ 64
+    → every n lo (λ k. f (bit (word s i) k)) ≡ every n (i * 64 + lo) (λ l. f (member s l))
+in-word f s i lo n h =
+    sym (every-moved n (i * 64) lo (λ l. f (member s l))
+    ∙ every-same n lo (λ k. f (member s (i * 64 + k))) (λ k. f (bit (word s i) k)) (λ k a b. ap f (member-at s i k (omega arith))))
+
+-- A word turned as a sign asks: its clear bits are those that the sign asks for, and so are these bits of the set.
+abbrev pub Turned : Sign → ℕ → ℕ → Type 0
+Turned g w x = (i : ℕ) → i < 64 → not (bit x i) ≡ signed g (not (bit w i))
+
+pub in-turned : (g : Sign) (s : List ℕ) (i x lo n : ℕ) → Turned g (word s i) x → lo + n ≤ 64
+    → every n lo (λ k. not (bit x k)) ≡ every n (i * 64 + lo) (asked g s)
+in-turned g s i x lo n t h =
+    every-same n lo (λ k. not (bit x k)) (λ k. signed g (not (bit (word s i) k))) (λ k a b. t k (omega arith))
+    ∙ in-word (λ b. signed g (not b)) s i lo n h

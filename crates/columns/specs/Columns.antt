@@ -1,19 +1,28 @@
--- A column: the states in which one proposition is not, as a set of state numbers in words, and a word that sums these up. Assumes nothing.
+-- A column: the states in which one proposition is not, as a set of state numbers in words, and a word for each sign that sums these up.
+-- Assumes nothing.
 use mathlib.Core.Path.{_≡_}
 use mathlib.Core.Bool.{Bool, true, not}
 use mathlib.Core.List.{List}
 use Prim.Native.Nat.{ℕ, _+_, _*_, _≤_, _<_}
 use lib.ListN.{length}
+use Rattle.rules.specs.declared.Sign.{Sign}
+use Rattle.rules.specs.declared.Sign.the-variants.{Positive, Negative}
 use Rattle.rules.specs.State.{wordCount, member, every}
+use Rattle.rules.specs.Constraint.{signed}
 use Rattle.rows.specs.Rows.{stretchAt, inRow}
 
 -- How many words of a column are of states: a bit for each of states 0 to 1,000, and 23 more.
 unfoldable pub stateWords : ℕ
 stateWords = 16
 
--- How many words a column has: those of states, and one with a bit for each of them.
+-- The word of a column that sums up its words of states for a sign: a bit for each of them.
+unfoldable pub sumAt : Sign → ℕ
+sumAt Positive = 16
+sumAt Negative = 17
+
+-- How many words a column has.
 unfoldable pub columnWords : ℕ
-columnWords = 17
+columnWords = 18
 
 -- How many columns there are: one for each proposition that a state has a bit for.
 unfoldable pub columnCount : ℕ
@@ -27,13 +36,17 @@ columnAt columns p = stretchAt columnWords columns p
 abbrev pub clear : List ℕ → ℕ → Bool
 clear column l = not (member column l)
 
--- The last word of a column has bit w clear exactly if all of word w is, for the words of the first n states.
-abbrev pub Summed : List ℕ → ℕ → Type 0
-Summed column n = (w : ℕ) → w * 64 + 64 ≤ n → clear column (stateWords * 64 + w) ≡ every 64 (w * 64) (clear column)
+-- Bit l is as a sign asks: clear for a proposition that is to be true, set for one that is to be false.
+abbrev pub asked : Sign → List ℕ → ℕ → Bool
+asked s column l = signed s (clear column l)
 
--- The column of p: bit l is clear exactly if p is in state l, for the first n states.
+-- The word that sums up for a sign has bit w clear exactly if all of word w is as the sign asks, for the words of the first n states.
+abbrev pub Summed : List ℕ → ℕ → Type 0
+Summed column n = (s : Sign) (w : ℕ) → w * 64 + 64 ≤ n → clear column (sumAt s * 64 + w) ≡ every 64 (w * 64) (asked s column)
+
+-- The column of p: bit l is as a sign asks exactly if the signed test of p holds in state l, for the first n states.
 pub record Column (states : List ℕ) (p n : ℕ) (column : List ℕ) : Type 0 where
-  pub at : (l : ℕ) → l < n → clear column l ≡ inRow states p l
+  pub at : (s : Sign) (l : ℕ) → l < n → asked s column l ≡ inRow states s p l
   pub summed : Summed column n
 
 -- The columns of the first n states, and the set of the propositions whose column is built: what a caller carries from test to test.

@@ -1,22 +1,25 @@
-// Whether a proposition is in each of several states (01, "Indexes": between), many at a time: the column of p has bit l where state l does
-// not have p, 64 to a word, and a last word that sums up the others. It is built when a long stretch of states is first asked about.
+// Whether a proposition is in each of several states, or in none (01, "Indexes": between; 02, Card 1), many at a time: the column of p has
+// bit l where state l does not have p, 64 to a word, and a last word for each sign that sums up the others. It is built when a long stretch
+// of states is first asked about, and serves both signs.
 ghost use mathlib.Core.Path.{_≡_};
 ghost use mathlib.Core.Bool.{true, not};
 ghost use Prim.Native.Nat.{ℕ, _+_, _-_, _*_, _/_, _≤_, _<_};
 ghost use lib.Dec.{eqb};
 ghost use lib.ListN.{length};
 ghost use Rattle.rules.specs.State.{wordCount, bit, member, every};
-ghost use Rattle.rules.specs.Constraint.{holdsFrom};
+ghost use Rattle.rules.specs.declared.Sign.the-variants.{Positive};
+ghost use Rattle.rules.specs.Constraint.{signed, holdsFrom};
 ghost use Rattle.index.specs.Spans.{stateOf};
 ghost use Rattle.rows.specs.Rows.{inRow};
-ghost use Rattle.columns.specs.Columns.{stateWords, columnWords, columnCount, columnAt, clear, Summed, Column, Columns};
+ghost use Rattle.columns.specs.Columns.{stateWords, sumAt, columnWords, columnCount, columnAt, asked, Summed, Column, Columns};
 use index::StateNumber;
+use rules::Sign;
 use state::WORDS;
 
 // How many words of a column are of states, and how many it has: the definitions' stateWords and columnWords.
 const STATE_WORDS: usize = 16;
 
-const COLUMN: usize = STATE_WORDS + 1;
+const COLUMN: usize = STATE_WORDS + 2;
 
 // What a caller lends: numbers for the columns of all propositions, and for the set of those whose column is built.
 pub const COLUMNS: usize = 64 * WORDS * COLUMN;
@@ -38,27 +41,48 @@ fn clear_within(word: u64, a: usize, b: usize) -> bool
     word & (ONES << a) & (ONES >> (64 - b)) == 0
 }
 
-// Whether each bit l with a ≤ l < b is clear: those of the first word, the words between it and the last at once, and those of the last.
-fn all_clear(column: &[u64], a: usize, b: usize) -> bool
+// A word of states as a sign asks: its clear bits are then those that the sign asks for.
+fn turned(word: u64, sign: Sign) -> u64
+    ensures { λ r. ⌜ ((i : ℕ) → i < 64 → not (bit r i) ≡ signed sign (not (bit word i))) ⌝ }
+{
+    match sign {
+        Sign::Positive => word,
+        Sign::Negative => word ^ ONES,
+    }
+}
+
+// The word that sums up for a sign.
+fn sum_at(sign: Sign) -> usize
+    ensures { λ r. ⌜ r ≡ sumAt sign ⌝ }
+{
+    match sign {
+        Sign::Positive => STATE_WORDS,
+        Sign::Negative => STATE_WORDS + 1,
+    }
+}
+
+// Whether each bit l with a ≤ l < b is as the sign asks: those of the first word, the words between it and the last at once, and those of the
+// last.
+fn all_asked(column: &[u64], sign: Sign, a: usize, b: usize) -> bool
     requires { ⌜ a < b ⌝ }
     requires { ⌜ b ≤ 64 * stateWords ⌝ }
     requires { ⌜ length (now column) ≡ columnWords ⌝ }
     requires { ⌜ Summed (now column) b ⌝ }
-    ensures { λ r. ⌜ r ≡ every (b - a) a (clear (now (column .entry))) ⌝ }
+    ensures { λ r. ⌜ r ≡ every (b - a) a (asked sign (now (column .entry))) ⌝ }
 {
     let i = a / 64;
     let j = (b - 1) / 64;
     let end = (b - 1) % 64 + 1;
     if i == j {
-        return clear_within(column[i], a % 64, end);
+        return clear_within(turned(column[i], sign), a % 64, end);
     }
-    if !clear_within(column[i], a % 64, 64) {
+    if !clear_within(turned(column[i], sign), a % 64, 64) {
         return false;
     }
-    if !clear_within(column[STATE_WORDS], i + 1, j) {
+    if !clear_within(column[sum_at(sign)], i + 1, j) {
         return false;
     }
-    clear_within(column[j], 0, end)
+    clear_within(turned(column[j], sign), 0, end)
 }
 
 // The states from the one on, below the other, in which p is: bit i is that of the i-th of them.
@@ -66,7 +90,7 @@ fn word_of(states: &[u64], p: u32, from: usize, to: usize) -> u64
     requires { ⌜ p / 64 < wordCount ⌝ }
     requires { ⌜ (from ≤ to) × (to ≤ from + 64) ⌝ }
     requires { ⌜ wordCount * to ≤ length (now states) ⌝ }
-    ensures { λ r. ⌜ ((i : ℕ) → from + i < to → bit r i ≡ inRow (now (states .entry)) p (from + i)) ⌝ }
+    ensures { λ r. ⌜ ((i : ℕ) → from + i < to → bit r i ≡ inRow (now (states .entry)) Positive p (from + i)) ⌝ }
 {
     let i = (p / 64) as usize;
     let s = p % 64;
@@ -86,16 +110,16 @@ fn digit(word: u64) -> u64
     if word == 0 { 0 } else { 1 }
 }
 
-// The word that sums up a column's words of states.
-fn summary(column: &[u64]) -> u64
+// The word that sums up a column's words of states for a sign.
+fn summary(column: &[u64], sign: Sign) -> u64
     requires { ⌜ stateWords ≤ length (now column) ⌝ }
-    ensures { λ r. ⌜ ((w : ℕ) → w < stateWords → not (bit r w) ≡ every 64 (w * 64) (clear (now (column .entry)))) ⌝ }
+    ensures { λ r. ⌜ ((w : ℕ) → w < stateWords → not (bit r w) ≡ every 64 (w * 64) (asked sign (now (column .entry)))) ⌝ }
 {
     let mut sum: u64 = 0;
     let mut w: usize = STATE_WORDS;
     while 0 < w {
         w -= 1;
-        sum = (sum << 1) | digit(column[w]);
+        sum = (sum << 1) | digit(turned(column[w], sign));
     }
     sum
 }
@@ -122,7 +146,8 @@ fn build(column: &mut [u64], states: &[u64], p: u32, n: usize)
         column[w] = word_of(states, p, from, word_end(from, n)) ^ ONES;
         w += 1;
     }
-    column[STATE_WORDS] = summary(column);
+    column[STATE_WORDS] = summary(column, Sign::Positive);
+    column[STATE_WORDS + 1] = summary(column, Sign::Negative);
 }
 
 // Where the column of p starts.
@@ -146,30 +171,31 @@ fn fill(columns: &mut [u64], built: &mut [u64], states: &[u64], n: usize, p: u32
 }
 
 // The test by the column of p.
-fn by_column(columns: &[u64], p: u32, first: StateNumber, past: StateNumber) -> bool
+fn by_column(columns: &[u64], sign: Sign, p: u32, first: StateNumber, past: StateNumber) -> bool
     requires { ⌜ p / 64 < wordCount ⌝ }
     requires { ⌜ length (now columns) ≡ columnCount * columnWords ⌝ }
     requires { ⌜ (stateOf first < stateOf past) × (stateOf past ≤ 64 * stateWords) ⌝ }
     requires { ⌜ Summed (columnAt (now columns) p) (stateOf past) ⌝ }
-    ensures { λ r. ⌜ r ≡ every (stateOf past - stateOf first) (stateOf first) (clear (columnAt (now (columns .entry)) p)) ⌝ }
+    ensures { λ r. ⌜ r ≡ every (stateOf past - stateOf first) (stateOf first) (asked sign (columnAt (now (columns .entry)) p)) ⌝ }
 {
     let from = column_start(p);
     let to = from + COLUMN;
-    all_clear(
+    all_asked(
         &columns[from..to],
+        sign,
         first.number() as usize,
         past.number() as usize,
     )
 }
 
 // The test state by state.
-fn by_states(states: &[u64], p: u32, first: StateNumber, past: StateNumber) -> bool
+fn by_states(states: &[u64], sign: Sign, p: u32, first: StateNumber, past: StateNumber) -> bool
     requires { ⌜ wordCount * stateOf past ≤ length (now states) ⌝ }
-    ensures { λ r. ⌜ r ≡ holdsFrom (inRow (now (states .entry))) p (stateOf first) (stateOf past) ⌝ }
+    ensures { λ r. ⌜ r ≡ holdsFrom (inRow (now (states .entry))) sign p (stateOf first) (stateOf past) ⌝ }
 {
     let mut l = first;
     while l.is_less(past) {
-        if !rows::holds_at(states, l, p) {
+        if !rows::holds_at(states, sign, p, l) {
             return false;
         }
         l = l.next();
@@ -187,33 +213,34 @@ fn pays(p: u32, first: StateNumber, past: StateNumber) -> bool
     first.number() as usize + FEW <= past.number() as usize
 }
 
-// Whether "p is in each state l with" first ≤ l < past; "no such l, then it holds".
+// Whether "p is in each state l with" first ≤ l < past, or whether it is in none; "no such l, then it holds".
 pub fn test(
     columns: &mut [u64],
     built: &mut [u64],
     states: &[u64],
     n: usize,
+    sign: Sign,
     p: u32,
     first: StateNumber,
     past: StateNumber,
 ) -> bool
     requires { ⌜ Columns (now states) n (now columns) (now built) ⌝ }
     requires { ⌜ stateOf past ≤ n ⌝ }
-    ensures { λ r. ⌜ r ≡ holdsFrom (inRow (now (states .entry))) p (stateOf first) (stateOf past) ⌝ }
+    ensures { λ r. ⌜ r ≡ holdsFrom (inRow (now (states .entry))) sign p (stateOf first) (stateOf past) ⌝ }
     ensures { λ _. ⌜ Columns (now (states .entry)) n (now (columns .exit)) (now (built .exit)) ⌝ }
 {
     if !first.is_less(past) {
         return true;
     }
     if !first.next().is_less(past) {
-        return rows::holds_at(states, first, p);
+        return rows::holds_at(states, sign, p, first);
     }
     if state::holds(built, p) {
-        return by_column(columns, p, first, past);
+        return by_column(columns, sign, p, first, past);
     }
     if !pays(p, first, past) {
-        return by_states(states, p, first, past);
+        return by_states(states, sign, p, first, past);
     }
     fill(columns, built, states, n, p);
-    by_column(columns, p, first, past)
+    by_column(columns, sign, p, first, past)
 }

@@ -1,11 +1,12 @@
 -- Lines where they stand among the fields: a constraint's, a method's, a node's. Assumes nothing.
 use mathlib.Core.Path.{_≡_, refl, sym, ap, subst, _∙_}
-use mathlib.Core.Logic.{_≢_}
+use mathlib.Core.Bool.{true, false, false≢true}
 use mathlib.Core.List.{List, [], _∷_, _++_, map}
 use Prim.Native.Nat.{ℕ, _+_, _<_, _≤_}
 use native.Mathlib.Omega.{arith}
 use lib.ListN.{length, getD}
-use Rattle.rules.specs.Case.{Constraint, O, B, F, W, constraintOf, Method, NodeLine, D, E, L}
+use Rattle.rules.specs.declared.Sign.the-variants.{Positive, Negative}
+use Rattle.rules.specs.Case.{Constraint, O, B, F, W, signOf, isEither, constraintOf, Method, NodeLine, D, E, L}
 use Rattle.rules.specs.Fields.{linesFields, constraintLine, methodLines, nodeLine}
 use Rattle.fields.specs.Standing.{Stands}
 use Rattle.fields.specs.Directory.{nodeSize}
@@ -36,13 +37,13 @@ module _ (fields : List ℕ) (at : ℕ) where
 
 -- ---- a constraint's line
 
--- What the code takes of it: a letter, two numbers, and of W a third.
+-- What the code takes of it: a letter, two numbers, and of W and w a third.
 pub record LineHere (fields : List ℕ) (at : ℕ) (d : Constraint) (ds : List Constraint) : Type 0 where
   pub byte : getD fields at 0 < 256
   pub inside : at + 3 ≤ length fields
-  pub others : getD fields at 0 ≢ 87
+  pub others : isEither (getD fields at 0) 87 119 ≡ false
       → Says fields (record { letter = getD fields at 0; first = getD fields (at + 1) 0; second = getD fields (at + 2) 0; third = 0; next = at + 3 }) d ds
-  pub between : getD fields at 0 ≡ 87
+  pub between : isEither (getD fields at 0) 87 119 ≡ true
       → (at + 3 < length fields)
       × Says fields (record {
         letter = getD fields at 0;
@@ -56,7 +57,7 @@ module _ (fields : List ℕ) (at : ℕ) (ds : List Constraint) where
   abbrev later : List ℕ
   later = linesFields (map constraintLine ds)
 
-  other-line : (letter a b : ℕ) (d : Constraint) → letter < 256 → letter ≢ 87 → constraintOf letter a b 0 ≡ d
+  other-line : (letter a b : ℕ) (d : Constraint) → letter < 256 → isEither letter 87 119 ≡ false → constraintOf letter a b 0 ≡ d
       → Stands fields at (letter ∷ a ∷ b ∷ later) → LineHere fields at d ds
   other-line letter a b d low apart means s =
       let w = three fields at letter a b later s in
@@ -64,32 +65,39 @@ module _ (fields : List ℕ) (at : ℕ) (ds : List Constraint) where
         byte = subst (λ (l : ℕ). l < 256) (sym (w .first)) low;
         inside = w .room;
         others = λ n. record { means = (λ j. constraintOf (w .first j) (w .second j) (w .third j) 0) ∙ means; later = w .next };
-        between = λ e. absurd (apart (sym (w .first) ∙ e));
+        between = λ e. absurd (false≢true (sym (ap (λ (l : ℕ). isEither l 87 119) (w .first) ∙ apart) ∙ e));
       }
 
-  line-fields : (d : Constraint) → Stands fields at (constraintFields d ++ later) → LineHere fields at d ds
-  unfolding constraintOf
-  line-fields (O i j) s = other-line 79 i j (O i j) (omega arith) (λ e. omega arith) refl s
-  line-fields (B p u) s = other-line 66 p u (B p u) (omega arith) (λ e. omega arith) refl s
-  line-fields (F p u) s = other-line 70 p u (F p u) (omega arith) (λ e. omega arith) refl s
-  line-fields (W u p v) s =
-      let w = three fields at 87 u p (v ∷ later) s in
+  between-line : (letter u p v : ℕ) (d : Constraint) → letter < 256 → isEither letter 87 119 ≡ true → constraintOf letter u p v ≡ d
+      → Stands fields at (letter ∷ u ∷ p ∷ v ∷ later) → LineHere fields at d ds
+  between-line letter u p v d low is means s =
+      let w = three fields at letter u p (v ∷ later) s in
       let fourth : getD fields (at + 3) 0 ≡ v = stands-first fields (at + 3) v later (w .next) in
       let one = stands-left fields (at + 3) (v ∷ []) later (w .next) in
       let room : at + 3 + 1 ≤ length fields = stands-inside fields (at + 3) (v ∷ []) one (omega arith) in
       let next : at + 3 + 1 ≡ at + 4 = omega arith in
       record {
-        byte = subst (λ (l : ℕ). l < 256) (sym (w .first)) (omega arith);
+        byte = subst (λ (l : ℕ). l < 256) (sym (w .first)) low;
         inside = w .room;
-        others = λ n. absurd (n (w .first));
+        others = λ n. absurd (false≢true (sym n ∙ ap (λ (l : ℕ). isEither l 87 119) (w .first) ∙ is));
         between = λ e. (
           omega arith,
           record {
-            means = λ j. constraintOf (w .first j) (w .second j) (w .third j) (fourth j);
+            means = (λ j. constraintOf (w .first j) (w .second j) (w .third j) (fourth j)) ∙ means;
             later = subst (λ (q : ℕ). Stands fields q later) next (stands-right fields (at + 3) (v ∷ []) later (w .next));
           },
         );
       }
+
+  line-fields : (d : Constraint) → Stands fields at (constraintFields d ++ later) → LineHere fields at d ds
+  unfolding constraintOf signOf
+  line-fields (O i j) s = other-line 79 i j (O i j) (omega arith) refl refl s
+  line-fields (B Positive p u) s = other-line 66 p u (B Positive p u) (omega arith) refl refl s
+  line-fields (B Negative p u) s = other-line 98 p u (B Negative p u) (omega arith) refl refl s
+  line-fields (F Positive p u) s = other-line 70 p u (F Positive p u) (omega arith) refl refl s
+  line-fields (F Negative p u) s = other-line 102 p u (F Negative p u) (omega arith) refl refl s
+  line-fields (W Positive u p v) s = between-line 87 u p v (W Positive u p v) (omega arith) refl refl s
+  line-fields (W Negative u p v) s = between-line 119 u p v (W Negative u p v) (omega arith) refl refl s
 
   pub line-here : (d : Constraint) → Stands fields at (linesFields (map constraintLine (d ∷ ds))) → LineHere fields at d ds
   line-here d s =

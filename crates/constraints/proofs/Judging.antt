@@ -16,6 +16,7 @@ use Rattle.rules.specs.declared.Header.{Header}
 use Rattle.rules.specs.declared.Answer.{Answer}
 use Rattle.rules.specs.State.{bit}
 use Rattle.rules.specs.Index.{Span, Part, partOf, only, pick, hull, spanOfPart, c, f, isBefore}
+use Rattle.rules.specs.declared.Sign.{Sign}
 use Rattle.rules.specs.Case.{Constraint, O, B, F, W}
 use Rattle.rules.specs.Constraint.{Holds, holdsFrom, keeps, brokenAt, firstBrokenOf}
 use Rattle.rules.proofs.Bits.{bit-above}
@@ -55,9 +56,9 @@ only-front own l r i h = ap hull (pick-front (eqb i) l r (λ n b. ne-eqb i n (λ
 
 -- ---- states
 
-from-same : (g h : Holds) (p first past : ℕ) → ((l : ℕ) → l < past → g p l ≡ h p l) → holdsFrom g p first past ≡ holdsFrom h p first past
+from-same : (g h : Holds) (s : Sign) (p first past : ℕ) → ((l : ℕ) → l < past → g s p l ≡ h s p l) → holdsFrom g s p first past ≡ holdsFrom h s p first past
 unfolding holdsFrom
-from-same g h p first past e = every-same (past - first) first (λ l. g p l) (λ l. h p l) (λ l a b. e l (omega arith))
+from-same g h s p first past e = every-same (past - first) first (λ l. g s p l) (λ l. h s p l) (λ l a b. e l (omega arith))
 
 -- ---- one node's tests
 
@@ -69,7 +70,7 @@ pub record Placed (cues : ℕ) (own : Span) (subs : List Span) (work words : Lis
   pub inside : (j : ℕ) → j < length subs → RowInside work (getD (nodesIn work) j 0)
   pub ownWithin : Within cues own
   pub subsWithin : Each (Within cues) subs
-  pub agree : (p l : ℕ) → l ≤ cues → inRow words p l ≡ holds p l
+  pub agree : (s : Sign) (p l : ℕ) → l ≤ cues → inRow words s p l ≡ holds s p l
 
 module _ (h : Header) (cues : ℕ) (own : Span) (subs : List Span) (work words : List ℕ) (holds : Holds)
     (p : Placed cues own subs work words holds) where
@@ -104,22 +105,22 @@ module _ (h : Header) (cues : ℕ) (own : Span) (subs : List Span) (work words :
 
   pub good-tested : (d : Constraint) → GoodConstraint h (length subs) d → Tested work (cues + 1) own d
   good-tested (O i j) g = (subtask-inside i (g .0), subtask-inside j (g .1))
-  good-tested (B q u) g = part-inside u (g .1)
-  good-tested (F q u) g = part-inside u (g .1)
-  good-tested (W u q v) g = (part-inside u (g .0), part-inside v (g .2))
+  good-tested (B z q u) g = part-inside u (g .1)
+  good-tested (F z q u) g = part-inside u (g .1)
+  good-tested (W z u q v) g = (part-inside u (g .0), part-inside v (g .2))
 
   keeps-same : (d : Constraint) → GoodConstraint h (length subs) d → keeps (inRow words) found d ≡ keeps holds meant d
   unfolding keeps
   keeps-same (O i j) g = ap₂ isBefore (only-same i (g .0)) (only-same j (g .1))
-  keeps-same (B q u) g =
+  keeps-same (B z q u) g =
       let e = start-few cues (meant (partOf u)) (within u (g .1)) in
-      ap (λ (s : Span). inRow words q (c s - 1)) (part-same u (g .1)) ∙ p .agree q (c (meant (partOf u)) - 1) (omega arith)
-  keeps-same (F q u) g =
-      ap (λ (s : Span). inRow words q (f s)) (part-same u (g .1)) ∙ p .agree q (f (meant (partOf u))) (end-few cues (meant (partOf u)) (within u (g .1)))
-  keeps-same (W u q v) g =
+      ap (λ (s : Span). inRow words z q (c s - 1)) (part-same u (g .1)) ∙ p .agree z q (c (meant (partOf u)) - 1) (omega arith)
+  keeps-same (F z q u) g =
+      ap (λ (s : Span). inRow words z q (f s)) (part-same u (g .1)) ∙ p .agree z q (f (meant (partOf u))) (end-few cues (meant (partOf u)) (within u (g .1)))
+  keeps-same (W z u q v) g =
       let e = start-few cues (meant (partOf v)) (within v (g .2)) in
-      ap₂ (λ (s t : Span). holdsFrom (inRow words) q (f s) (c t)) (part-same u (g .0)) (part-same v (g .2))
-      ∙ from-same (inRow words) holds q (f (meant (partOf u))) (c (meant (partOf v))) (λ l b. p .agree q l (omega arith))
+      ap₂ (λ (s t : Span). holdsFrom (inRow words) z q (f s) (c t)) (part-same u (g .0)) (part-same v (g .2))
+      ∙ from-same (inRow words) holds z q (f (meant (partOf u))) (c (meant (partOf v))) (λ l b. p .agree z q l (omega arith))
 
   abbrev decide : ℕ → ℕ → Constraint → Bool → Option Answer → Option Answer
   decide line number d b rest = elim b [ true ↦ rest | false ↦ some (brokenAt line number d) ]

@@ -13,6 +13,7 @@ use Rattle.rules.specs.State.{wordCount}
 use Rattle.rules.specs.Index.{Span}
 use Rattle.rules.specs.Case.{methodAt, noMethod, NodeLine, Case}
 use Rattle.rules.specs.Tree.{Tree, leaf, empty, task, preorder, rootLine, span, subtaskSpans, mayClaim}
+use Rattle.rules.specs.declared.Sign.{Sign}
 use Rattle.rules.specs.Constraint.{holdsIn, constraintsOf}
 use Rattle.rules.specs.Verdict.{stateNeed, workNeed, statesOf}
 use Rattle.rules.proofs.Judgement.Each.{Each, each-at}
@@ -94,10 +95,10 @@ module _ {k : Case} {t : Tree} {fields : List ℕ} {header : Header} {planLine n
 
   -- ---- the states
 
-  pub states-agree : (p l : ℕ) → l ≤ k .head .cues → inRow states p l ≡ holdsIn (statesOf k) p l
-  states-agree p l h =
-      ap (λ (w : List ℕ). inRow w p l) (r .statesHeld)
-      ∙ states-hold k (r .stateSize) p l (initial-worded k (sound (r .read .text) k (r .read .reads)))
+  pub states-agree : (s : Sign) (p l : ℕ) → l ≤ k .head .cues → inRow states s p l ≡ holdsIn (statesOf k) s p l
+  states-agree s p l h =
+      ap (λ (w : List ℕ). inRow w s p l) (r .statesHeld)
+      ∙ states-hold k (r .stateSize) s p l (initial-worded k (sound (r .read .text) k (r .read .reads)))
       (let e = is-sound .plan-length in omega arith)
 
   -- No column is built yet.

@@ -17,6 +17,7 @@ ghost use Rattle.parts.specs.Spans.{spansIn};
 ghost use Rattle.parts.specs.Tests.{Tested};
 ghost use Rattle.constraints.specs.Methods.{keptAs, ConstraintsHere, meant, Says};
 use index::Span;
+use parts::is_either;
 use parts::keeps;
 use rules::Answer;
 
@@ -35,36 +36,36 @@ struct Line {
     next: usize,
 }
 
-// "first broken O, B, F, W": 10, 11, 12, 13.
+// "first broken O, B, F, W": 10, 11, 12, 13; a small letter's as its large one's.
 fn broken(letter: u8, line: u32, number: u32) -> Answer
     ensures { λ r. ⌜ ((first second third : ℕ) → r ≡ brokenAt line number (constraintOf letter first second third)) ⌝ }
 {
-    if letter == b'O' {
-        return Answer::OrderBroken {
+    if is_either(letter, b'W') {
+        return Answer::BetweenBroken {
             line,
             constraint: number,
         };
     }
-    if letter == b'B' {
-        return Answer::BeforeBroken {
-            line,
-            constraint: number,
-        };
-    }
-    if letter == b'F' {
+    if is_either(letter, b'F') {
         return Answer::AfterBroken {
             line,
             constraint: number,
         };
     }
-    Answer::BetweenBroken {
+    if is_either(letter, b'B') {
+        return Answer::BeforeBroken {
+            line,
+            constraint: number,
+        };
+    }
+    Answer::OrderBroken {
         line,
         constraint: number,
     }
 }
 
-// The line of a constraint: its letter, its numbers, and where the line after it stands. Only W has a third number, and no field need follow
-// the numbers of the others.
+// The line of a constraint: its letter, its numbers, and where the line after it stands. Only W and w have a third number, and no field need
+// follow the numbers of the others.
 fn line_at(fields: &[u32], at: usize) -> Line
     requires { ⌜ ((d : Constraint) × (ds : List Constraint) × Stands (now fields) at (linesFields (map constraintLine (d ∷ ds)))) ⌝ }
     ensures { λ r. ⌜ ((d : Constraint) (ds : List Constraint) → Stands (now (fields .entry)) at (linesFields (map constraintLine (d ∷ ds))) → Says (now (fields .entry)) r d ds) ⌝ }
@@ -72,7 +73,7 @@ fn line_at(fields: &[u32], at: usize) -> Line
     let letter = fields[at] as u8;
     let first = fields[at + 1];
     let second = fields[at + 2];
-    if letter == b'W' {
+    if is_either(letter, b'W') {
         let third = fields[at + 3];
         return Line {
             letter,

@@ -3,10 +3,11 @@ use mathlib.Core.Path.{_≡_, refl, ap}
 use mathlib.Core.List.{List, [], _∷_, _++_, map, append-nil, append-assoc}
 use Prim.Native.Nat.{ℕ}
 use lib.ListN.{length}
+use Rattle.rules.specs.declared.Sign.the-variants.{Positive, Negative}
 use Rattle.rules.specs.State.{State, Action}
 use Rattle.rules.specs.Table.{rowOf, table}
 use Rattle.rules.specs.Case.{Constraint, O, B, F, W, Method, NodeLine, D, E, L}
-use Rattle.rules.specs.Fields.{propositionsOf, lineFields, linesFields, initialLine, actionLine, constraintLine, methodLines, cuesLine, nodeLine}
+use Rattle.rules.specs.Fields.{propositionsOf, lineFields, linesFields, initialLine, actionLine, letterOf, constraintLine, methodLines, cuesLine, nodeLine}
 
 -- A set's fields: how many propositions it has, and which.
 abbrev pub setFields : State → List ℕ
@@ -35,16 +36,19 @@ cues-fields plan = ap (λ (l : List ℕ). 80 ∷ l) (append-nil plan)
 
 abbrev pub constraintFields : Constraint → List ℕ
 constraintFields (O i j) = 79 ∷ i ∷ j ∷ []
-constraintFields (B p u) = 66 ∷ p ∷ u ∷ []
-constraintFields (F p u) = 70 ∷ p ∷ u ∷ []
-constraintFields (W u p v) = 87 ∷ u ∷ p ∷ v ∷ []
+constraintFields (B s p u) = letterOf s "B" "b" ∷ p ∷ u ∷ []
+constraintFields (F s p u) = letterOf s "F" "f" ∷ p ∷ u ∷ []
+constraintFields (W s u p v) = letterOf s "W" "w" ∷ u ∷ p ∷ v ∷ []
 
 pub constraint-fields : (c : Constraint) → lineFields (constraintLine c) ≡ constraintFields c
 unfolding lineFields constraintLine rowOf table
 constraint-fields (O i j) = refl
-constraint-fields (B p u) = refl
-constraint-fields (F p u) = refl
-constraint-fields (W u p v) = refl
+constraint-fields (B Positive p u) = refl
+constraint-fields (B Negative p u) = refl
+constraint-fields (F Positive p u) = refl
+constraint-fields (F Negative p u) = refl
+constraint-fields (W Positive u p v) = refl
+constraint-fields (W Negative u p v) = refl
 
 abbrev pub nodeFields : NodeLine → List ℕ
 nodeFields (D m) = 68 ∷ m ∷ []

@@ -1,4 +1,4 @@
-// Reading one line of a case by the table of letters (01, "The case text" and rows 3 and 4 of its table): one reader for all twelve.
+// Reading one line of a case by the table of letters (01, "The case text" and rows 3 and 4 of its table): one reader for all letters.
 mod bounds;
 mod item;
 mod line;

@@ -1,4 +1,5 @@
-// "The twelve letters and what may follow each form one fixed table": a constant table from letter to field shape.
+// "The twelve letters and what may follow each form one fixed table", fifteen with those of Card 1 of 02: a constant table from letter to
+// field shape.
 ghost use mathlib.Core.Path.{_≡_};
 ghost use Rattle.rules.specs.Table.{rowOf};
 ghost use Rattle.lines.specs.Shapes.{shapeRow, rowShown};
@@ -22,6 +23,9 @@ pub fn shape(letter: u8) -> u64
         b'O' => 0x02_0a_05,
         b'P' => 0x16_06,
         b'W' => 0x0c_0b_0c_05,
+        b'b' => 0x0c_0b_05,
+        b'f' => 0x0c_0b_05,
+        b'w' => 0x0c_0b_0c_05,
         _ => 0,
     }
 }

@@ -1,66 +1,78 @@
 -- A constraint's letter picks its test; each test is the definition's, at the spans of the parts. Assumes nothing.
 use mathlib.Core.Path.{_≡_, refl, sym, ap, ap₂, subst, _∙_}
 use mathlib.Core.Logic.{_≢_}
-use mathlib.Core.Bool.{Bool, true, false, cond}
+use mathlib.Core.Bool.{Bool, true, false, cond, _||_}
 use mathlib.Core.List.{List, [], _∷_, _++_}
-use Prim.Native.Nat.{ℕ, zero, suc, _+_, _-_, _≤_, _<_}
+use Prim.Native.Nat.{ℕ, zero, suc, _+_, _-_, _*_, _/_, _%_, _≤_, _<_}
+use native.Mathlib.Decide.{ℕ-discrete}
 use native.Mathlib.Nat.{zero-add}
 use native.Mathlib.Omega.{arith}
 use borrow.Author.Tests.{eq-eqb, ne-eqb}
 use lib.Dec.{eqb}
+use lib.Bits.{bitAnd, and-mask, and-block}
 use lib.ListN.{length, getD, length-map, List·getD-map}
 use Rattle.rules.specs.Index.{Span, Part, partOf, only, pick, hull, spanOfPart, c, f, isBefore}
-use Rattle.rules.specs.Case.{Constraint, O, B, F, W}
+use Rattle.rules.specs.declared.Sign.{Sign}
+use Rattle.rules.specs.Case.{Constraint, O, B, F, W, signOf, isEither, constraintOf}
 use Rattle.rules.specs.Constraint.{holdsFrom, keeps}
 use Rattle.rules.proofs.Spans.{hull-one}
 use Rattle.tree.specs.Layout.{subtasksPast}
 use Rattle.rows.specs.Rows.{inRow}
 use Rattle.parts.specs.Spans.{rowSpan, nodesIn, subtaskSpan, spansIn, SubtaskInside}
 use Rattle.parts.specs.Tests.{PartInside, Tested}
-use Rattle.rules.specs.Case.{constraintOf}
 use Rattle.parts.proofs.Parts.{length-nodes}
 
 -- ---- the letter
 
+-- A byte without its bit of 32.
+and-223 : (l : ℕ) → l < 256 → bitAnd l 223 + l / 32 % 2 * 32 ≡ l
+and-223 l h =
+    let whole : l / 64 * 64 + l % 64 ≡ l = omega arith in
+    let parts : bitAnd l 223 ≡ l / 64 % 4 * 64 + l % 64 % 32 =
+        ap (λ (x : ℕ). bitAnd x 223) (sym whole) ∙ and-block 6 (l / 64) 3 (l % 64) 31 (omega arith) (omega arith)
+        ∙ ap₂ (λ (x y : ℕ). x * 64 + y) (and-mask (l / 64) 2) (and-mask (l % 64) 5) in
+    let high : l / 64 % 4 ≡ l / 64 = omega arith in
+    let low : l / 32 ≡ l / 64 * 2 + l % 64 / 32 = omega arith in
+    let one : l / 32 % 2 ≡ l % 64 / 32 = omega arith in
+    omega arith
+
+-- Without that bit a letter is the large one exactly if it is that or the small one.
+pub either-large : (l large : ℕ) → l < 256 → large / 32 % 2 ≡ 0 → eqb (bitAnd l 223) large ≡ isEither l large (large + 32)
+either-large l large h b = go (ℕ-discrete l large) (ℕ-discrete l (large + 32))
+  where
+    go : Dec (l ≡ large) → Dec (l ≡ large + 32) → eqb (bitAnd l 223) large ≡ isEither l large (large + 32)
+    go (yes e) d = eq-eqb (bitAnd l 223) large (omega (arith, and-223 l h)) ∙ sym (ap (λ (x : Bool). x || eqb l (large + 32)) (eq-eqb l large e))
+    go (no n) (yes e) =
+        eq-eqb (bitAnd l 223) large (omega (arith, and-223 l h)) ∙ sym (ap₂ (λ (x y : Bool). x || y) (ne-eqb l large n) (eq-eqb l (large + 32) e))
+    go (no n) (no m) =
+        ne-eqb (bitAnd l 223) large (λ e. m (omega (arith, and-223 l h, n)))
+        ∙ sym (ap₂ (λ (x y : Bool). x || y) (ne-eqb l large n) (ne-eqb l (large + 32) m))
+
+abbrev byB : ℕ → ℕ → ℕ → Bool → Constraint
+byB l x y b = elim b [ true ↦ B (signOf l) x y | false ↦ O x y ]
+
 abbrev byF : ℕ → ℕ → ℕ → Bool → Constraint
-byF x y z b = elim b [ true ↦ F x y | false ↦ W x y z ]
+byF l x y b = elim b [ true ↦ F (signOf l) x y | false ↦ byB l x y (isEither l 66 98) ]
 
-abbrev byB : ℕ → ℕ → ℕ → ℕ → Bool → Constraint
-byB l x y z b = elim b [ true ↦ B x y | false ↦ byF x y z (eqb l 70) ]
-
-abbrev byO : ℕ → ℕ → ℕ → ℕ → Bool → Constraint
-byO l x y z b = elim b [ true ↦ O x y | false ↦ byB l x y z (eqb l 66) ]
+abbrev byW : ℕ → ℕ → ℕ → ℕ → Bool → Constraint
+byW l x y z b = elim b [ true ↦ W (signOf l) x y z | false ↦ byF l x y (isEither l 70 102) ]
 
 module _ (l x y z : ℕ) where
-  pub numbered-O : l ≡ 79 → constraintOf l x y z ≡ O x y
+  pub numbered-W : isEither l 87 119 ≡ true → constraintOf l x y z ≡ W (signOf l) x y z
   unfolding constraintOf
-  numbered-O e = ap (byO l x y z) (eq-eqb l 79 e)
+  numbered-W w = ap (byW l x y z) w
 
-  pub numbered-B : l ≢ 79 → l ≡ 66 → constraintOf l x y z ≡ B x y
+  pub numbered-F : isEither l 87 119 ≡ false → isEither l 70 102 ≡ true → constraintOf l x y z ≡ F (signOf l) x y
   unfolding constraintOf
-  numbered-B n e = ap (byO l x y z) (ne-eqb l 79 n) ∙ ap (byB l x y z) (eq-eqb l 66 e)
+  numbered-F w f = ap (byW l x y z) w ∙ ap (byF l x y) f
 
-  pub numbered-F : l ≢ 79 → l ≢ 66 → l ≡ 70 → constraintOf l x y z ≡ F x y
+  pub numbered-B : isEither l 87 119 ≡ false → isEither l 70 102 ≡ false → isEither l 66 98 ≡ true → constraintOf l x y z ≡ B (signOf l) x y
   unfolding constraintOf
-  numbered-F n m e = ap (byO l x y z) (ne-eqb l 79 n) ∙ ap (byB l x y z) (ne-eqb l 66 m) ∙ ap (byF x y z) (eq-eqb l 70 e)
+  numbered-B w f b = ap (byW l x y z) w ∙ ap (byF l x y) f ∙ ap (byB l x y) b
 
-  pub numbered-W : l ≢ 79 → l ≢ 66 → l ≢ 70 → constraintOf l x y z ≡ W x y z
+  pub numbered-O : isEither l 87 119 ≡ false → isEither l 70 102 ≡ false → isEither l 66 98 ≡ false → constraintOf l x y z ≡ O x y
   unfolding constraintOf
-  numbered-W n m o = ap (byO l x y z) (ne-eqb l 79 n) ∙ ap (byB l x y z) (ne-eqb l 66 m) ∙ ap (byF x y z) (ne-eqb l 70 o)
-
-  -- What the test reads, once the letter is known.
-  module _ (work : List ℕ) (n : ℕ) (own : Span) (t : Tested work n own (constraintOf l x y z)) where
-    pub tested-O : l ≡ 79 → SubtaskInside work x × SubtaskInside work y
-    tested-O e = subst (Tested work n own) (numbered-O e) t
-
-    pub tested-B : l ≢ 79 → l ≡ 66 → PartInside work n own y
-    tested-B m e = subst (Tested work n own) (numbered-B m e) t
-
-    pub tested-F : l ≢ 79 → l ≢ 66 → l ≡ 70 → PartInside work n own y
-    tested-F m o e = subst (Tested work n own) (numbered-F m o e) t
-
-    pub tested-W : l ≢ 79 → l ≢ 66 → l ≢ 70 → PartInside work n own x × PartInside work n own z
-    tested-W m o e = subst (Tested work n own) (numbered-W m o e) t
+  numbered-O w f b = ap (byW l x y z) w ∙ ap (byF l x y) f ∙ ap (byB l x y) b
 
 -- ---- one subtask
 
@@ -108,18 +120,19 @@ module _ (work words : List ℕ) (own : Span) where
   keeps-order i j room e v p q b =
       b ∙ ap₂ isBefore (p ∙ subtask-part work own i room (v .0)) (q ∙ subtask-part work own j room (v .1)) ∙ ap (keeps (inRow words) at) (sym e)
 
-  pub keeps-before : {d : Constraint} (p u : ℕ) {r : Bool} {s : Span} → d ≡ B p u → s ≡ at (partOf u) → r ≡ inRow words p (c s - 1)
-      → r ≡ keeps (inRow words) at d
-  unfolding keeps
-  keeps-before p u e q b = b ∙ ap (λ (x : Span). inRow words p (c x - 1)) q ∙ ap (keeps (inRow words) at) (sym e)
+  -- A condition, whose sign is as the code has it.
+  module _ {d : Constraint} {g h : Sign} (same : g ≡ h) {r : Bool} {s : Span} where
+    pub keeps-before : (p u : ℕ) → d ≡ B h p u → s ≡ at (partOf u) → r ≡ inRow words g p (c s - 1) → r ≡ keeps (inRow words) at d
+    unfolding keeps
+    keeps-before p u e q b = b ∙ ap₂ (λ (z : Sign) (x : Span). inRow words z p (c x - 1)) same q ∙ ap (keeps (inRow words) at) (sym e)
 
-  pub keeps-after : {d : Constraint} (p u : ℕ) {r : Bool} {s : Span} → d ≡ F p u → s ≡ at (partOf u) → r ≡ inRow words p (f s)
-      → r ≡ keeps (inRow words) at d
-  unfolding keeps
-  keeps-after p u e q b = b ∙ ap (λ (x : Span). inRow words p (f x)) q ∙ ap (keeps (inRow words) at) (sym e)
+    pub keeps-after : (p u : ℕ) → d ≡ F h p u → s ≡ at (partOf u) → r ≡ inRow words g p (f s) → r ≡ keeps (inRow words) at d
+    unfolding keeps
+    keeps-after p u e q b = b ∙ ap₂ (λ (z : Sign) (x : Span). inRow words z p (f x)) same q ∙ ap (keeps (inRow words) at) (sym e)
 
-  pub keeps-between : {d : Constraint} (u p v : ℕ) {r : Bool} {s t : Span} → d ≡ W u p v → s ≡ at (partOf u) → t ≡ at (partOf v)
-      → r ≡ holdsFrom (inRow words) p (f s) (c t) → r ≡ keeps (inRow words) at d
-  unfolding keeps
-  keeps-between u p v e q o b =
-      b ∙ ap₂ (λ (x y : Span). holdsFrom (inRow words) p (f x) (c y)) q o ∙ ap (keeps (inRow words) at) (sym e)
+    pub keeps-between : (u p v : ℕ) {t : Span} → d ≡ W h u p v → s ≡ at (partOf u) → t ≡ at (partOf v)
+        → r ≡ holdsFrom (inRow words) g p (f s) (c t) → r ≡ keeps (inRow words) at d
+    unfolding keeps
+    keeps-between u p v {t} e q o b =
+        b ∙ ap (λ (z : Sign). holdsFrom (inRow words) z p (f s) (c t)) same
+        ∙ ap₂ (λ (x y : Span). holdsFrom (inRow words) h p (f x) (c y)) q o ∙ ap (keeps (inRow words) at) (sym e)

@@ -9,7 +9,8 @@ use lib.ListN.{length, take, drop, replicate, length-append, length-replicate}
 use lib.Seq.{take-at, drop-append-add}
 use Rattle.rules.specs.State.{State, wordCount, member, stateAt}
 use Rattle.rules.specs.Case.{Case}
-use Rattle.rules.specs.Constraint.{holdsIn}
+use Rattle.rules.specs.declared.Sign.{Sign}
+use Rattle.rules.specs.Constraint.{signed, holdsIn}
 use Rattle.rules.specs.Verdict.{statesOf, filled}
 use Rattle.rules.proofs.Statements.{states-length}
 use Rattle.rules.proofs.Worded.{Worded, states-worded}
@@ -35,11 +36,11 @@ row-flat (s ∷ ss) rest (suc l) f h =
     steps l e = omega arith
 
 -- State l of a case is the stretch of that number in what a run leaves in the state list.
-pub states-hold : (k : Case) (size p l : ℕ) → Worded (k .initial) → l ≤ length (k .plan)
-    → inRow (filled size 0 (flatten (statesOf k))) p l ≡ holdsIn (statesOf k) p l
+pub states-hold : (k : Case) (size : ℕ) (s : Sign) (p l : ℕ) → Worded (k .initial) → l ≤ length (k .plan)
+    → inRow (filled size 0 (flatten (statesOf k))) s p l ≡ holdsIn (statesOf k) s p l
 unfolding inRow filled holdsIn statesOf
-states-hold k size p l w h =
-    ap (λ (s : State). member s p)
+states-hold k size s p l w h =
+    ap (λ (x : State). signed s (member x p))
     (row-flat (statesOf k) (replicate (size - length (flatten (statesOf k))) 0) l (states-worded (k .actions) (k .plan) (k .initial) w)
     (omega (arith, states-length (k .actions) (k .plan) (k .initial))))
 

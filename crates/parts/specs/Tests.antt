@@ -21,6 +21,6 @@ pub record PartInside (work : List ℕ) (n : ℕ) (own : Span) (u : ℕ) : Type 
 -- What the test of a constraint reads, of a state list that holds n states.
 abbrev pub Tested : List ℕ → ℕ → Span → Constraint → Type 0
 Tested work n own (O i j) = SubtaskInside work i × SubtaskInside work j
-Tested work n own (B p u) = PartInside work n own u
-Tested work n own (F p u) = PartInside work n own u
-Tested work n own (W u p v) = PartInside work n own u × PartInside work n own v
+Tested work n own (B s p u) = PartInside work n own u
+Tested work n own (F s p u) = PartInside work n own u
+Tested work n own (W s u p v) = PartInside work n own u × PartInside work n own v

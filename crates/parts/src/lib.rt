@@ -1,7 +1,8 @@
-// The spans of a task's parts, and the tests of the four kinds of constraint at them (01, "Indexes").
+// The spans of a task's parts, and the tests of the four kinds of constraint at them (01, "Indexes"; 02, Card 1).
 mod spans;
 mod tests;
 
 pub use spans::span_at;
 pub use spans::subtask_nodes;
+pub use tests::is_either;
 pub use tests::keeps;

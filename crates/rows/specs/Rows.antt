@@ -1,9 +1,9 @@
 -- The rows of the state list: state i has the `wordCount` numbers from `wordCount * i` on. Assumes nothing.
-use mathlib.Core.Bool.{Bool}
 use mathlib.Core.List.{List, [], _∷_, _++_}
 use Prim.Native.Nat.{ℕ, _+_, _*_}
 use lib.ListN.{take, drop}
 use Rattle.rules.specs.State.{State, wordCount, member}
+use Rattle.rules.specs.Constraint.{Holds, signed}
 
 -- Stretch i of a list of stretches of n numbers.
 unfoldable pub stretchAt : ℕ → List ℕ → ℕ → List ℕ
@@ -21,9 +21,9 @@ putRow l i s = putStretch wordCount l i s
 unfoldable pub rowAt : List ℕ → ℕ → State
 rowAt l i = stretchAt wordCount l i
 
--- Whether proposition p is in state l of the list.
-unfoldable pub inRow : List ℕ → ℕ → ℕ → Bool
-inRow words p l = member (rowAt words l) p
+-- Whether proposition p is in state l of the list; or whether it is not.
+unfoldable pub inRow : List ℕ → Holds
+inRow words s p l = signed s (member (rowAt words l) p)
 
 -- The list with so many states written in turn, the first of them as state i.
 abbrev pub putRows : List ℕ → ℕ → List State → List ℕ

@@ -4,9 +4,11 @@ ghost use mathlib.Core.Path.{_≡_};
 ghost use Prim.Native.Nat.{_+_, _*_, _≤_};
 ghost use lib.ListN.{length, replicate};
 ghost use Rattle.rules.specs.State.{wordCount};
+ghost use Rattle.rules.specs.Constraint.{signed};
 ghost use Rattle.index.specs.Spans.{stateOf};
 ghost use Rattle.rows.specs.Rows.{putRow, rowAt, inRow};
 use index::StateNumber;
+use rules::Sign;
 use state::State;
 use state::WORDS;
 
@@ -39,14 +41,24 @@ pub fn put_row(states: &mut [u64], l: StateNumber, s: State)
     put_words(&mut states[from..to], s);
 }
 
-// Whether proposition p is in state l: the row for state l is lent on likewise.
-pub fn holds_at(states: &[u64], l: StateNumber, p: u32) -> bool
+// A test with a sign.
+fn with_sign(sign: Sign, holds: bool) -> bool
+    ensures { λ r. ⌜ r ≡ signed sign holds ⌝ }
+{
+    match sign {
+        Sign::Positive => holds,
+        Sign::Negative => !holds,
+    }
+}
+
+// "The test "p holds in state l" therefore carries a sign" (02, Card 1). The row for state l is lent on likewise.
+pub fn holds_at(states: &[u64], sign: Sign, p: u32, l: StateNumber) -> bool
     requires { ⌜ wordCount * stateOf l + wordCount ≤ length (now states) ⌝ }
-    ensures { λ r. ⌜ r ≡ inRow (now (states .entry)) p (stateOf l) ⌝ }
+    ensures { λ r. ⌜ r ≡ inRow (now (states .entry)) sign p (stateOf l) ⌝ }
 {
     let from = row_start(l);
     let to = from + WORDS;
-    state::holds(&states[from..to], p)
+    with_sign(sign, state::holds(&states[from..to], p))
 }
 
 // Set i of a list of sets, each in a stretch of its own as a state is.

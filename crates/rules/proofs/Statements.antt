@@ -4,35 +4,69 @@ use mathlib.Core.Path.{_≡_, refl, sym, _∙_, ap}
 use mathlib.Core.Bool.{Bool, true, false, _&&_, not, false≢true}
 use mathlib.Core.List.{List, [], _∷_}
 use mathlib.Core.Logic.{_↔_, _≢_}
-use Prim.Native.Nat.{ℕ, zero, suc, _+_, _-_, _<_}
+use Prim.Native.Nat.{ℕ, zero, suc, _+_, _-_, _≤_, _<_}
 use native.Mathlib.Numerals.{add-one}
 use native.Mathlib.Omega.{arith}
 use lib.Dec.{eqb, leb, ltb, eqb·suc-zero}
 use lib.ListN.{length, getD}
 use lib.Seq.{ext-getD}
 use borrow.Author.Tests.{ltb-true, lt-ltb, leb-true, le-leb, eqb-true, eq-eqb}
-use Rattle.rules.specs.State.{State, Action, actionAt, next, states, stateAt, noPropositions}
+use Rattle.rules.specs.declared.Sign.{Sign}
+use Rattle.rules.specs.declared.Sign.the-variants.{Positive, Negative}
+use Rattle.rules.specs.State.{State, Action, member, actionAt, next, states, stateAt, noPropositions}
 use Rattle.rules.specs.Index.{Span, Part, partOf, only, c, f, isBefore}
 use Rattle.rules.specs.Case.{Constraint, O, B, F, W, Method, methodAt, NodeLine, D, E, L, Case}
 use Rattle.rules.specs.Tree.{noSubtasks, isMethodOf, fits}
-use Rattle.rules.specs.Constraint.{holdsIn, holdsFrom, keeps}
+use Rattle.rules.specs.Constraint.{signed, holdsIn, holdsFrom, keeps}
 use Rattle.rules.specs.Verdict.{statesOf}
-use Rattle.rules.specs.Rules.{cueAction, AreStates, MethodOf, Fits, Keeps}
+use Rattle.rules.specs.Rules.{cueAction, AreStates, MethodOf, Fits, InState, HoldsIn, Keeps}
 use Rattle.rules.proofs.Tables.{and-left, and-right, and-both, every-at, every-of}
 
 -- ---- Constraints
 
+not-iff : (b : Bool) → (not b ≡ true) ↔ (b ≡ true → ⊥)
+not-iff true = (λ e y. false≢true e, λ n. absurd (n refl))
+not-iff false = (λ e y. false≢true y, λ n. refl)
+
+-- The signed test, beside its statement.
+pub holds-iff : (ss : List State) (s : Sign) (p l : ℕ) → (holdsIn ss s p l ≡ true) ↔ HoldsIn ss s p l
+unfolding holdsIn signed HoldsIn
+holds-iff ss Positive p l = (λ e. e, λ e. e)
+holds-iff ss Negative p l = not-iff (member (stateAt ss l) p)
+
 pub keeps-iff : (ss : List State) (at : Part → Span) (d : Constraint) → (keeps (holdsIn ss) at d ≡ true) ↔ Keeps ss at d
-unfolding keeps Keeps holdsIn holdsFrom isBefore
+unfolding keeps Keeps holdsFrom isBefore
 keeps-iff ss at (O i j) = (ltb-true (f (at (only i))) (c (at (only j))), lt-ltb (f (at (only i))) (c (at (only j))))
-keeps-iff ss at (B p u) = (λ e. e, λ e. e)
-keeps-iff ss at (F p u) = (λ e. e, λ e. e)
-keeps-iff ss at (W u p v) =
+keeps-iff ss at (B s p u) = holds-iff ss s p (c (at (partOf u)) - 1)
+keeps-iff ss at (F s p u) = holds-iff ss s p (f (at (partOf u)))
+keeps-iff ss at (W s u p v) =
     let first = f (at (partOf u)) in
     let past = c (at (partOf v)) in (
-      λ e l lo hi. every-at (past - first) first (λ m. holdsIn ss p m) e l lo (omega arith),
-      λ h. every-of (past - first) first (λ m. holdsIn ss p m) (λ l lo hi. h l lo (omega arith)),
+      λ e l lo hi. holds-iff ss s p l .0 (every-at (past - first) first (λ m. holdsIn ss s p m) e l lo (omega arith)),
+      λ h. every-of (past - first) first (λ m. holdsIn ss s p m) (λ l lo hi. holds-iff ss s p l .1 (h l lo (omega arith))),
     )
+
+-- ---- Signs: where a between asks about no state, both hold; over a mixed stretch both are broken.
+
+pub no-state-kept : (ss : List State) (at : Part → Span) (s : Sign) (u p v : ℕ) → c (at (partOf v)) ≤ f (at (partOf u)) → Keeps ss at (W s u p v)
+unfolding Keeps
+no-state-kept ss at s u p v none = λ l lo hi. let z : ⊥ = omega arith in absurd z
+
+-- State l is one that the between of U and V asks about.
+abbrev Asked : (Part → Span) → ℕ → ℕ → ℕ → Type 0
+Asked at u v l = (f (at (partOf u)) ≤ l) × (l < c (at (partOf v)))
+
+pub mixed-broken : (ss : List State) (at : Part → Span) (s : Sign) (u p v : ℕ) {l m : ℕ} → Asked at u v l → Asked at u v m
+    → InState ss p l → (InState ss p m → ⊥) → Keeps ss at (W s u p v) → ⊥
+unfolding Keeps HoldsIn
+mixed-broken ss at Positive u p v {m = m} i j y n k = n (k m (j .0) (j .1))
+mixed-broken ss at Negative u p v {l = l} i j y n k = k l (i .0) (i .1) y
+
+-- Of the two signs of a condition before or after, one is kept and the other broken.
+pub one-broken : (ss : List State) (at : Part → Span) (p u : ℕ)
+    → (Keeps ss at (B Negative p u) ↔ (Keeps ss at (B Positive p u) → ⊥)) × (Keeps ss at (F Negative p u) ↔ (Keeps ss at (F Positive p u) → ⊥))
+unfolding Keeps HoldsIn
+one-broken ss at p u = ((λ n. n, λ n. n), (λ n. n, λ n. n))
 
 -- ---- Nodes
 

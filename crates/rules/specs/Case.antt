@@ -1,5 +1,5 @@
--- A case, and reading one from a text (01, "The case text" and rows 3 and 4 of its table). Assumes nothing.
-use mathlib.Core.Bool.{true, false}
+-- A case, and reading one from a text (01, "The case text" and rows 3 and 4 of its table; 02, Card 1). Assumes nothing.
+use mathlib.Core.Bool.{Bool, true, false, _||_}
 use mathlib.Core.List.{List, [], _∷_, map}
 use Prim.Native.Nat.{ℕ, zero, suc, _+_}
 use Prim.Native.Char.{code}
@@ -7,16 +7,19 @@ use lib.Dec.{eqb, ltb}
 use lib.ListN.{length, getD}
 use Rattle.rules.specs.declared.Header.{Header}
 use Rattle.rules.specs.declared.Answer.the-variants.{Unreadable, OutOfRange}
+use Rattle.rules.specs.declared.Sign.{Sign}
+use Rattle.rules.specs.declared.Sign.the-variants.{Positive, Negative}
 use Rattle.rules.specs.State.{State, Action, noPropositions, insertAll}
 use Rattle.rules.specs.Table.{Role, header, initial, action, method, constraint, plan, node, Value, scalar, listed, numberOf, LineRead, line, readLine}
 use Rattle.rules.specs.Result.{Result, found, refused, _>>=_, _>>_}
 
--- "O,i,j (i before j, i ≠ j, both subtask numbers); B,p,U (before); F,p,U (after); W,U,p,V (between)."
+-- "O,i,j (i before j, i ≠ j, both subtask numbers); B,p,U (before); F,p,U (after); W,U,p,V (between)." "Lines b, f and w take the fields
+-- of B, F and W and ask that the proposition be false" (02, Card 1): a condition has a sign.
 pub data Constraint : Type 0 where
   O : (i j : ℕ) → Constraint
-  B : (p u : ℕ) → Constraint
-  F : (p u : ℕ) → Constraint
-  W : (u p v : ℕ) → Constraint
+  B : (s : Sign) (p u : ℕ) → Constraint
+  F : (s : Sign) (p u : ℕ) → Constraint
+  W : (s : Sign) (u p v : ℕ) → Constraint
 
 pub record Method : Type 0 where
   pub task : ℕ
@@ -87,15 +90,22 @@ initialOf x = setAt (x .1) 0
 unfoldable pub actionOf : Valued → Action
 actionOf x = record { needed = setAt (x .1) 0; forbidden = setAt (x .1) 1; added = setAt (x .1) 2; deleted = setAt (x .1) 3 }
 
+-- The sign of a condition's letter: "b, f and w [..] ask that the proposition be false" (02, Card 1).
+unfoldable pub signOf : ℕ → Sign
+signOf letter = elim (ltb letter (code "a")) [ true ↦ Positive | false ↦ Negative ]
+
+abbrev pub isEither : ℕ → ℕ → ℕ → Bool
+isEither letter large small = eqb letter large || eqb letter small
+
 -- A constraint line, by its letter and its numbers.
 unfoldable pub constraintOf : ℕ → ℕ → ℕ → ℕ → Constraint
 constraintOf letter first second third =
-    elim (eqb letter (code "O")) [
-      | true ↦ O first second
+    elim (isEither letter (code "W") (code "w")) [
+      | true ↦ W (signOf letter) first second third
       | false ↦
-          elim (eqb letter (code "B")) [
-            | true ↦ B first second
-            | false ↦ elim (eqb letter (code "F")) [ true ↦ F first second | false ↦ W first second third ]
+          elim (isEither letter (code "F") (code "f")) [
+            | true ↦ F (signOf letter) first second
+            | false ↦ elim (isEither letter (code "B") (code "b")) [ true ↦ B (signOf letter) first second | false ↦ O first second ]
           ]
     ]
 

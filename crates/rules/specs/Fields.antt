@@ -4,9 +4,11 @@ use mathlib.Core.Bool.{true, false}
 use mathlib.Core.List.{List, [], _∷_, _++_, map, flatten}
 use mathlib.Core.Option.{Option, none, some}
 use Prim.Native.Nat.{ℕ, zero, suc, _*_}
-use Prim.Native.Char.{code}
+use Prim.Native.Char.{Char, code}
 use lib.ListN.{length}
 use Rattle.rules.specs.declared.Header.{Header}
+use Rattle.rules.specs.declared.Sign.{Sign}
+use Rattle.rules.specs.declared.Sign.the-variants.{Positive, Negative}
 use Rattle.rules.specs.State.{State, Action, wordCount, member}
 use Rattle.rules.specs.Table.{Item, one, set, subtaskList, cues, Row, rowOf, Value, scalar, listed, numberOf}
 use Rattle.rules.specs.Case.{Constraint, O, B, F, W, Method, NodeLine, D, E, L, Case, Valued, listOf}
@@ -68,12 +70,18 @@ initialLine s = (code "I", setValue s ∷ [])
 unfoldable pub actionLine : Action → Valued
 actionLine a = (code "A", setValue (a .needed) ∷ setValue (a .forbidden) ∷ setValue (a .added) ∷ setValue (a .deleted) ∷ [])
 
--- "O,i,j (i before j, i ≠ j, both subtask numbers); B,p,U (before); F,p,U (after); W,U,p,V (between)."
+-- The letter of a condition, of two.
+abbrev pub letterOf : Sign → Char → Char → ℕ
+letterOf Positive large small = code large
+letterOf Negative large small = code small
+
+-- "O,i,j (i before j, i ≠ j, both subtask numbers); B,p,U (before); F,p,U (after); W,U,p,V (between)." "Lines b, f and w take the fields
+-- of B, F and W" (02, Card 1).
 unfoldable pub constraintLine : Constraint → Valued
 constraintLine (O i j) = (code "O", scalar i ∷ scalar j ∷ [])
-constraintLine (B p u) = (code "B", scalar p ∷ scalar u ∷ [])
-constraintLine (F p u) = (code "F", scalar p ∷ scalar u ∷ [])
-constraintLine (W u p v) = (code "W", scalar u ∷ scalar p ∷ scalar v ∷ [])
+constraintLine (B s p u) = (letterOf s "B" "b", scalar p ∷ scalar u ∷ [])
+constraintLine (F s p u) = (letterOf s "F" "f", scalar p ∷ scalar u ∷ [])
+constraintLine (W s u p v) = (letterOf s "W" "w", scalar u ∷ scalar p ∷ scalar v ∷ [])
 
 -- "One M line per method: compound task, list of subtasks [..], constraint count c (0 to 64); then c lines of its own"
 unfoldable pub methodLines : Method → List Valued

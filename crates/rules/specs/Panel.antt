@@ -1,4 +1,5 @@
--- The ten panel cases (01, "Panel cases"): text and answer of each, in one table under one lemma. Assumes nothing.
+-- The ten panel cases (01, "Panel cases"): text and answer of each, in one table under one lemma; and beside them cases of Card 1 of 02.
+-- Assumes nothing.
 use mathlib.Core.Path.{_≡_, refl}
 use mathlib.Core.List.{List, [], _∷_, _++_, map}
 use Prim.Native.Nat.{ℕ}
@@ -59,6 +60,31 @@ table =
     ∷ panel "N,3,3,2,3,4,0,1" "I,0" "P" ("E,2,0" ∷ []) "R,11,14,0"
     ∷ []
 
+-- Card 1: panel case a with one more condition, or two, in the panel's method.
+abbrev signed : String → List String → String → Panel
+signed method conditions answer = record {
+  lines =
+      "N,3,3,2,3,3,2,4" ∷ "I,1,0" ∷ "A,0,1,0,1,0,0" ∷ "A,0,0,1,1,0" ∷ "A,1,1,0,1,2,1,1" ∷ method ∷ "O,0,2" ∷ "O,1,2" ∷ "W,1,0,4"
+      ∷ conditions ++ ("M,4,1,0,0" ∷ "M,4,0,1" ∷ "B,0,0" ∷ "P,1,2" ∷ "D,0" ∷ "E,2,0" ∷ "L,1,1" ∷ "L,2,2" ∷ []);
+  answer = answer;
+}
+
+-- Loaded is false before load (task 1, set 2) and true after it; on air is false from "in km/h" (set 1) to take (set 4), and loaded is false
+-- first and then true there, so that w and W are broken alike. From take to "in km/h" no state is asked about: both hold.
+abbrev pub signedTable : List Panel
+signedTable =
+    signed "M,3,3,4,1,2,4" ("b,1,2" ∷ []) "Y,2,4"
+    ∷ signed "M,3,3,4,1,2,4" ("B,1,2" ∷ []) "R,11,15,3"
+    ∷ signed "M,3,3,4,1,2,4" ("f,1,2" ∷ []) "R,12,15,3"
+    ∷ signed "M,3,3,4,1,2,4" ("F,1,2" ∷ []) "Y,2,4"
+    ∷ signed "M,3,3,4,1,2,4" ("w,1,2,4" ∷ []) "Y,2,4"
+    ∷ signed "M,3,3,4,1,2,4" ("w,1,1,4" ∷ []) "R,13,15,3"
+    ∷ signed "M,3,3,4,1,2,4" ("W,1,1,4" ∷ []) "R,13,15,3"
+    ∷ signed "M,3,3,4,1,2,5" ("w,4,0,1" ∷ "W,4,2,1" ∷ []) "Y,2,4"
+    ∷ signed "M,3,3,4,1,2,4" ("b,0,1,2" ∷ []) "R,3,10,4"
+    ∷ signed "M,3,3,4,1,2,4" ("o,0,2" ∷ []) "R,3,10,1"
+    ∷ []
+
 -- With lists as long as 01 asks.
 abbrev checked : Panel → Found Tree
 checked p = check (checkLists 4004 3000 16384) (textOf (p .lines))
@@ -70,8 +96,11 @@ spansOf (refused r) = []
 abbrev doubled : ℕ → ℕ → Span
 doubled s e = record { start = s; end = e }
 
--- Each case is answered as 01 prints it; "a. [..] doubled spans 1-4, 1-1, 2-2, 4-4".
-pub answers : (map (λ p. printed (answerOf (checked p))) table ≡ map (λ p. textOf (p .answer ∷ [])) table)
-    × (spansOf (checked caseA) ≡ doubled 1 4 ∷ doubled 1 1 ∷ doubled 2 2 ∷ doubled 4 4 ∷ [])
-unfolding St.wordCount St.bit St.member St.noPropositions St.insert St.without St.appliesWord St.applies St.nextWord St.next St.noAction St.actionAt St.states St.stateAt St.firstStop Ix.ofCue Ix.ofGap Ix.at Ix.least Ix.greatest Ix.hull Ix.partOf Ix.only Ix.pick Ix.spanOfPart Ix.roundedUp Ix.roundedDown Ix.c Ix.f Ix.isBefore Tx.isFeed Tx.isComma Tx.isDigit Tx.endsField Tx.isPlain Tx.numberAt Tx.letterAt Tx.endingAt Tx.feedFollows Tb.table Tb.rowOf Tb.roleNumber Tb.isCompound Tb.inRange Tb.readList Tb.readItem Tb.readLine Ca.noMethod Ca.methodAt Ca.scalarAt Ca.membersAt Ca.setAt Ca.headerOf Ca.initialOf Ca.actionOf Ca.constraintOf Ca.asConstraint Ca.planOf Ca.nodeOf Ca.asNode Ca.oneLine Ca.oneMethod Ca.noSurplus Ca.readBody Ca.noHeader Ca.readFrom Ca.readCase Tr.preorder Tr.preorders Tr.rootLine Tr.span Tr.spans Tr.subtaskSpans Tr.noSubtasks Tr.isMethodOf Tr.fits Tr.isIn Tr.mayClaim Tr.walkNode Tr.levelCount Tr.walkTree Co.holdsIn Co.holdsFrom Co.keeps Co.constraintsOf Co.partsOf Co.brokenAt Co.firstBroken Ve.reported Ve.stateNeed Ve.nodeNeed Ve.workNeed Ve.checkLists Ve.statesOf Ve.planRuns Ve.allClaimed Ve.noneBroken Ve.textMost Ve.check Li.decimal Li.printed
-answers = (refl, refl)
+-- What is printed for each case of a table is its answer.
+abbrev Answered : List Panel → Type 0
+Answered cases = map (λ p. printed (answerOf (checked p))) cases ≡ map (λ p. textOf (p .answer ∷ [])) cases
+
+-- Each case is answered as 01 prints it; "a. [..] doubled spans 1-4, 1-1, 2-2, 4-4"; and as Card 1 has it.
+pub answers : Answered table × (spansOf (checked caseA) ≡ doubled 1 4 ∷ doubled 1 1 ∷ doubled 2 2 ∷ doubled 4 4 ∷ []) × Answered signedTable
+unfolding St.wordCount St.bit St.member St.noPropositions St.insert St.without St.appliesWord St.applies St.nextWord St.next St.noAction St.actionAt St.states St.stateAt St.firstStop Ix.ofCue Ix.ofGap Ix.at Ix.least Ix.greatest Ix.hull Ix.partOf Ix.only Ix.pick Ix.spanOfPart Ix.roundedUp Ix.roundedDown Ix.c Ix.f Ix.isBefore Tx.isFeed Tx.isComma Tx.isDigit Tx.endsField Tx.isPlain Tx.numberAt Tx.letterAt Tx.endingAt Tx.feedFollows Tb.table Tb.rowOf Tb.roleNumber Tb.isCompound Tb.inRange Tb.readList Tb.readItem Tb.readLine Ca.noMethod Ca.methodAt Ca.scalarAt Ca.membersAt Ca.setAt Ca.headerOf Ca.initialOf Ca.actionOf Ca.signOf Ca.constraintOf Ca.asConstraint Ca.planOf Ca.nodeOf Ca.asNode Ca.oneLine Ca.oneMethod Ca.noSurplus Ca.readBody Ca.noHeader Ca.readFrom Ca.readCase Tr.preorder Tr.preorders Tr.rootLine Tr.span Tr.spans Tr.subtaskSpans Tr.noSubtasks Tr.isMethodOf Tr.fits Tr.isIn Tr.mayClaim Tr.walkNode Tr.levelCount Tr.walkTree Co.signed Co.holdsIn Co.holdsFrom Co.keeps Co.constraintsOf Co.partsOf Co.brokenAt Co.firstBroken Ve.reported Ve.stateNeed Ve.nodeNeed Ve.workNeed Ve.checkLists Ve.statesOf Ve.planRuns Ve.allClaimed Ve.noneBroken Ve.textMost Ve.check Li.decimal Li.printed
+answers = (refl, refl, refl)

@@ -117,12 +117,12 @@ pub record Covers (lists : List Lent) (text : List ℕ) (k : Case) (states : Lis
   pub grown : Grows lists text k states t
   pub claimed : (i : ℕ) → 1 ≤ i → i ≤ k .head .cues → Claimed k i
 
--- "first broken O, B, F, W": "10, 11, 12, 13"
+-- "first broken O, B, F, W": "10, 11, 12, 13". "Broken ones give 11, 12 and 13" (02, Card 1).
 abbrev pub brokenNumber : Constraint → ℕ
 brokenNumber (O i j) = 10
-brokenNumber (B p u) = 11
-brokenNumber (F p u) = 12
-brokenNumber (W u p v) = 13
+brokenNumber (B s p u) = 11
+brokenNumber (F s p u) = 12
+brokenNumber (W s u p v) = 13
 
 -- ---- The table: number, line and item
 

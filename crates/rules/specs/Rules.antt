@@ -1,4 +1,4 @@
--- The index-based rules of a case, as statements and not as an order of tests (01, "States and cues", "Indexes" and "The tree"): what
+-- The index-based rules of a case, as statements and not as an order of tests (01, "States and cues", "Indexes" and "The tree"; 02, Card 1): what
 -- acceptance means. Each is said apart from the test that the verdict makes; proofs/Statements shows the two equal. (What a cue needs and
 -- leaves, proposition by proposition: proofs/Members.) Assumes nothing.
 use mathlib.Core.Path.{_≡_}
@@ -8,6 +8,8 @@ use mathlib.Core.Logic.{_≢_}
 use Prim.Native.Nat.{ℕ, _+_, _-_, _≤_, _<_}
 use lib.Dec.{eqb}
 use lib.ListN.{length, getD}
+use Rattle.rules.specs.declared.Sign.{Sign}
+use Rattle.rules.specs.declared.Sign.the-variants.{Positive, Negative}
 use Rattle.rules.specs.State.{State, Action, member, applies, next, actionAt, stateAt}
 use Rattle.rules.specs.Index.{Span, Part, partOf, only, c, f}
 use Rattle.rules.specs.Case.{Constraint, O, B, F, W, methodAt, NodeLine, D, E, L, Case}
@@ -74,13 +76,19 @@ claimants i (x ∷ xs) = claimOf i x ++ claimants i xs
 abbrev pub InState : List State → ℕ → ℕ → Type 0
 InState states p l = member (stateAt states l) p ≡ true
 
+-- "The test "p holds in state l" therefore carries a sign" (02, Card 1): p is in state l, or it is not.
+unfoldable pub HoldsIn : List State → Sign → ℕ → ℕ → Type 0
+HoldsIn states Positive p l = InState states p l
+HoldsIn states Negative p l = InState states p l → ⊥
+
 -- "T before V holds if f(T) < c(V). before(p, U): p is in state c(U) - 1. after(p, U): p is in state f(U). between(U, p, V): p is in each
--- state l with f(U) ≤ l < c(V)". At the span of each part of the task that the constraint belongs to.
+-- state l with f(U) ≤ l < c(V)". "b, f and w [..] ask that the proposition be false in the same states" (02, Card 1). At the span of each
+-- part of the task that the constraint belongs to.
 unfoldable pub Keeps : List State → (Part → Span) → Constraint → Type 0
 Keeps states at (O i j) = f (at (only i)) < c (at (only j))
-Keeps states at (B p u) = InState states p (c (at (partOf u)) - 1)
-Keeps states at (F p u) = InState states p (f (at (partOf u)))
-Keeps states at (W u p v) = (l : ℕ) → f (at (partOf u)) ≤ l → l < c (at (partOf v)) → InState states p l
+Keeps states at (B s p u) = HoldsIn states s p (c (at (partOf u)) - 1)
+Keeps states at (F s p u) = HoldsIn states s p (f (at (partOf u)))
+Keeps states at (W s u p v) = (l : ℕ) → f (at (partOf u)) ≤ l → l < c (at (partOf v)) → HoldsIn states s p l
 
 -- ---- All of them
 

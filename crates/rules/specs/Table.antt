@@ -1,4 +1,4 @@
--- The twelve letters, what may follow each, and reading one line by them (01, "The case text" and rows 3 and 4 of its table).
+-- The fifteen letters, what may follow each, and reading one line by them (01, "The case text" and rows 3 and 4 of its table; 02, Card 1).
 -- Assumes nothing.
 use mathlib.Core.Bool.{Bool, true, false, _&&_, not}
 use mathlib.Core.List.{List, [], _∷_, _++_}
@@ -26,7 +26,7 @@ pub data Item : Type 0 where
   one : Kind → Item
   set subtaskList cues : Item
 
--- "The twelve letters and what may follow each form one fixed table"
+-- "The twelve letters and what may follow each form one fixed table"; "Lines b, f and w take the fields of B, F and W" (02, Card 1).
 pub record Row : Type 0 where
   pub letter : ℕ
   pub role : Role
@@ -44,8 +44,11 @@ table =
     ∷ row "M" method (one compound ∷ subtaskList ∷ one (upTo 64) ∷ [])
     ∷ row "O" constraint (one subtask ∷ one otherSubtask ∷ [])
     ∷ row "B" constraint (one proposition ∷ one subtaskSet ∷ [])
+    ∷ row "b" constraint (one proposition ∷ one subtaskSet ∷ [])
     ∷ row "F" constraint (one proposition ∷ one subtaskSet ∷ [])
+    ∷ row "f" constraint (one proposition ∷ one subtaskSet ∷ [])
     ∷ row "W" constraint (one subtaskSet ∷ one proposition ∷ one subtaskSet ∷ [])
+    ∷ row "w" constraint (one subtaskSet ∷ one proposition ∷ one subtaskSet ∷ [])
     ∷ row "P" plan (cues ∷ [])
     ∷ row "D" node (one aMethod ∷ [])
     ∷ row "E" node (one aMethod ∷ one gap ∷ [])
@@ -56,7 +59,7 @@ abbrev pub rowIn : ℕ → List Row → Option Row
 rowIn l [] = none
 rowIn l (r ∷ rs) = elim (eqb l (r .letter)) [ true ↦ some r | false ↦ rowIn l rs ]
 
--- The row of a letter; none for a byte that is none of the twelve.
+-- The row of a letter; none for a byte that is none of the fifteen.
 unfoldable pub rowOf : ℕ → Option Row
 rowOf l = rowIn l table
 

@@ -39,6 +39,12 @@ pub enum Answer {
     BetweenBroken { line: u32, constraint: u32 },
 }
 
+// What a condition asks of a proposition in a state: that it be true, or that it be false (02, Card 1).
+pub enum Sign {
+    Positive,
+    Negative,
+}
+
 // The record of a node that the check call fills.
 #[repr(C)]
 pub struct Node {

@@ -2,7 +2,7 @@
 use Rattle.columns.proofs.Kept.{place, long}
 use Rattle.columns.proofs.by_column.Statement.{statement}
 use Rattle.columns.proofs.by_column.Tie as tie
-use Rattle.columns.specs.Columns.{columnWords, columnAt, clear, Summed}
+use Rattle.columns.specs.Columns.{columnWords, columnAt, asked, Summed}
 use Rattle.rows.proofs.Written.{part-at}
 use Rattle.rules.specs.State.{every}
 use borrow.Author.Needs.{needs}
@@ -19,37 +19,37 @@ add-to : tie.Need-add-to
 unfolding columnWords
 add-to c = search needs
 
-mul-all-clear : tie.Need-mul-all-clear
+mul-all-asked : tie.Need-mul-all-asked
 unfolding columnWords
-mul-all-clear c = search needs
+mul-all-asked c = search needs
 
-sub-all-clear : tie.Need-sub-all-clear
-sub-all-clear c = search needs
+sub-all-asked : tie.Need-sub-all-asked
+sub-all-asked c = search needs
 
-part-all-clear-start : tie.Need-part-all-clear-start
-part-all-clear-start c = search needs
+part-all-asked-start : tie.Need-part-all-asked-start
+part-all-asked-start c = search needs
 
-part-all-clear-end : tie.Need-part-all-clear-end
+part-all-asked-end : tie.Need-part-all-asked-end
 unfolding columnWords
-part-all-clear-end c =
+part-all-asked-end c =
     let s = c .before .before in
     omega (arith, place (s .args .columns .now) (s .args .p) (s .pre .1 .0) (s .pre .0), c .column-start .ensures)
 
 number-requires : tie.Need-number-requires
 number-requires c κs = search needs
 
-cast-all-clear : tie.Need-cast-all-clear
-cast-all-clear c = search needs
+cast-all-asked : tie.Need-cast-all-asked
+cast-all-asked c = search needs
 
 number-requires-2 : tie.Need-number-requires-2
 number-requires-2 c κs = search needs
 
-cast-all-clear-2 : tie.Need-cast-all-clear-2
-cast-all-clear-2 c = search needs
+cast-all-asked-2 : tie.Need-cast-all-asked-2
+cast-all-asked-2 c = search needs
 
-all-clear-requires : tie.Need-all-clear-requires
+all-asked-requires : tie.Need-all-asked-requires
 unfolding columnWords columnAt
-all-clear-requires c κs =
+all-asked-requires c κs =
     let s = c .before .before .before .before .before in
     let a = s .args in
     let p = s .pre .1 in
@@ -66,9 +66,9 @@ returns c =
     let from = c .before .before .before .before .column-start in
     let first = c .before .before .number in
     let past = c .before .number2 in
-    c .all-clear .ensures
-    ∙ ap (λ (x : List ℕ). every (past .result - first .result) (first .result) (clear x)) (part-at columnWords (a .columns .now) (a .p) (from .result) (from .ensures))
-    ∙ ap₂ (λ (m n : ℕ). every (n - m) m (clear (columnAt (a .columns .now) (a .p)))) (first .ensures) (past .ensures)
+    c .all-asked .ensures
+    ∙ ap (λ (x : List ℕ). every (past .result - first .result) (first .result) (asked (a .sign) x)) (part-at columnWords (a .columns .now) (a .p) (from .result) (from .ensures))
+    ∙ ap₂ (λ (m n : ℕ). every (n - m) m (asked (a .sign) (columnAt (a .columns .now) (a .p)))) (first .ensures) (past .ensures)
 
 pub by-column-spec : {M : Type 1} → statement M
 by-column-spec =
@@ -76,13 +76,13 @@ by-column-spec =
     (tie.spec
     column-start-requires
     add-to
-    mul-all-clear
-    sub-all-clear
-    part-all-clear-start
-    part-all-clear-end
+    mul-all-asked
+    sub-all-asked
+    part-all-asked-start
+    part-all-asked-end
     number-requires
-    cast-all-clear
+    cast-all-asked
     number-requires-2
-    cast-all-clear-2
-    all-clear-requires
+    cast-all-asked-2
+    all-asked-requires
     returns)

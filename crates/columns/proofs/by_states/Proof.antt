@@ -14,12 +14,12 @@ use mathlib.Core.Path.{_≡_, refl, sym, ap, _∙_}
 use native.Mathlib.Omega.{arith}
 
 abbrev Inv-loop : tie.InvT-loop
-Inv-loop states p past l₀ l =
+Inv-loop states g p past l₀ l =
     (stateOf l₀ ≤ stateOf l)
-    × (holdsFrom (inRow states) p (stateOf l₀) (stateOf past) ≡ every (stateOf past - stateOf l) (stateOf l) (λ i. inRow states p i))
+    × (holdsFrom (inRow states) g p (stateOf l₀) (stateOf past) ≡ every (stateOf past - stateOf l) (stateOf l) (λ i. inRow states g p i))
 
 abbrev μ-loop : tie.MeasureT-loop
-μ-loop states p past l₀ l = stateOf past - stateOf l
+μ-loop states g p past l₀ l = stateOf past - stateOf l
 
 loop-holds : tie.Need-loop-holds Inv-loop μ-loop
 unfolding holdsFrom
@@ -42,14 +42,14 @@ returns c =
     let n = stateOf (l .l) in
     let m = stateOf (a .past) in
     let less = ltb-true n m (sym (c .before .before .before .is-less .ensures) ∙ c .before .before .if1 .taken) in
-    sym (l .inv .1 ∙ every-fails (m - n) (m - (n + 1)) n (λ i. inRow (a .states .now) (a .p) i) (omega arith)
+    sym (l .inv .1 ∙ every-fails (m - n) (m - (n + 1)) n (λ i. inRow (a .states .now) (a .sign) (a .p) i) (omega arith)
     (sym (c .before .holds-at .ensures) ∙ not-true (c .before .holds-at .result) (c .if2 .taken)))
 
 next-requires : tie.Need-next-requires Inv-loop μ-loop
 next-requires c κs =
     let s = c .before .before .before .before .before .before in
     let less = ltb-true (stateOf (c .before .before .before .before .loop .l)) (stateOf (s .args .past)) (sym (c .before .before .before .is-less .ensures) ∙ c .before .before .if1 .taken) in
-    let few = number-fits (s .args .past) _ (s .good .1 .1 .1 .0) in
+    let few = number-fits (s .args .past) _ (s .good .1 .1 .1 .1 .0) in
     omega arith
 
 loop-less : tie.Need-loop-less Inv-loop μ-loop
@@ -67,9 +67,9 @@ loop-again c =
     let m = stateOf (a .past) in
     let less = ltb-true n m (sym (c .before .before .before .before .is-less .ensures) ∙ c .before .before .before .if1 .taken) in (
       omega (arith, c .next .ensures),
-      l .inv .1 ∙ every-next (m - n) (m - (n + 1)) n (λ i. inRow (a .states .now) (a .p) i) (omega arith)
+      l .inv .1 ∙ every-next (m - n) (m - (n + 1)) n (λ i. inRow (a .states .now) (a .sign) (a .p) i) (omega arith)
           (sym (c .before .before .holds-at .ensures) ∙ not-false (c .before .before .holds-at .result) (c .before .if2 .left))
-          ∙ ap (λ (i : ℕ). every (m - i) i (λ j. inRow (a .states .now) (a .p) j)) (sym (c .next .ensures)),
+          ∙ ap (λ (i : ℕ). every (m - i) i (λ j. inRow (a .states .now) (a .sign) (a .p) j)) (sym (c .next .ensures)),
     )
 
 returns-2 : tie.Need-returns-2 Inv-loop μ-loop
@@ -79,7 +79,7 @@ returns-2 c =
     let n = stateOf (l .l) in
     let m = stateOf (a .past) in
     let over = ltb-false n m (sym (c .before .is-less .ensures) ∙ c .if1 .left) in
-    sym (l .inv .1 ∙ every-none (m - n) n (λ i. inRow (a .states .now) (a .p) i) (omega arith))
+    sym (l .inv .1 ∙ every-none (m - n) n (λ i. inRow (a .states .now) (a .sign) (a .p) i) (omega arith))
 
 pub by-states-spec : {M : Type 1} → statement M
 by-states-spec =

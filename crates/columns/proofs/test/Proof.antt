@@ -19,7 +19,7 @@ returns c =
     let a = s .args in
     let k = s .pre .0 in
     let none = ltb-false (stateOf (a .first)) (stateOf (a .past)) (sym (c .before .is-less .ensures) ∙ not-true (c .before .is-less .result) (c .if1 .taken)) in
-    (no-state (inRow (a .states .now)) (a .p) (stateOf (a .first)) (stateOf (a .past)) none, k)
+    (no-state (inRow (a .states .now)) (a .sign) (a .p) (stateOf (a .first)) (stateOf (a .past)) none, k)
 
 next-requires : tie.Need-next-requires
 next-requires c κs =
@@ -51,7 +51,7 @@ returns-2 c =
     let less = ltb-true (stateOf (a .first)) (stateOf (a .past)) (sym (c .before .before .before .before .before .is-less .ensures) ∙ not-false (c .before .before .before .before .before .is-less .result) (c .before .before .before .before .if1 .left)) in
     let next = c .before .before .before .next in
     let over = ltb-false (stateOf (next .result)) (stateOf (a .past)) (sym (c .before .before .is-less2 .ensures) ∙ not-true (c .before .before .is-less2 .result) (c .before .if2 .taken)) in
-    (c .holds-at .ensures ∙ one-state (inRow (a .states .now)) (a .p) (stateOf (a .first)) (stateOf (a .past)) (omega (arith, next .ensures)), k)
+    (c .holds-at .ensures ∙ one-state (inRow (a .states .now)) (a .sign) (a .p) (stateOf (a .first)) (stateOf (a .past)) (omega (arith, next .ensures)), k)
 
 holds-requires : tie.Need-holds-requires
 holds-requires c κs = search needs
@@ -77,7 +77,7 @@ returns-3 c =
     let a = s .args in
     let k = s .pre .0 in
     let made = sym (c .before .before .before .holds .ensures) ∙ c .before .before .if3 .taken in
-    (answer k (a .p) (stateOf (a .first)) (stateOf (a .past)) made (s .pre .1) (c .by-column .ensures), k)
+    (answer k (a .sign) (a .p) (stateOf (a .first)) (stateOf (a .past)) made (s .pre .1) (c .by-column .ensures), k)
 
 pays-requires : tie.Need-pays-requires
 pays-requires c κs = search needs
@@ -122,7 +122,7 @@ returns-5 c =
     let s = c .before .before .before .before .before .before .before .before .before .before .before .before .before .before .before .before .before .before .before .before .before .before in
     let a = s .args in
     let f = c .before .before .before .before .before .before .fill .ensures in
-    (answer (f .0) (a .p) (stateOf (a .first)) (stateOf (a .past)) (f .1) (s .pre .1) (c .by-column2 .ensures), f .0)
+    (answer (f .0) (a .sign) (a .p) (stateOf (a .first)) (stateOf (a .past)) (f .1) (s .pre .1) (c .by-column2 .ensures), f .0)
 
 pub test-spec : {M : Type 1} → statement M
 test-spec =

@@ -3,7 +3,9 @@ use Prim.Native.Nat.{ℕ, _+_, _-_, _*_, _/_, _%_, _^_, _≤_}
 use Rattle.columns.proofs.Filling.{Tests, tests-more}
 use Rattle.rows.proofs.Written.{word-stretch}
 use Rattle.rows.specs.Rows.{rowAt, inRow}
+use Rattle.rules.specs.declared.Sign.the-variants.{Positive}
 use Rattle.rules.specs.State.{wordCount, member, bit}
+use Rattle.rules.specs.Constraint.{signed}
 use lib.ListN.{getD}
 use mathlib.Core.Path.{_≡_, refl, sym, ap, subst}
 use native.Mathlib.Omega.{arith}
@@ -13,7 +15,7 @@ use Rattle.columns.proofs.word_of.Tie as tie
 
 abbrev Inv-loop : tie.InvT-loop
 Inv-loop states p from to i s word₀ l₀ word l =
-    (i ≡ p / 64) × (s ≡ p % 64) × (from ≤ l) × (l ≤ to) × Tests (inRow states p) l to word
+    (i ≡ p / 64) × (s ≡ p % 64) × (from ≤ l) × (l ≤ to) × Tests (inRow states Positive p) l to word
 
 abbrev μ-loop : tie.MeasureT-loop
 μ-loop states p from to i s word₀ l₀ word l = l
@@ -53,11 +55,11 @@ loop-less : tie.Need-loop-less Inv-loop μ-loop
 loop-less c = search needs
 
 loop-again : tie.Need-loop-again Inv-loop μ-loop
-unfolding wordCount inRow rowAt member bit
+unfolding wordCount signed inRow rowAt member bit
 loop-again c =
     let l = c .before .before .loop in
     let a = c .before .before .before .args in
-    let f = inRow (a .states .now) (a .p) in
+    let f = inRow (a .states .now) Positive (a .p) in
     let d = getD (a .states .now) (wordCount * (l .l - 1) + a .p / 64) 0 / 2 ^ (a .p % 64) % 2 in
     let back : l .l ≡ l .l - 1 + 1 = omega arith in (
       refl,
@@ -74,7 +76,7 @@ returns c =
     let l = c .before .loop in
     let a = c .before .before .args in
     let end : l .l ≡ a .from = omega arith in
-    subst (λ (m : ℕ). Tests (inRow (a .states .now) (a .p)) m (a .to) (l .word)) end (l .inv .4)
+    subst (λ (m : ℕ). Tests (inRow (a .states .now) Positive (a .p)) m (a .to) (l .word)) end (l .inv .4)
 
 pub word-of-spec : {M : Type 1} → statement M
 word-of-spec =

@@ -6,6 +6,7 @@ use Rattle.rows.proofs.holds_at.Statement.{statement}
 use Rattle.rows.proofs.holds_at.Tie as tie
 use Rattle.rows.specs.Rows.{rowAt, inRow}
 use Rattle.rules.specs.State.{wordCount, member}
+use Rattle.rules.specs.Constraint.{signed}
 use borrow.Author.Needs.{needs}
 use mathlib.Core.List.{List}
 use mathlib.Core.Path.{ap, _∙_}
@@ -32,12 +33,17 @@ part-holds-end c = search needs
 holds-requires : tie.Need-holds-requires
 holds-requires c κs = search needs
 
+with-sign-requires : tie.Need-with-sign-requires
+with-sign-requires c κs = search needs
+
 returns : tie.Need-returns
 unfolding wordCount inRow rowAt
 returns c =
-    let a = c .before .before .before .before .args in
-    let from = c .before .before .row-start in
-    c .holds .ensures ∙ ap (λ (s : List ℕ). member s (a .p)) (part-at wordCount (a .states .now) (stateOf (a .l)) (from .result) (from .ensures))
+    let a = c .before .before .before .before .before .args in
+    let from = c .before .before .before .row-start in
+    c .with-sign .ensures
+    ∙ ap (signed (a .sign))
+    (c .before .holds .ensures ∙ ap (λ (s : List ℕ). member s (a .p)) (part-at wordCount (a .states .now) (stateOf (a .l)) (from .result) (from .ensures)))
 
 pub holds-at-spec : {M : Type 1} → statement M
 holds-at-spec =
@@ -50,4 +56,5 @@ holds-at-spec =
     part-holds-start
     part-holds-end
     holds-requires
+    with-sign-requires
     returns)

@@ -44,7 +44,7 @@ all-rows : AllRows table
 unfolding table
 all-rows = (
   λ vs ns o. header-means (upTo 256 ∷ upTo 1024 ∷ upTo 1024 ∷ upTo 2048 ∷ goal ∷ upTo 1000 ∷ oneUpTo 3000 ∷ []) o,
-  (any, (any, (λ vs ns o. method-means o, (any, (any, (any, (any, (any, (any, (any, (any, tt))))))))))),
+  (any, (any, (λ vs ns o. method-means o, (any, (any, (any, (any, (any, (any, (any, (any, (any, (any, (any, tt)))))))))))))),
 )
   where
     any : {is : List Item} (vs : List Value) (ns : List ℕ) → HoldAll is vs ns → Unit {0}

@@ -8,7 +8,7 @@ use lib.Dec.{ltb}
 use Rattle.rules.specs.declared.Header.{Header}
 use Rattle.rules.specs.State.{noPropositions, insertAll}
 use Rattle.rules.specs.Table.{Value, scalar, listed, header, initial, action, method, constraint, plan, node, table, roleNumber, inRange}
-use Rattle.rules.specs.Case.{Valued, scalarAt, membersAt, setAt, headerOf, initialOf, actionOf, constraintOf, asConstraint, planOf, nodeOf, asNode, noHeader}
+use Rattle.rules.specs.Case.{Valued, scalarAt, membersAt, setAt, headerOf, initialOf, actionOf, signOf, constraintOf, asConstraint, planOf, nodeOf, asNode, noHeader}
 use Rattle.rules.specs.Fields.{propositionsOf, headerLine, initialLine, actionLine, constraintLine, cuesLine, nodeLine}
 use Rattle.rules.proofs.Fields.{members-back}
 use Rattle.rules.proofs.Judgement.Each.{Each}
@@ -47,8 +47,11 @@ unfolding ForLine table roleNumber methodLine scalarAt membersAt
 method-back h = (λ t ht ss n hs c hc. refl, tt)
 
 pub constraint-back : (h : Header) (n : ℕ) → ForLine h n constraint (λ l vs. constraintLine (asConstraint (l, vs)) ≡ (l, vs))
-unfolding ForLine table roleNumber constraintLine asConstraint constraintOf scalarAt
-constraint-back h n = (λ i hi j hj. refl, (λ p hp u hu. refl, (λ p hp u hu. refl, (λ u hu p hp v hv. refl, tt))))
+unfolding ForLine table roleNumber constraintLine asConstraint constraintOf signOf scalarAt
+constraint-back h n = (
+  λ i hi j hj. refl,
+  (λ p hp u hu. refl, (λ p hp u hu. refl, (λ p hp u hu. refl, (λ p hp u hu. refl, (λ u hu p hp v hv. refl, (λ u hu p hp v hv. refl, tt)))))),
+)
 
 pub plan-back : (h : Header) → ForLine h 0 plan (λ l vs. cuesLine (planOf (l, vs)) ≡ (l, vs))
 unfolding ForLine table roleNumber cuesLine planOf membersAt

@@ -105,9 +105,9 @@ module _ (lists : List Lent) (text : List ℕ) where
   as-answer : (d : Constraint) {line n : ℕ} → Shows lists text (brokenNumber d) line n → AnswerShows lists text (brokenAt line n d)
   unfolding brokenAt reported
   as-answer (O i j) s = s
-  as-answer (B p u) s = s
-  as-answer (F p u) s = s
-  as-answer (W u p v) s = s
+  as-answer (B x p u) s = s
+  as-answer (F x p u) s = s
+  as-answer (W x u p v) s = s
 
   constraints-say : (k : Case) (t : Tree) → Covers lists text k (statesOf k) t → height t ≤ levelCount → CheckSays lists text (fromConstraints k t)
   unfolding noneBroken

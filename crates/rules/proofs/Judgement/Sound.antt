@@ -37,9 +37,9 @@ pub record GoodHeader (h : Header) : Type 0 where
 -- A constraint of a method with so many subtasks.
 abbrev pub GoodConstraint : Header → ℕ → Constraint → Type 0
 GoodConstraint h count (O i j) = (i < count) × (j < count) × (i ≢ j)
-GoodConstraint h count (B p u) = (p < h .propositions) × (u < 2 ^ count)
-GoodConstraint h count (F p u) = (p < h .propositions) × (u < 2 ^ count)
-GoodConstraint h count (W u p v) = (u < 2 ^ count) × (p < h .propositions) × (v < 2 ^ count)
+GoodConstraint h count (B s p u) = (p < h .propositions) × (u < 2 ^ count)
+GoodConstraint h count (F s p u) = (p < h .propositions) × (u < 2 ^ count)
+GoodConstraint h count (W s u p v) = (u < 2 ^ count) × (p < h .propositions) × (v < 2 ^ count)
 
 pub record GoodMethod (h : Header) (m : Method) : Type 0 where
   pub task-least : h .actions ≤ m .task

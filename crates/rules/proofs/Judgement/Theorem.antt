@@ -139,9 +139,9 @@ text-within text h = go (textShort text) (short-says text) h
 
 no-order : (d : Constraint) → brokenNumber d ≡ 0 → ⊥
 no-order (O i j) e = omega arith
-no-order (B p u) e = omega arith
-no-order (F p u) e = omega arith
-no-order (W u p v) e = omega arith
+no-order (B s p u) e = omega arith
+no-order (F s p u) e = omega arith
+no-order (W s u p v) e = omega arith
 
 -- No refusal has number 0.
 pub shows-not-zero : {lists : List Lent} {text : List ℕ} {number line item : ℕ} → Shows lists text number line item → number ≡ 0 → ⊥

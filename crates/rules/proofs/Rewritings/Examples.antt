@@ -1,5 +1,5 @@
 -- Worked cases, by computation: panel case a, and a case whose goal has two compound subtasks, woven, each with an empty task in it.
-use mathlib.Core.Path.{_≡_, refl, subst}
+use mathlib.Core.Path.{_≡_, refl, ap, subst}
 use mathlib.Core.Bool.{Bool, true, _&&_}
 use mathlib.Core.List.{List, [], _∷_, map}
 use mathlib.Core.List.{List·Memᴰ as Mem, List·Memᴰ·head as here, List·Memᴰ·tail as there}
@@ -7,6 +7,7 @@ use Prim.Native.Nat.{ℕ, _+_, _<_}
 use native.Mathlib.Omega.{arith}
 use lib.Dec.{leb, ltb, leb→le, ltb→lt}
 use lib.ListN.{length, getD}
+use Rattle.rules.specs.declared.Sign.the-variants.{Positive, Negative}
 use Rattle.rules.specs.State as St
 use Rattle.rules.specs.Index as Ix
 use Rattle.rules.specs.Case as Ca
@@ -15,8 +16,8 @@ use Rattle.rules.specs.Constraint as Co
 use Rattle.rules.specs.Verdict as Ve
 use Rattle.rules.specs.Rules as Ru
 use Rattle.rules.specs.Rewriting as Re
-use Rattle.rules.specs.State.{State, Action, applies, actionAt, stateAt}
-use Rattle.rules.specs.Case.{Constraint, O, B, W, Method, NodeLine, D, E, L, Case}
+use Rattle.rules.specs.State.{State, Action, member, applies, actionAt, stateAt}
+use Rattle.rules.specs.Case.{Constraint, O, B, W, Method, methodAt, NodeLine, D, E, L, Case}
 use Rattle.rules.specs.Tree.{Tree, leaf, empty, task, noTree, more, preorder, rootLine, isMethodOf, fits}
 use Rattle.rules.specs.Constraint.{holdsIn, keeps, constraintsOf, partsOf}
 use Rattle.rules.specs.Verdict.{statesOf}
@@ -93,8 +94,21 @@ module _ (k : Case) where
 
 -- What the cases compute with.
 opened : Unit {0}
-unfolding St.wordCount St.bit St.member St.noPropositions St.without St.appliesWord St.applies St.nextWord St.next St.noAction St.actionAt St.states St.stateAt Ix.ofCue Ix.ofGap Ix.at Ix.least Ix.greatest Ix.hull Ix.partOf Ix.only Ix.pick Ix.spanOfPart Ix.roundedUp Ix.roundedDown Ix.c Ix.f Ix.isBefore Ca.noMethod Ca.methodAt Tr.preorder Tr.rootLine Tr.span Tr.subtaskSpans Tr.noSubtasks Tr.isMethodOf Tr.fits Co.holdsIn Co.holdsFrom Co.keeps Co.constraintsOf Co.partsOf Ve.statesOf Ru.FitsTask Ru.Keeps Ru.claimOf Ru.claimants Re.samePath Re.subtasksOf Re.CanTake Re.replace Re.rewritten Re.Steps Re.rewrittenBy Re.goalAlone Re.result Re.recordOf Re.subtasksAfter Re.rightKind Re.claimedLines Sta.lineNames Sta.claimedNames Re.entryOf Re.claimedRecord Re.placeOf Re.placesOf Re.indexOf Re.isInPart Re.indexesIn Re.spanIn
+unfolding St.wordCount St.bit St.member St.noPropositions St.without St.appliesWord St.applies St.nextWord St.next St.noAction St.actionAt St.states St.stateAt Ix.ofCue Ix.ofGap Ix.at Ix.least Ix.greatest Ix.hull Ix.partOf Ix.only Ix.pick Ix.spanOfPart Ix.roundedUp Ix.roundedDown Ix.c Ix.f Ix.isBefore Ca.noMethod Ca.methodAt Tr.preorder Tr.rootLine Tr.span Tr.subtaskSpans Tr.noSubtasks Tr.isMethodOf Tr.fits Co.signed Co.holdsIn Co.holdsFrom Co.keeps Co.constraintsOf Co.partsOf Ve.statesOf Ru.FitsTask Ru.HoldsIn Ru.Keeps Ru.claimOf Ru.claimants Re.samePath Re.subtasksOf Re.CanTake Re.replace Re.rewritten Re.Steps Re.rewrittenBy Re.goalAlone Re.result Re.recordOf Re.subtasksAfter Re.rightKind Re.claimedLines Sta.lineNames Sta.claimedNames Re.entryOf Re.claimedRecord Re.placeOf Re.placesOf Re.indexOf Re.isInPart Re.indexesIn Re.spanIn
 opened = tt
+
+-- A rewriting that agrees with a claimed tree keeps the constraints of the method that the tree has for the goal.
+goal-keeps : (k : Case) (m : ℕ) → Mem ([], used m) (claimedRecord (claimedNames k)) → (d : Constraint) → Mem d (methodAt (k .methods) m .constraints)
+    → (r : AgreeingRewriting k) → Keeps (r .states) (spanIn (placesOf (claimedNames k)) []) d
+unfolding opened
+goal-keeps k m has d own-one r =
+    subst (λ l. Keeps (r .states) (spanIn (placesOf l) []) d) e (r .kept [] d (gathered-iff k (r .steps) [] d .1 (m, goal-used, own-one)))
+  where
+    e : r .lines ≡ claimedNames k
+    e = named-exact k (k .nodes) (([], k .head .goal) ∷ []) (r .lines) (r .preordered) .1
+
+    goal-used : Mem ([], m) (r .steps)
+    goal-used = record-used k (r .steps) [] m .1 (subst (λ l. SameSet (recordOf k (r .steps)) (claimedRecord l)) e (r .records) ([], used m) .1 has)
 
 -- ---- Panel case a
 
@@ -105,7 +119,7 @@ panel g = record {
   head = record { propositions = 3; actions = 3; compounds = 2; methods = 3; goal = 3; cues = 2; nodes = 4 };
   initial = word 1;
   actions = act 0 1 1 0 ∷ act 0 0 2 0 ∷ act 2 0 4 2 ∷ [];
-  methods = way 3 (4 ∷ 1 ∷ 2 ∷ []) (O 0 2 ∷ O 1 2 ∷ W 1 0 4 ∷ []) ∷ way 4 (0 ∷ []) [] ∷ way 4 [] (B 0 0 ∷ []) ∷ [];
+  methods = way 3 (4 ∷ 1 ∷ 2 ∷ []) (O 0 2 ∷ O 1 2 ∷ W Positive 1 0 4 ∷ []) ∷ way 4 (0 ∷ []) [] ∷ way 4 [] (B Positive 0 0 ∷ []) ∷ [];
   plan = 1 ∷ 2 ∷ [];
   nodes = D 0 ∷ E 2 g ∷ L 1 1 ∷ L 2 2 ∷ [];
   planLine = 13;
@@ -153,15 +167,7 @@ records-a = (
 -- In gap 2 the empty task ends too late for the order that the goal's method asks: no rewriting agrees with that tree, so it breaks the rules.
 pub no-rewriting-c : ¬ AgreeingRewriting (panel 2)
 unfolding opened
-no-rewriting-c r =
-    let late = subst (λ l. Keeps (r .states) (spanIn (placesOf l) []) (O 0 2)) e (r .kept [] (O 0 2) (gathered-iff (panel 2) (r .steps) [] (O 0 2) .1 (0, goal-used, here refl))) in
-    omega (arith, late)
-  where
-    e : r .lines ≡ claimedNames (panel 2)
-    e = named-exact (panel 2) (panel 2 .nodes) (([], 3) ∷ []) (r .lines) (r .preordered) .1
-
-    goal-used : Mem ([], 0) (r .steps)
-    goal-used = record-used (panel 2) (r .steps) [] 0 .1 (subst (λ l. SameSet (recordOf (panel 2) (r .steps)) (claimedRecord l)) e (r .records) ([], used 0) .1 (here refl))
+no-rewriting-c r = let late = goal-keeps (panel 2) 0 (here refl) (O 0 2) (here refl) r in omega (arith, late)
 
 pub no-rules-c : ¬ Rules (panel 2)
 no-rules-c r = no-rewriting-c (agreement (panel 2) (placed-by (panel 2) refl refl) .0 r)
@@ -169,17 +175,20 @@ no-rules-c r = no-rewriting-c (agreement (panel 2) (placed-by (panel 2) refl ref
 -- ---- A woven case
 
 -- Actions 0 and 1. The goal, task 2, has two subtasks of task 3: 0, then 3 again, then 1; or nothing, where proposition 0 holds. The two
--- subtasks take turns in the plan, each with an empty task in a gap between its actions.
-abbrev woven : Case
-woven = record {
+-- subtasks take turns in the plan, each with an empty task in a gap between its actions. Before the goal proposition 0 is asked to be false.
+abbrev wovenFrom : State → Case
+wovenFrom s = record {
   head = record { propositions = 1; actions = 2; compounds = 2; methods = 3; goal = 2; cues = 4; nodes = 9 };
-  initial = word 0;
+  initial = s;
   actions = act 0 0 1 0 ∷ act 1 0 0 0 ∷ [];
-  methods = way 2 (3 ∷ 3 ∷ []) [] ∷ way 3 (0 ∷ 3 ∷ 1 ∷ []) (O 0 1 ∷ O 1 2 ∷ []) ∷ way 3 [] (B 0 0 ∷ []) ∷ [];
+  methods = way 2 (3 ∷ 3 ∷ []) (B Negative 0 0 ∷ []) ∷ way 3 (0 ∷ 3 ∷ 1 ∷ []) (O 0 1 ∷ O 1 2 ∷ []) ∷ way 3 [] (B Positive 0 0 ∷ []) ∷ [];
   plan = 0 ∷ 0 ∷ 1 ∷ 1 ∷ [];
   nodes = D 0 ∷ D 1 ∷ L 0 1 ∷ E 2 2 ∷ L 1 3 ∷ D 1 ∷ L 0 2 ∷ E 2 3 ∷ L 1 4 ∷ [];
-  planLine = 11;
+  planLine = 12;
 }
+
+abbrev woven : Case
+woven = wovenFrom (word 0)
 
 placed-woven : Placed woven
 placed-woven = placed-by woven refl refl
@@ -198,6 +207,12 @@ rules-woven =
 
 pub rewriting-woven : AgreeingRewriting woven
 rewriting-woven = agreement woven placed-woven .0 rules-woven
+
+-- Where proposition 0 is true at the start, the goal's condition is broken: no rewriting agrees, though the plan and the tree are as before.
+pub no-rewriting-woven : ¬ AgreeingRewriting (wovenFrom (word 1))
+unfolding opened
+no-rewriting-woven r =
+    goal-keeps (wovenFrom (word 1)) 0 (here refl) (B Negative 0 0) (here refl) r (ap (λ (s : State). member s 0) (r .are .initial))
 
 -- Two orders: one subtask after the other, and the two in turns, the second first. And a third rewriting, with both subtasks empty.
 abbrev first : List Step

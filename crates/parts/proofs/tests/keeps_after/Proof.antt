@@ -16,7 +16,7 @@ holds-at-requires c κs = omega (arith, c .before .before .pre, c .f .ensures)
 
 returns : tie.Need-returns
 returns c =
-    let a = c .before .before .before .args in c .holds-at .ensures ∙ ap (inRow (a .states .now) (a .p)) (c .before .f .ensures)
+    let a = c .before .before .before .args in c .holds-at .ensures ∙ ap (inRow (a .states .now) (a .sign) (a .p)) (c .before .f .ensures)
 
 pub keeps-after-spec : {M : Type 1} → statement M
 keeps-after-spec = tie.close (tie.spec f-requires holds-at-requires returns)

@@ -24,7 +24,7 @@ returns : tie.Need-returns
 returns c =
     let a = c .before .before .before .before .args in
     c .holds-at .ensures
-    ∙ ap (inRow (a .states .now) (a .p)) (c .before .previous .ensures ∙ ap (λ (n : ℕ). n - 1) (c .before .before .c .ensures))
+    ∙ ap (inRow (a .states .now) (a .sign) (a .p)) (c .before .previous .ensures ∙ ap (λ (n : ℕ). n - 1) (c .before .before .c .ensures))
 
 pub keeps-before-spec : {M : Type 1} → statement M
 keeps-before-spec = tie.close (tie.spec c-requires previous-requires holds-at-requires returns)

@@ -25,7 +25,7 @@ returns : tie.Need-returns
 returns c =
     let a = c .before .before .before .before .before .before .before .before .before .before .before .before .args in
     let t = c .before .before .before .before .test .ensures in
-    (t .0 ∙ ap₂ (holdsFrom (inRow (a .states .now)) (a .p)) (c .before .before .before .before .before .before .f .ensures) (c .before .before .before .before .before .c .ensures), t .1)
+    (t .0 ∙ ap₂ (holdsFrom (inRow (a .states .now)) (a .sign) (a .p)) (c .before .before .before .before .before .before .f .ensures) (c .before .before .before .before .before .c .ensures), t .1)
 
 pub keeps-between-spec : {M : Type 1} → statement M
 keeps-between-spec =
