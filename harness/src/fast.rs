@@ -1,4 +1,4 @@
-//! Document 01 once more, written for speed: the replay and check calls.
+//! Document 01, with Card 1 of document 02, once more, written for speed: the replay and check calls.
 //!
 //! One pass over the text fills tables on the stack and, for the check call, the lent records (`reading`); the plan is
 //! run into the lent states (`run`); the walk goes over the records once (`walking`), the constraints a second time

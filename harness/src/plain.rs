@@ -1,4 +1,4 @@
-//! Document 01 as a plain Rust program: the step, replay and check calls.
+//! Document 01, with Card 1 of document 02, as a plain Rust program: the step, replay and check calls.
 //!
 //! The text is read once into vectors (`read`), the plan is run into the lent state list
 //! (`run`), the claimed tree is walked (`Walk`), and the constraints are tried node by node
@@ -105,13 +105,34 @@ struct Method {
     constraints: Range<usize>,
 }
 
+/// A proposition with a sign: B, F and W ask that it be true (sign 0), b, f and w that it be false
+/// (all ones).
+#[derive(Clone, Copy)]
+struct Signed {
+    proposition: u32,
+    sign: u64,
+}
+
+impl Signed {
+    /// The word of a state that has the proposition's bit, turned about by a negative sign: the bit
+    /// is set if the state is as asked.
+    fn word(self, state: &Set) -> u64 {
+        state[self.proposition as usize / 64] ^ self.sign
+    }
+
+    /// Whether the proposition's bit is set in such a word.
+    fn is_in(self, word: u64) -> bool {
+        word >> (self.proposition % 64) & 1 == 1
+    }
+}
+
 /// Subtask sets are masks, bit j for subtask j; 0 is the whole task.
 #[derive(Clone, Copy)]
 enum Constraint {
     Order { first: u32, second: u32 },
-    Before { proposition: u32, set: u32 },
-    After { proposition: u32, set: u32 },
-    Between { from: u32, proposition: u32, to: u32 },
+    Before { asked: Signed, set: u32 },
+    After { asked: Signed, set: u32 },
+    Between { from: u32, asked: Signed, to: u32 },
 }
 
 /// What a node line claims.
@@ -388,7 +409,9 @@ fn read_method(reader: &mut Reader, header: &Header, case: &mut Case) -> Checked
 }
 
 fn read_constraint(reader: &mut Reader, header: &Header, subtasks: u32) -> Checked<Constraint> {
-    let letter = reader.letter(b"OBFW")?;
+    let letter = reader.letter(b"OBbFfWw")?;
+    let sign = if letter.is_ascii_uppercase() { 0 } else { u64::MAX };
+    let asked = |reader: &mut Reader| Ok(Signed { proposition: reader.number_in(..header.propositions)?, sign });
     let constraint = match letter {
         b'O' => {
             let first = reader.number_in(..subtasks)?;
@@ -398,17 +421,9 @@ fn read_constraint(reader: &mut Reader, header: &Header, subtasks: u32) -> Check
             }
             Constraint::Order { first, second }
         }
-        b'B' => {
-            Constraint::Before { proposition: reader.number_in(..header.propositions)?, set: reader.mask(subtasks)? }
-        }
-        b'F' => {
-            Constraint::After { proposition: reader.number_in(..header.propositions)?, set: reader.mask(subtasks)? }
-        }
-        _ => Constraint::Between {
-            from: reader.mask(subtasks)?,
-            proposition: reader.number_in(..header.propositions)?,
-            to: reader.mask(subtasks)?,
-        },
+        b'B' | b'b' => Constraint::Before { asked: asked(reader)?, set: reader.mask(subtasks)? },
+        b'F' | b'f' => Constraint::After { asked: asked(reader)?, set: reader.mask(subtasks)? },
+        _ => Constraint::Between { from: reader.mask(subtasks)?, asked: asked(reader)?, to: reader.mask(subtasks)? },
     };
     reader.end_line()?;
     Ok(constraint)
@@ -624,10 +639,10 @@ impl Scene<'_> {
             Constraint::Order { first, second } => {
                 self.subtasks[first as usize].last() < self.subtasks[second as usize].first()
             }
-            Constraint::Before { proposition, set } => self.is_true(proposition, self.span_of(set).first() - 1),
-            Constraint::After { proposition, set } => self.is_true(proposition, self.span_of(set).last()),
-            Constraint::Between { from, proposition, to } => {
-                self.true_throughout(proposition, self.span_of(from).last()..self.span_of(to).first())
+            Constraint::Before { asked, set } => self.is_so(asked, self.span_of(set).first() - 1),
+            Constraint::After { asked, set } => self.is_so(asked, self.span_of(set).last()),
+            Constraint::Between { from, asked, to } => {
+                self.is_so_throughout(asked, self.span_of(from).last()..self.span_of(to).first())
             }
         }
     }
@@ -645,18 +660,17 @@ impl Scene<'_> {
         span
     }
 
-    fn is_true(&self, proposition: u32, state: usize) -> bool {
-        self.rows[state][proposition as usize / 64] >> (proposition % 64) & 1 == 1
+    /// Whether a proposition is true in a state, or false there, as its sign asks.
+    fn is_so(&self, asked: Signed, state: usize) -> bool {
+        asked.is_in(asked.word(&self.rows[state]))
     }
 
-    /// Whether a proposition is in each of these states; a range run backwards has none.
-    fn true_throughout(&self, proposition: u32, states: Range<usize>) -> bool {
+    /// The same of each of these states; a range run backwards has none.
+    fn is_so_throughout(&self, asked: Signed, states: Range<usize>) -> bool {
         if states.is_empty() {
             return true;
         }
         // The AND of one word over the whole range, without a branch for each state.
-        let word = proposition as usize / 64;
-        let common = self.rows[states].iter().fold(u64::MAX, |bits, row| bits & row[word]);
-        common >> (proposition % 64) & 1 == 1
+        asked.is_in(self.rows[states].iter().fold(u64::MAX, |bits, state| bits & asked.word(state)))
     }
 }

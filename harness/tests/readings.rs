@@ -1,4 +1,4 @@
-//! The panel cases of document 01 and the settled readings, each as a text and its answer.
+//! The panel cases of document 01 and the settled readings, of Card 1 of document 02 too, each as a text and its answer.
 
 use harness::fast;
 use harness::lists::{Dirt, Lengths, Lists};
@@ -113,6 +113,54 @@ fn fields() {
     expect(&plan("P,0"), "R,3,13,2");
     let leaf = [(1, "N,3,3,2,3,4,0,1"), (13, "P"), (14, "L,0,0"), (15, ""), (16, ""), (17, "")];
     expect(&leaf, "R,4,14,3");
+}
+
+/// Loaded (1) is true in state 1 alone, on air (2) in state 2; in km/h (0) in all three.
+#[test]
+fn conditions_that_something_is_not_so() {
+    expect(&[(8, "b,1,2")], "Y,2,4");
+    expect(&[(8, "b,1,4")], "R,11,14,1");
+    expect(&[(8, "f,1,4")], "Y,2,4");
+    expect(&[(8, "f,1,2")], "R,12,14,1");
+    expect(&[(8, "w,1,2,4")], "Y,2,4");
+    // Of states 0 and 1 only one is as asked, whatever the sign.
+    expect(&[(8, "w,1,1,4")], "R,13,14,1");
+    expect(&[(8, "W,1,1,4")], "R,13,14,1");
+    // Nor is any state asked from the take to the task ahead of it.
+    expect(&[(8, "w,4,0,1")], "Y,2,4");
+    expect(&[(8, "W,4,2,1")], "Y,2,4");
+    // The whole task, and an empty one in its gap.
+    expect(&[(8, "b,2,0")], "Y,2,4");
+    expect(&[(8, "f,2,0")], "R,12,14,1");
+    expect(&[(12, "b,0,0")], "R,11,15,0");
+    expect(&[(12, "w,0,1,0")], "Y,2,4");
+    expect(&[(12, "w,0,0,0")], "R,13,15,0");
+    // The same proposition and set with either sign: one of them is broken.
+    expect(&[(7, "B,1,2"), (8, "b,1,2")], "R,11,14,0");
+    expect(&[(7, "b,1,2"), (8, "B,1,2")], "R,11,14,1");
+}
+
+#[test]
+fn small_letters() {
+    expect(&[(8, "b,3,2")], "R,4,8,2");
+    expect(&[(8, "f,0,8")], "R,4,8,3");
+    expect(&[(8, "w,8,3,4")], "R,4,8,2");
+    expect(&[(8, "w,1,3,8")], "R,4,8,3");
+    expect(&[(8, "w,1,0,8")], "R,4,8,4");
+    expect(&[(8, "b,1")], "R,3,8,3");
+    expect(&[(8, "w,1,0")], "R,3,8,4");
+    expect(&[(8, "f,1,4,")], "R,3,8,4");
+    for (i, line) in CASE_A.lines().enumerate() {
+        let small = line.to_ascii_lowercase();
+        if !small.starts_with(['b', 'w']) {
+            expect(&[(i + 1, &small)], &format!("R,3,{},1", i + 1));
+        }
+    }
+    for line in [13, 14, 15, 16] {
+        for small in ["b,1,2", "f,1,1", "w,1,0,4"] {
+            expect(&[(line, small)], &format!("R,3,{line},1"));
+        }
+    }
 }
 
 #[test]

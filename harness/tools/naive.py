@@ -1,5 +1,6 @@
 #!/usr/bin/env python3
-"""Document 01 rendered a second time, as naively as it can be said, to cross-check plain.rs.
+"""Document 01, with Card 1 of document 02, rendered a second time, as naively as it can be said,
+to cross-check plain.rs.
 
 Sets of ints, fractions for half indexes, the text cut at line feeds and commas, a tree of
 objects. It shares no code and no data layout with the Rust rendering.
@@ -151,16 +152,16 @@ def read_method(lines, case):
 
 def read_constraint(lines, case, count):
     f = lines.due()
-    letter = f.letter(b"OBFW")
+    letter = f.letter(b"OBbFfWw")
     proposition = lambda: f.number(lambda p: p < case.propositions)
     if letter == "O":
         i = f.number(lambda i: i < count)
         j = f.number(lambda j: j < count and j != i)
         constraint = ("O", {i}, None, {j})
-    elif letter == "W":
+    elif letter in "Ww":
         u = f.mask(count)
         p = proposition()
-        constraint = ("W", u, p, f.mask(count))
+        constraint = (letter, u, p, f.mask(count))
     else:
         p = proposition()
         constraint = (letter, f.mask(count), p, None)
@@ -266,16 +267,18 @@ def holds(tree, constraint, states):
     members = lambda s: [tree] if s is None else [tree.subtrees[j] for j in s]
     c = lambda s: math.ceil(min(t.start for t in members(s)))
     f = lambda s: math.floor(max(t.end for t in members(s)))
+    # A capital letter asks that p be true in a state, a small one that it be false.
+    so = lambda state: (p in state) == letter.isupper()
     if letter == "O":
         return f(u) < c(v)
-    if letter == "B":
-        return p in states[c(u) - 1]
-    if letter == "F":
-        return p in states[f(u)]
-    return all(p in state for state in states[f(u) : max(f(u), c(v))])
+    if letter in "Bb":
+        return so(states[c(u) - 1])
+    if letter in "Ff":
+        return so(states[f(u)])
+    return all(so(state) for state in states[f(u) : max(f(u), c(v))])
 
 
-NUMBER = {"O": 10, "B": 11, "F": 12, "W": 13}
+NUMBER = {"O": 10, "B": 11, "b": 11, "F": 12, "f": 12, "W": 13, "w": 13}
 
 
 def try_constraints(case, root, states):

@@ -62,9 +62,16 @@ pub fn stretch<'a, T>(all: &'a [T], range: &Range<u16>) -> &'a [T] {
 /// only `to`, an after only `from`.
 pub struct Constraint {
     pub number: u8,
-    pub proposition: u8,
+    pub asked: Signed,
     pub from: u32,
     pub to: u32,
+}
+
+/// A proposition, and whether it is asked to be true (B, F, W) or false (b, f, w).
+#[derive(Clone, Copy)]
+pub struct Signed {
+    pub proposition: u8,
+    pub negative: bool,
 }
 
 /// A readable case but for its nodes.

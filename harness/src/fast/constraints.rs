@@ -1,12 +1,12 @@
 //! The constraints: numbers 10 to 13.
 
-use super::case::{stretch, Case, Constraint};
+use super::case::{stretch, Case, Constraint, Signed};
 use super::walking::Span;
 use super::{refuse, Checked, Node, Set};
 
 /// Tries every node's constraints in order: numbers 10 to 13.
 pub fn first_broken(case: &Case, rows: &[Set], nodes: &[Node], spans: &[u32], columns: &mut [u32]) -> Checked<()> {
-    let mut columns = Columns { columns: columns.as_chunks_mut().0, made: [0; 4] };
+    let mut columns = Columns { rows, columns: columns.as_chunks_mut().0, made: [0; 4] };
     let mut next_span = 0;
     for (at, node) in nodes.iter().enumerate().filter(|(_, node)| node.letter != 3) {
         let method = &case.methods[node.label as usize];
@@ -30,17 +30,17 @@ struct Scene<'a> {
 impl Scene<'_> {
     #[inline(always)]
     fn holds(&self, constraint: &Constraint, columns: &mut Columns) -> bool {
-        let &Constraint { number, proposition, from, to } = constraint;
+        let &Constraint { number, from, to, .. } = constraint;
         match number {
             10 => self.subtask(from).last() < self.subtask(to).first(),
-            11 => self.is_true(proposition, self.span_of(to).first() - 1),
-            12 => self.is_true(proposition, self.span_of(from).last()),
+            11 => self.is_so(self.span_of(to).first() - 1, constraint.asked),
+            12 => self.is_so(self.span_of(from).last(), constraint.asked),
             _ => {
                 let (first, end) = (self.span_of(from).last(), self.span_of(to).first());
                 match end.saturating_sub(first) {
                     0 => true,
-                    1 => self.is_true(proposition, first),
-                    _ => columns.is_true_throughout(self.rows, proposition, first, end - 1),
+                    1 => self.is_so(first, constraint.asked),
+                    _ => columns.is_so_throughout(first, end - 1, constraint.asked),
                 }
             }
         }
@@ -64,8 +64,16 @@ impl Scene<'_> {
         span
     }
 
-    fn is_true(&self, proposition: u8, state: u32) -> bool {
-        contains(&self.rows[state as usize], proposition)
+    /// Whether a state is as asked. What is asked comes last: it is read after the spans, and takes no register until then.
+    fn is_so(&self, state: u32, asked: Signed) -> bool {
+        asked.is_so_in(&self.rows[state as usize])
+    }
+}
+
+impl Signed {
+    /// Whether a state is as asked.
+    fn is_so_in(self, state: &Set) -> bool {
+        contains(state, self.proposition) != self.negative
     }
 }
 
@@ -76,47 +84,50 @@ fn contains(set: &Set, proposition: u8) -> bool {
 /// A range of at most so many states is tested state by state, if there is no column.
 const SHORT: u32 = 16;
 
-/// A column has a bit for each of 1,001 states in 32 words, and one for each of these words in the last.
-const COLUMN: usize = 33;
+/// A column has a bit for each of 1,001 states in 32 words, and one for each of these words in the last two.
+const COLUMN: usize = 34;
 pub const COLUMNS: usize = 256 * COLUMN;
 
-/// For each proposition a column, made when it is first asked for. A bit is set if the proposition is false in that
-/// state, or in any state of that word.
+/// For each proposition a column, made when it is first asked for, with either sign. A bit is set if the proposition is
+/// false in that state; in the last two words, if it is false, or true, in any state of that word.
 struct Columns<'a> {
+    rows: &'a [Set],
     columns: &'a mut [[u32; COLUMN]],
     made: Set,
 }
 
 impl Columns<'_> {
-    /// Whether a proposition is in each state from `first` to `last`.
+    /// Whether each state from `first` to `last` is as asked.
     #[inline(never)]
-    fn is_true_throughout(&mut self, rows: &[Set], proposition: u8, first: u32, last: u32) -> bool {
-        if !contains(&self.made, proposition) {
+    fn is_so_throughout(&mut self, first: u32, last: u32, asked: Signed) -> bool {
+        if !contains(&self.made, asked.proposition) {
             if last - first < SHORT {
-                return rows[first as usize..=last as usize].iter().all(|state| contains(state, proposition));
+                return self.rows[first as usize..=last as usize].iter().all(|state| asked.is_so_in(state));
             }
-            self.make(rows, proposition);
+            self.make(asked.proposition);
         }
-        let [words @ .., summary] = &self.columns[usize::from(proposition)];
-        let (head, tail) = (u32::MAX << (first % 32), u32::MAX >> (31 - last % 32));
-        let (first, last) = (first / 32, last / 32);
-        let (first_word, last_word) = (words[first as usize], words[last as usize]);
-        if first == last {
-            return first_word & head & tail == 0;
+        let column = &self.columns[usize::from(asked.proposition)];
+        let sign = u32::from(asked.negative).wrapping_neg();
+        let word = |state: u32| column[state as usize / 32] ^ sign;
+        // Of the first word the states from `first` on, of the last word those up to `last`.
+        let (head, tail) = (word(first) >> (first % 32), word(last) << (31 - last % 32));
+        if first / 32 == last / 32 {
+            return head << (31 - (last - first)) == 0;
         }
         // The words between those two.
-        let between = (1 << last) - (2 << first);
-        first_word & head | last_word & tail | summary & between == 0
+        let between = (1 << (last / 32)) - (2 << (first / 32));
+        head | tail | column[32 + usize::from(asked.negative)] & between == 0
     }
 
     #[inline(never)]
-    fn make(&mut self, rows: &[Set], proposition: u8) {
+    fn make(&mut self, proposition: u8) {
         let (word, bit) = (usize::from(proposition / 64), proposition % 64);
-        let [words @ .., summary] = &mut self.columns[usize::from(proposition)];
-        *summary = 0;
-        for (at, states) in rows.chunks(32).enumerate() {
+        let [words @ .., some_false, some_true] = &mut self.columns[usize::from(proposition)];
+        (*some_false, *some_true) = (0, 0);
+        for (at, states) in self.rows.chunks(32).enumerate() {
             words[at] = states.iter().rev().fold(0, |bits, state| bits << 1 | (!state[word] >> bit & 1) as u32);
-            *summary |= u32::from(words[at] != 0) << at;
+            *some_false |= u32::from(words[at] != 0) << at;
+            *some_true |= u32::from(words[at] != u32::MAX) << at;
         }
         self.made[word] |= 1 << bit;
     }

@@ -1,6 +1,6 @@
 //! One pass over the text: numbers 3 and 4.
 
-use super::case::{Case, Constraint, Method};
+use super::case::{Case, Constraint, Method, Signed};
 use super::{refuse, Accepted, Checked, Node, Refusal, Set};
 use std::ops::RangeBounds;
 
@@ -245,7 +245,8 @@ fn read_methods<'a>(mut reader: Reader<'a>, header: &Header, case: &mut Case) ->
 
 #[inline(always)]
 fn read_constraint(reader: &mut Reader, propositions: u32, subtasks: u32) -> Read<Constraint> {
-    let (number, proposition, from, to) = match reader.letter()? {
+    let letter = reader.letter()?;
+    let (number, proposition, from, to) = match letter {
         b'O' => {
             let (first, second) = (reader.number_in(..subtasks)?, reader.number_in(..subtasks)?);
             if second == first {
@@ -253,16 +254,17 @@ fn read_constraint(reader: &mut Reader, propositions: u32, subtasks: u32) -> Rea
             }
             (10, 0, first, second)
         }
-        b'B' => (11, reader.number_in(..propositions)?, 0, reader.mask(subtasks)?),
-        b'F' => (12, reader.number_in(..propositions)?, reader.mask(subtasks)?, 0),
-        b'W' => {
+        b'B' | b'b' => (11, reader.number_in(..propositions)?, 0, reader.mask(subtasks)?),
+        b'F' | b'f' => (12, reader.number_in(..propositions)?, reader.mask(subtasks)?, 0),
+        b'W' | b'w' => {
             let from = reader.mask(subtasks)?;
             (13, reader.number_in(..propositions)?, from, reader.mask(subtasks)?)
         }
         _ => return reader.wrong_letter(),
     };
     reader.end_line()?;
-    Ok(Constraint { number, proposition: proposition as u8, from, to })
+    let asked = Signed { proposition: proposition as u8, negative: letter.is_ascii_lowercase() };
+    Ok(Constraint { number, asked, from, to })
 }
 
 #[inline(never)]
