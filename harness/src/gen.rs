@@ -3,10 +3,12 @@
 //! A sound case is made in the order that lets everything hold: methods without constraints,
 //! a tree grown from them, positions and gaps woven into it, effects, the states they give,
 //! preconditions true in those states, and last the constraints that hold (or, now and then,
-//! one that doesn't), above all those that a slightly wrong reading of 01 would take otherwise. Then the draft or its text may be damaged (`damage`). Texts at the size
-//! limits are built by hand (`extremes`).
+//! one that doesn't), above all those that a slightly wrong reading of 01 would take otherwise.
+//! Then the draft or its text may be damaged (`damage`). Long stretches for betweens (`dents`) and
+//! texts at the size limits (`extremes`) are built by hand.
 
 pub mod damage;
+mod dents;
 pub mod extremes;
 
 use std::io::Write;
@@ -61,12 +63,40 @@ impl Rng {
 
 // ---------------------------------------------------------------- drafts
 
+/// A proposition that is asked to be true (B, F, W) or false (b, f, w).
+#[derive(Clone, Copy, Debug)]
+pub struct Signed {
+    pub proposition: u32,
+    pub positive: bool,
+}
+
+/// The proposition asked to be true.
+pub fn is(proposition: u32) -> Signed {
+    Signed { proposition, positive: true }
+}
+
+/// The proposition asked to be false.
+pub fn not(proposition: u32) -> Signed {
+    Signed { proposition, positive: false }
+}
+
+impl Signed {
+    /// The letter of a constraint with this sign, given as a capital.
+    fn letter(self, capital: char) -> char {
+        if self.positive {
+            capital
+        } else {
+            capital.to_ascii_lowercase()
+        }
+    }
+}
+
 #[derive(Clone, Debug)]
 pub enum Constraint {
     Order(u32, u32),
-    Before(u32, u32),
-    After(u32, u32),
-    Between(u32, u32, u32),
+    Before(Signed, u32),
+    After(Signed, u32),
+    Between(u32, Signed, u32),
 }
 
 #[derive(Clone, Debug)]
@@ -125,12 +155,7 @@ impl Draft {
             let head = [method.task].into_iter().chain(counted(&method.subtasks));
             write_line(&mut out, 'M', head.chain([method.constraints.len() as u32]));
             for constraint in &method.constraints {
-                match *constraint {
-                    Constraint::Order(i, j) => write_line(&mut out, 'O', [i, j]),
-                    Constraint::Before(p, set) => write_line(&mut out, 'B', [p, set]),
-                    Constraint::After(p, set) => write_line(&mut out, 'F', [p, set]),
-                    Constraint::Between(from, p, to) => write_line(&mut out, 'W', [from, p, to]),
-                }
+                write_constraint(&mut out, constraint);
             }
         }
         write_line(&mut out, 'P', self.plan.iter().copied());
@@ -151,6 +176,15 @@ fn write_line(out: &mut Vec<u8>, letter: char, fields: impl IntoIterator<Item = 
         write!(out, ",{field}").expect("a vector takes every write");
     }
     out.push(b'\n');
+}
+
+fn write_constraint(out: &mut Vec<u8>, constraint: &Constraint) {
+    match *constraint {
+        Constraint::Order(i, j) => write_line(out, 'O', [i, j]),
+        Constraint::Before(asked, set) => write_line(out, asked.letter('B'), [asked.proposition, set]),
+        Constraint::After(asked, set) => write_line(out, asked.letter('F'), [asked.proposition, set]),
+        Constraint::Between(from, asked, to) => write_line(out, asked.letter('W'), [from, asked.proposition, to]),
+    }
 }
 
 /// A list as the text has it: its count, then its members.
@@ -336,18 +370,19 @@ impl Stage {
         let c = |set: u32| self.span(tree, node, set, reading).0.div_ceil(2).max(1) as usize;
         let f = |set: u32| (self.span(tree, node, set, reading).1 / 2) as usize;
         let last = self.states.len() - 1;
-        let is_true = |p: u32, state: usize| self.states[state.min(last)][p as usize];
+        let is_so =
+            |asked: Signed, state: usize| self.states[state.min(last)][asked.proposition as usize] == asked.positive;
         match *constraint {
             Constraint::Order(i, j) => f(1 << i) < c(1 << j),
-            Constraint::Before(p, set) => is_true(p, c(set) - 1),
-            Constraint::After(p, set) => is_true(p, f(set)),
-            Constraint::Between(from, p, to) => match (f(from), c(to), reading) {
+            Constraint::Before(asked, set) => is_so(asked, c(set) - 1),
+            Constraint::After(asked, set) => is_so(asked, f(set)),
+            Constraint::Between(from, asked, to) => match (f(from), c(to), reading) {
                 (from, to, _) if from >= to => true,
-                (from, to, Reading::EndsOnly) => is_true(p, from) && is_true(p, to - 1),
-                (from, to, Reading::OpenStart) => (from + 1..to).all(|state| is_true(p, state)),
-                (from, to, Reading::OpenEnd) => (from..to - 1).all(|state| is_true(p, state)),
-                (from, to, Reading::OneFurther) => (from..to + 1).all(|state| is_true(p, state)),
-                (from, to, _) => (from..to).all(|state| is_true(p, state)),
+                (from, to, Reading::EndsOnly) => is_so(asked, from) && is_so(asked, to - 1),
+                (from, to, Reading::OpenStart) => (from + 1..to).all(|state| is_so(asked, state)),
+                (from, to, Reading::OpenEnd) => (from..to - 1).all(|state| is_so(asked, state)),
+                (from, to, Reading::OneFurther) => (from..to + 1).all(|state| is_so(asked, state)),
+                (from, to, _) => (from..to).all(|state| is_so(asked, state)),
             },
         }
     }
@@ -383,19 +418,19 @@ impl Stage {
         draft: &Draft,
         tree: &Tree,
         method: usize,
-        tries: usize,
+        strictness: Strictness,
         broken: bool,
     ) -> Option<Constraint> {
         let subtasks = draft.methods[method].subtasks.len();
         if broken && rng.percent(60) {
-            let dented = self.choose_dented(rng, draft, tree, method);
+            let dented = self.choose_dented(rng, draft, tree, method, strictness.negative);
             if dented.is_some() {
                 return dented;
             }
         }
         let mut fallback = None;
-        for _ in 0..tries {
-            let candidate = draw_constraint(rng, &draft.palette, subtasks)?;
+        for _ in 0..strictness.tries {
+            let candidate = draw_constraint(rng, &draft.palette, subtasks, strictness.negative)?;
             if self.holds_everywhere(tree, method, &candidate, Reading::Right) == broken {
                 continue;
             }
@@ -408,14 +443,21 @@ impl Stage {
     }
 
     /// A between of two single subtasks that fails at some node, but at no end of its states.
-    fn choose_dented(&self, rng: &mut Rng, draft: &Draft, tree: &Tree, method: usize) -> Option<Constraint> {
+    fn choose_dented(
+        &self,
+        rng: &mut Rng,
+        draft: &Draft,
+        tree: &Tree,
+        method: usize,
+        negative: usize,
+    ) -> Option<Constraint> {
         let subtasks = draft.methods[method].subtasks.len();
         if subtasks < 2 || draft.palette.is_empty() {
             return None;
         }
         let mut draw = || {
             let (from, to) = (1 << rng.below(subtasks), 1 << rng.below(subtasks));
-            Constraint::Between(from, *rng.pick(&draft.palette), to)
+            Constraint::Between(from, draw_signed(rng, &draft.palette, negative), to)
         };
         (0..40).map(|_| draw()).find(|between| {
             self.holds_everywhere(tree, method, between, Reading::EndsOnly)
@@ -454,6 +496,8 @@ pub struct Strictness {
     pub tries: usize,
     /// The chance, in percent, that a constraint is meant to fail.
     pub broken: usize,
+    /// The chance, in percent, that a proposition is asked to be false.
+    pub negative: usize,
 }
 
 /// Gives each method constraints that hold at every node that uses it, or now and then don't.
@@ -462,14 +506,14 @@ pub fn constrain(rng: &mut Rng, draft: &mut Draft, tree: &Tree, strictness: Stri
     for method in 0..draft.methods.len() {
         for _ in 0..rng.between(0, strictness.most) {
             let broken = rng.percent(strictness.broken);
-            let chosen = stage.choose(rng, draft, tree, method, strictness.tries, broken);
+            let chosen = stage.choose(rng, draft, tree, method, strictness, broken);
             draft.methods[method].constraints.extend(chosen);
         }
     }
 }
 
 /// A readable constraint for a method with so many subtasks, if the model allows one.
-fn draw_constraint(rng: &mut Rng, palette: &[u32], subtasks: usize) -> Option<Constraint> {
+fn draw_constraint(rng: &mut Rng, palette: &[u32], subtasks: usize, negative: usize) -> Option<Constraint> {
     let ordered = subtasks >= 2 && (palette.is_empty() || rng.percent(30));
     if ordered {
         let i = rng.below(subtasks);
@@ -481,13 +525,19 @@ fn draw_constraint(rng: &mut Rng, palette: &[u32], subtasks: usize) -> Option<Co
     if palette.is_empty() {
         return None;
     }
-    let p = *rng.pick(palette);
+    let asked = draw_signed(rng, palette, negative);
     let set = draw_mask(rng, subtasks);
     Some(match rng.below(4) {
-        0 => Constraint::Before(p, set),
-        1 => Constraint::After(p, set),
-        _ => Constraint::Between(set, p, draw_mask(rng, subtasks)),
+        0 => Constraint::Before(asked, set),
+        1 => Constraint::After(asked, set),
+        _ => Constraint::Between(set, asked, draw_mask(rng, subtasks)),
     })
+}
+
+/// A proposition, asked to be false with this chance in percent; of a chance of 0 nothing is drawn.
+fn draw_signed(rng: &mut Rng, palette: &[u32], negative: usize) -> Signed {
+    let proposition = *rng.pick(palette);
+    Signed { proposition, positive: negative == 0 || !rng.percent(negative) }
 }
 
 /// A set of subtasks: the whole task, one subtask, every subtask, or any.
@@ -517,6 +567,7 @@ struct Size {
 /// Mostly tiny models, where every rule is close to every other; some bigger ones.
 fn draw_size(rng: &mut Rng) -> Size {
     let broken = if rng.percent(50) { 20 } else { 0 };
+    let negative = *rng.pick(&[0, 50, 50, 80]);
     match rng.below(20) {
         0..=10 => Size {
             propositions: rng.below(5),
@@ -525,7 +576,7 @@ fn draw_size(rng: &mut Rng) -> Size {
             more_methods: rng.below(4),
             subtasks: 4,
             nodes: rng.between(1, 12),
-            strictness: Strictness { most: 3, tries: 6, broken },
+            strictness: Strictness { most: 3, tries: 6, broken, negative },
         },
         11..=18 => Size {
             propositions: rng.below(20),
@@ -534,7 +585,7 @@ fn draw_size(rng: &mut Rng) -> Size {
             more_methods: rng.below(8),
             subtasks: 6,
             nodes: rng.between(4, 50),
-            strictness: Strictness { most: 5, tries: 8, broken: broken / 3 },
+            strictness: Strictness { most: 5, tries: 8, broken: broken / 3, negative },
         },
         _ => Size {
             propositions: rng.between(0, 256),
@@ -543,7 +594,7 @@ fn draw_size(rng: &mut Rng) -> Size {
             more_methods: rng.below(40),
             subtasks: rng.between(2, 32),
             nodes: rng.between(30, 300),
-            strictness: Strictness { most: 8, tries: 12, broken: broken / 10 },
+            strictness: Strictness { most: 8, tries: 12, broken: broken / 10, negative },
         },
     }
 }
@@ -664,7 +715,8 @@ impl Inputs {
                 text
             }
             15..=39 => deep(rng).text(),
-            40..=399 => sound(rng).text(),
+            40..=89 => dents::dented(rng).text(),
+            90..=399 => sound(rng).text(),
             400..=599 => damaged(rng, 1).text(),
             600..=699 => damaged(rng, 2).text(),
             // Faults of both sorts: which one is named depends on the order of the tests.

@@ -1,6 +1,6 @@
 //! The inputs of chosen size: what they promise, and the fast rendering on them.
 
-use harness::gen::{extremes, Constraint, Draft, Line, Method};
+use harness::gen::{extremes, is, not, Constraint, Draft, Line, Method, Signed};
 use harness::lists::{Dirt, Lengths, Lists};
 use harness::{fast, plain};
 
@@ -23,36 +23,45 @@ fn both_renderings_agree() {
     }
 }
 
-/// A proposition that is false in just one state, and a between that begins or ends there, or near it.
+/// A proposition that is not as asked in just one state, and a between that begins or ends there, or near it.
 #[test]
 fn columns_at_their_edges() {
     for state in [0, 1, 31, 32, 33, 63, 64, 65, 900, 928, 929] {
         for length in [1, 2, 16, 17, 18, 33, 65, 930] {
-            for from in [state as i32 - length, state as i32 - length + 1, state as i32, state as i32 + 1] {
+            for from in [state - length, state - length + 1, state, state + 1] {
                 let (from, to) = (from.clamp(0, 930), (from + length - 1).clamp(0, 930));
-                let text = one_dent(state, from as u32, to as u32).text();
-                let mut lists = Lists::default();
-                let (states, nodes, work) = lists.lend(Lengths::EXACT);
-                let answer = fast::check(&text, states, nodes, work);
-                let broken = from <= state as i32 && state as i32 <= to;
-                assert_eq!(answer.number, if broken { 13 } else { 0 }, "false in {state}, from {from} to {to}");
-                assert_eq!(answer, plain::check(&text, states, nodes, work));
+                for asked in [is(0), not(0)] {
+                    try_dent(state, from, to, asked);
+                }
             }
         }
     }
 }
 
-/// 930 cues; proposition 0 is false in one state, and asked for from gap to gap.
-fn one_dent(state: usize, from: u32, to: u32) -> Draft {
-    let (delete, add, g, y, z) = (1, 2, 3, 4, 5);
+fn try_dent(state: i32, from: i32, to: i32, asked: Signed) {
+    let text = one_dent(state as usize, from as u32, to as u32, asked).text();
+    let mut lists = Lists::default();
+    let (states, nodes, work) = lists.lend(Lengths::EXACT);
+    let answer = fast::check(&text, states, nodes, work);
+    let broken = from <= state && state <= to;
+    assert_eq!(answer.number, if broken { 13 } else { 0 }, "not {asked:?} in {state}, from {from} to {to}");
+    assert_eq!(answer, plain::check(&text, states, nodes, work));
+}
+
+/// 930 cues; proposition 0 is not as asked in one state, and asked for from gap to gap.
+fn one_dent(state: usize, from: u32, to: u32, asked: Signed) -> Draft {
+    let (g, y, z) = (3, 4, 5);
+    let (away, back) = if asked.positive { (1, 2) } else { (2, 1) };
     let mut draft = Draft { propositions: 1, compound: 3, goal: g, plan: vec![0; 930], ..Draft::default() };
     draft.actions = vec![Default::default(), [vec![], vec![], vec![], vec![0]], [vec![], vec![], vec![0], vec![]]];
-    draft.plan[state] = add;
+    draft.plan[state] = back;
     if state > 0 {
-        draft.initial = vec![0];
-        draft.plan[state - 1] = delete;
+        draft.plan[state - 1] = away;
     }
-    let constraints = vec![Constraint::Between(1, 0, 2)];
+    if asked.positive == (state > 0) {
+        draft.initial = vec![0];
+    }
+    let constraints = vec![Constraint::Between(1, asked, 2)];
     draft.methods.push(Method { task: g, subtasks: [vec![z; 2], vec![y; 30]].concat(), constraints });
     draft.methods.push(Method { task: z, subtasks: vec![], constraints: vec![] });
     draft.lines.extend([Line::D(0), Line::E(1, from), Line::E(1, to)]);

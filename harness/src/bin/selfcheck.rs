@@ -76,10 +76,12 @@ fn show_generated(count: u64, seed: u64) {
     let inputs = Inputs::new(seed);
     let mut checks: BTreeMap<Row, u64> = BTreeMap::new();
     let mut totals: BTreeMap<u32, (u64, u64)> = BTreeMap::new();
+    let mut signed = 0;
     let mut lists = Lists::default();
     for number in 0..count {
         let mut rng = inputs.rng(number);
         let text = inputs.text(&mut rng);
+        signed += u64::from(text.split(|&b| b == b'\n').any(|line| matches!(line, [b'b' | b'f' | b'w', b',', ..])));
         let lengths = if rng.percent(90) { Lengths::EXACT } else { Lengths::draw(&mut rng) };
         lists.soil(Dirt::draw(&mut rng));
         let (states, nodes, work) = lists.lend(lengths);
@@ -92,7 +94,8 @@ fn show_generated(count: u64, seed: u64) {
     for (number, (check, replay)) in totals {
         println!("{number:>6}: {check:>8} {replay:>8}");
     }
-    println!("\ncheck by number, letter that begins the line, item");
+    println!("{signed} inputs have a line b, f or w");
+    println!("\ncheck by number, letter that begins the line, or that of the broken constraint, item");
     for ((number, letter, item), times) in checks {
         println!("{number:>6} {letter} {item:>5}: {times:>8}");
     }
@@ -102,12 +105,13 @@ fn row(text: &[u8], answer: Reply) -> Row {
     let line = answer.line.checked_sub(1).and_then(|before| text.split(|&b| b == b'\n').nth(before as usize));
     let letter = match (answer.number, line.and_then(<[u8]>::first)) {
         // `.` where there is no line, or an empty one; `?` for a byte that is no letter.
-        (3 | 4, Some(&first)) if first.is_ascii_uppercase() => first as char,
+        (3 | 4, Some(&first)) if first.is_ascii_alphabetic() => first as char,
         (3 | 4, Some(_)) => '?',
         (3 | 4, None) => '.',
         // A walk that ran out of nodes is refused one past the last line.
         (6, None) => '.',
         (6, Some(&first)) => first as char,
+        (10..=13, _) => broken_letter(text, answer),
         _ => ' ',
     };
     let item = match answer.item {
@@ -116,4 +120,13 @@ fn row(text: &[u8], answer: Reply) -> Row {
         _ => "40+".into(),
     };
     (answer.number, letter, item)
+}
+
+/// The letter of the broken constraint: of the method on the node's line, after so many others.
+fn broken_letter(text: &[u8], answer: Reply) -> char {
+    let lines: Vec<&[u8]> = text.split(|&b| b == b'\n').collect();
+    let node = std::str::from_utf8(lines[answer.line as usize - 1]).expect("a line that was read");
+    let method: usize = node.split(',').nth(1).and_then(|m| m.parse().ok()).expect("a method");
+    let at = (0..lines.len()).filter(|&at| lines[at].starts_with(b"M")).nth(method).expect("its line");
+    lines[at + 1 + answer.item as usize][0].into()
 }

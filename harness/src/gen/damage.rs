@@ -1,6 +1,6 @@
 //! Ways to damage a draft (which stays a text of the right form) or a text (which may not).
 
-use super::{Constraint, Draft, Line, Rng};
+use super::{Constraint, Draft, Line, Rng, Signed};
 
 // ---------------------------------------------------------------- drafts
 
@@ -166,23 +166,33 @@ fn constraints(rng: &mut Rng, draft: &mut Draft) {
     let method = &mut draft.methods[at];
     let subtasks = method.subtasks.len();
     if method.constraints.is_empty() || rng.percent(50) {
-        method.constraints.extend(super::draw_constraint(rng, &palette, subtasks));
+        method.constraints.extend(super::draw_constraint(rng, &palette, subtasks, 50));
         return;
     }
     let which = rng.below(method.constraints.len());
-    let p = if palette.is_empty() { 0 } else { *rng.pick(&palette) };
     let mask = super::draw_mask(rng, subtasks);
     let constraint = &mut method.constraints[which];
     *constraint = match constraint.clone() {
         Constraint::Order(i, j) => Constraint::Order(j, i),
-        Constraint::Before(_, set) if rng.percent(50) => Constraint::Before(p, set),
-        Constraint::Before(p, _) => Constraint::After(p, mask),
-        Constraint::After(_, set) if rng.percent(50) => Constraint::After(p, set),
-        Constraint::After(p, _) => Constraint::Before(p, mask),
-        Constraint::Between(from, _, to) if rng.percent(30) => Constraint::Between(from, p, to),
-        Constraint::Between(_, p, to) if rng.percent(50) => Constraint::Between(mask, p, to),
-        Constraint::Between(from, p, _) => Constraint::Between(from, p, mask),
+        Constraint::Before(asked, set) if rng.percent(50) => Constraint::Before(other_asked(rng, &palette, asked), set),
+        Constraint::Before(asked, _) => Constraint::After(asked, mask),
+        Constraint::After(asked, set) if rng.percent(50) => Constraint::After(other_asked(rng, &palette, asked), set),
+        Constraint::After(asked, _) => Constraint::Before(asked, mask),
+        Constraint::Between(from, asked, to) if rng.percent(40) => {
+            Constraint::Between(from, other_asked(rng, &palette, asked), to)
+        }
+        Constraint::Between(_, asked, to) if rng.percent(50) => Constraint::Between(mask, asked, to),
+        Constraint::Between(from, asked, _) => Constraint::Between(from, asked, mask),
     };
+}
+
+/// The other sign, or any proposition.
+fn other_asked(rng: &mut Rng, palette: &[u32], asked: Signed) -> Signed {
+    if palette.is_empty() || rng.percent(50) {
+        Signed { positive: !asked.positive, ..asked }
+    } else {
+        Signed { proposition: *rng.pick(palette), ..asked }
+    }
 }
 
 /// Changes the goal, a method's task or its subtasks.
@@ -288,7 +298,7 @@ fn fields(rng: &mut Rng, text: &mut Vec<u8>) {
     let at = draw_line(rng, &lines);
     let line = &mut lines[at];
     let item = rng.below(line.len());
-    match rng.below(12) {
+    match rng.below(13) {
         0..=2 => line[item] = rng.pick(TELLING).as_bytes().to_vec(),
         3 | 4 => nudge(&mut line[item], 1),
         5 => nudge(&mut line[item], -1),
@@ -305,23 +315,27 @@ fn fields(rng: &mut Rng, text: &mut Vec<u8>) {
             let other = rng.below(line.len());
             line.swap(item, other);
         }
-        _ => {
-            line[0] = rng
-                .pick(&["N", "I", "A", "M", "O", "B", "F", "W", "P", "D", "E", "L", "d", "DD", "", "X"])
-                .as_bytes()
-                .to_vec()
-        }
+        11 => line[0].iter_mut().for_each(other_case),
+        _ if rng.percent(20) => line[0] = rng.pick(&["", "X", "x", "DD", "bb", "Ww"]).as_bytes().to_vec(),
+        _ => line[0] = vec![*rng.pick(b"NIAMOBbFfWwPDELniamopdel")],
     }
     let joined: Vec<Vec<u8>> = lines.iter().map(|line| line.join(&b',')).collect();
     *text = joined.join(&b'\n');
 }
 
 fn draw_line(rng: &mut Rng, lines: &[Vec<Vec<u8>>]) -> usize {
-    let letter = *rng.pick(b"NIAMOBFWPDEL");
+    let letter = *rng.pick(b"NIAMOBbFfWwPDEL");
     let with_letter: Vec<usize> = (0..lines.len()).filter(|&i| lines[i][0] == [letter]).collect();
     match with_letter.is_empty() {
         true => rng.below(lines.len()),
         false => *rng.pick(&with_letter),
+    }
+}
+
+/// A capital letter becomes a small one, a small one a capital.
+fn other_case(byte: &mut u8) {
+    if byte.is_ascii_alphabetic() {
+        *byte ^= 0x20;
     }
 }
 
@@ -359,14 +373,15 @@ fn lines(rng: &mut Rng, text: &mut Vec<u8>) {
         7 => {
             lines.pop();
         }
-        _ => lines.push(rng.pick(&["\n", "x", " ", "\0", "\r\n", "L,0,1", "L,0,1\n", ","]).as_bytes().to_vec()),
+        _ => lines
+            .push(rng.pick(&["\n", "x", " ", "\0", "\r\n", "L,0,1", "L,0,1\n", "b,0,0\n", ","]).as_bytes().to_vec()),
     }
     *text = lines.concat();
 }
 
 /// Flips, drops, puts in, cuts off or pads bytes.
 fn bytes(rng: &mut Rng, text: &mut Vec<u8>) {
-    let odd = *rng.pick(b"\0\r\n,,0123456789 xNIAMOBFWPDELd\x80\xff-+\t");
+    let odd = *rng.pick(b"\0\r\n,,0123456789 xNIAMOBFWPDELdobfw\x80\xff-+\t");
     if text.is_empty() {
         text.push(odd);
         return;

@@ -1,14 +1,14 @@
 //! Cases of chosen size: deep chains, typical plans, the dearest cases for a checker, and
 //! every limit of 01 met exactly or passed by one.
 
-use super::{animate, constrain, finish, grow, place};
+use super::{animate, constrain, finish, grow, is, place};
 use super::{ActionSets, Constraint, Draft, Line, Method, Rng, Strictness, Weave};
 
-fn method(task: u32, subtasks: Vec<u32>) -> Method {
+pub(super) fn method(task: u32, subtasks: Vec<u32>) -> Method {
     Method { task, subtasks, constraints: Vec::new() }
 }
 
-fn skeleton(propositions: u32, actions: usize, compound: u32, methods: Vec<Method>) -> Draft {
+pub(super) fn skeleton(propositions: u32, actions: usize, compound: u32, methods: Vec<Method>) -> Draft {
     Draft {
         propositions,
         palette: (0..propositions).collect(),
@@ -53,7 +53,7 @@ pub fn chain(rng: &mut Rng, levels: usize) -> (Draft, usize) {
         }
     });
     let weave = *rng.pick(&[Weave::Ordered, Weave::Woven]);
-    finish(rng, &mut draft, &mut tree, weave, Strictness { most: 2, tries: 4, broken: 0 });
+    finish(rng, &mut draft, &mut tree, weave, Strictness { most: 2, tries: 4, broken: 0, negative: 50 });
     (draft, deepest)
 }
 
@@ -93,7 +93,7 @@ pub fn typical(seed: u64, cues: usize, weave: Weave) -> Draft {
     });
     place(rng, &mut draft, &mut tree, weave);
     animate(rng, &mut draft, if big { 4 } else { 12 });
-    constrain(rng, &mut draft, &tree, Strictness { most: 5, tries: 12, broken: 0 });
+    constrain(rng, &mut draft, &tree, Strictness { most: 5, tries: 12, broken: 0, negative: 0 });
     draft
 }
 
@@ -106,8 +106,9 @@ pub fn four_nodes() -> Draft {
     draft.actions[0] = [vec![], vec![0], vec![0], vec![]];
     draft.actions[1] = [vec![], vec![], vec![1], vec![]];
     draft.actions[2] = [vec![1], vec![], vec![2], vec![1]];
-    draft.methods[0].constraints = vec![Constraint::Order(0, 2), Constraint::Order(1, 2), Constraint::Between(1, 0, 4)];
-    draft.methods[2].constraints = vec![Constraint::Before(0, 0)];
+    draft.methods[0].constraints =
+        vec![Constraint::Order(0, 2), Constraint::Order(1, 2), Constraint::Between(1, is(0), 4)];
+    draft.methods[2].constraints = vec![Constraint::Before(is(0), 0)];
     draft.plan = vec![load, take];
     draft.lines = vec![Line::D(0), Line::E(2, 0), Line::L(load, 1), Line::L(take, 2)];
     draft
@@ -134,15 +135,15 @@ pub fn mixed(cues: usize) -> Draft {
         let stays = |n: usize| (32 + (7 * number + n) % 64) as u32;
         let constraints = match draft.methods[number].subtasks.len() {
             0 => vec![
-                Constraint::Before(stays(0), 0),
-                Constraint::Between(0, stays(1), 0),
-                Constraint::After(stays(2), 0),
+                Constraint::Before(is(stays(0)), 0),
+                Constraint::Between(0, is(stays(1)), 0),
+                Constraint::After(is(stays(2)), 0),
             ],
             _ => vec![
                 Constraint::Order(0, 2),
-                Constraint::Before(stays(0), 2),
-                Constraint::Between(1, stays(1), 4),
-                Constraint::After(stays(2), 0),
+                Constraint::Before(is(stays(0)), 2),
+                Constraint::Between(1, is(stays(1)), 4),
+                Constraint::After(is(stays(2)), 0),
             ],
         };
         draft.methods[number].constraints = constraints;
@@ -178,7 +179,7 @@ pub fn betweens() -> Draft {
         method(z, vec![]),
     ];
     let mut draft = skeleton(256, 1, 6, methods);
-    draft.methods[6].constraints = (0..64).map(|n| Constraint::Between(1, 4 * n, 2)).collect();
+    draft.methods[6].constraints = (0..64).map(|n| Constraint::Between(1, is(4 * n), 2)).collect();
     draft.initial = (0..256).collect();
     let (mut ys, mut ss) = (0, 0);
     let mut tree = grow(&draft, &mut |task, _, _| match task {
@@ -220,7 +221,7 @@ pub fn long_betweens() -> Draft {
     let mut draft = skeleton(256, 1, 5, methods);
     // From the leaf to the empty task at the end, or from the empty task at the start to the leaf.
     for x in [3, 4] {
-        draft.methods[x].constraints = (0..64).map(|n| Constraint::Between(1, 4 * n + 1, 2)).collect();
+        draft.methods[x].constraints = (0..64).map(|n| Constraint::Between(1, is(4 * n + 1), 2)).collect();
     }
     draft.initial = (0..256).collect();
     let mut ss = 0;
@@ -258,8 +259,8 @@ pub fn befores_afters() -> Draft {
         let subtasks = method.subtasks.len();
         let set = |n: usize| if n % 4 < 2 || subtasks == 0 { 0 } else { 1 << (n % subtasks) };
         let condition = |n: usize| match n % 2 {
-            0 => Constraint::Before(4 * n as u32, set(n)),
-            _ => Constraint::After(4 * n as u32, set(n)),
+            0 => Constraint::Before(is(4 * n as u32), set(n)),
+            _ => Constraint::After(is(4 * n as u32), set(n)),
         };
         method.constraints = (0..64).map(condition).collect();
     }
@@ -279,8 +280,8 @@ pub fn befores_afters() -> Draft {
 /// 64 betweens of two full sets of 32 subtasks on each of 93 nodes; 64 befores on the others.
 pub fn sets_of_32() -> Draft {
     let mut draft = skeleton(256, 0, 1, vec![method(0, vec![0; 32]), method(0, vec![])]);
-    draft.methods[0].constraints = vec![Constraint::Between(u32::MAX, 255, u32::MAX); 64];
-    draft.methods[1].constraints = vec![Constraint::Before(255, 0); 64];
+    draft.methods[0].constraints = vec![Constraint::Between(u32::MAX, is(255), u32::MAX); 64];
+    draft.methods[1].constraints = vec![Constraint::Before(is(255), 0); 64];
     draft.initial = vec![255];
     // The goal, its 32 subtasks, and the first 60 of level 3 are decomposed further.
     let mut split = 0;
@@ -300,8 +301,8 @@ pub fn levels_64() -> Draft {
         vec![method(g, vec![c; 32]), method(c, vec![t]), method(c, vec![t, t]), method(t, vec![t]), method(t, vec![])];
     let mut draft = skeleton(8, 0, 3, methods);
     draft.initial = (0..8).collect();
-    draft.methods[3].constraints = vec![Constraint::Between(1, 7, 1); 64];
-    draft.methods[4].constraints = vec![Constraint::After(7, 0); 64];
+    draft.methods[3].constraints = vec![Constraint::Between(1, is(7), 1); 64];
+    draft.methods[4].constraints = vec![Constraint::After(is(7), 0); 64];
     let mut cs = 0;
     let tree = grow(&draft, &mut |task, level, _| match task {
         0 => 0,
@@ -383,8 +384,8 @@ fn three_thousand(actions: usize, compound: u32, methods: usize) -> Draft {
     let rng = &mut Rng::new(3_001);
     place(rng, &mut draft, &mut tree, Weave::Woven);
     draft.initial = vec![0, 63, 64, 255];
-    draft.methods[0].constraints = vec![Constraint::Between(1, 255, u32::MAX); 64];
-    draft.methods[5].constraints = vec![Constraint::Before(64, 0), Constraint::Between(0, 63, 0)];
+    draft.methods[0].constraints = vec![Constraint::Between(1, is(255), u32::MAX); 64];
+    draft.methods[5].constraints = vec![Constraint::Before(is(64), 0), Constraint::Between(0, is(63), 0)];
     draft
 }
 
@@ -395,7 +396,8 @@ fn full_sets() -> Draft {
     draft.initial = all.clone();
     draft.actions[0] = [all.clone(), vec![], all.clone(), all.clone()];
     draft.actions[1] = [vec![255], vec![], vec![0, 64, 128, 255], all];
-    draft.methods[0].constraints = vec![Constraint::Order(0, 1), Constraint::After(255, 2), Constraint::After(1, 1)];
+    draft.methods[0].constraints =
+        vec![Constraint::Order(0, 1), Constraint::After(is(255), 2), Constraint::After(is(1), 1)];
     draft.plan = vec![0, 0, 1];
     draft.lines = vec![Line::D(0), Line::L(0, 1), Line::L(1, 3), Line::L(0, 2)];
     draft
@@ -422,7 +424,7 @@ fn over_limits() -> Vec<(&'static str, Vec<u8>)> {
     let mut subtasks = sets_of_32();
     subtasks.methods[0].subtasks.push(0);
     let mut constraints = sets_of_32();
-    constraints.methods[1].constraints.push(Constraint::Before(255, 0));
+    constraints.methods[1].constraints.push(Constraint::Before(is(255), 0));
     let mut nodes = three_thousand(10, 4, 6);
     nodes.lines.push(Line::E(5, 0));
     let mut cues = three_thousand(10, 4, 6);
