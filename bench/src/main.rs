@@ -69,6 +69,7 @@ fn cases() -> Vec<(&'static str, Vec<u8>)> {
         ("1000 cues, woven", extremes::typical(1_001, 1_000, Weave::Woven).text()),
         ("1000 cues, mixed", extremes::mixed(1_000).text()),
         ("betweens", extremes::betweens().text()),
+        ("signed betweens", extremes::signed_betweens().text()),
         ("long betweens", extremes::long_betweens().text()),
         ("befores and afters", extremes::befores_afters().text()),
         ("sets of 32", extremes::sets_of_32().text()),

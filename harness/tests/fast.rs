@@ -109,6 +109,11 @@ fn dear_cases() {
     let draft = extremes::long_betweens();
     assert_accepted(&draft);
     assert_eq!(with_64(&draft, |it| matches!(it, Constraint::Between(..))), 930);
+    let draft = extremes::signed_betweens();
+    assert_accepted(&draft);
+    assert_eq!(with_64(&draft, |it| matches!(it, Constraint::Between(..))), 648);
+    let negative = |it: &&Constraint| matches!(it, Constraint::Between(_, Signed { positive: false, .. }, _));
+    assert_eq!(draft.methods[6].constraints.iter().filter(negative).count(), 32);
 }
 
 #[test]

@@ -1,7 +1,7 @@
 //! Cases of chosen size: deep chains, typical plans, the dearest cases for a checker, and
 //! every limit of 01 met exactly or passed by one.
 
-use super::{animate, constrain, finish, grow, is, place};
+use super::{animate, constrain, finish, grow, is, not, place};
 use super::{ActionSets, Constraint, Draft, Line, Method, Rng, Strictness, Weave};
 
 pub(super) fn method(task: u32, subtasks: Vec<u32>) -> Method {
@@ -204,6 +204,15 @@ pub fn betweens() -> Draft {
             late = !late;
         }
     }
+    draft
+}
+
+/// The same with W and w in turn; the propositions of w are false throughout.
+pub fn signed_betweens() -> Draft {
+    let mut draft = betweens();
+    let asked = |n: u32| if n % 2 == 0 { is(4 * n) } else { not(4 * n) };
+    draft.methods[6].constraints = (0..64).map(|n| Constraint::Between(1, asked(n), 2)).collect();
+    draft.initial.retain(|p| p % 8 != 4);
     draft
 }
 
@@ -457,6 +466,7 @@ pub fn all() -> Vec<(&'static str, Vec<u8>)> {
         ("60 cues, mixed", mixed(60).text()),
         ("1000 cues, mixed", mixed(1_000).text()),
         ("betweens", betweens().text()),
+        ("signed betweens", signed_betweens().text()),
         ("long betweens", long_betweens().text()),
         ("befores and afters", befores_afters().text()),
         ("sets of 32", sets_of_32().text()),
