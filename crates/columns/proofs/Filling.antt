@@ -107,12 +107,12 @@ turned-amiss g s w x h t =
     let here : w * 64 + 0 ≡ w * 64 = omega arith in
     ap not (none-set x h ∙ in-turned g s w x 0 64 t (omega arith) ∙ ap (λ (m : ℕ). every 64 m (asked g s)) here)
 
--- A word sums up a column for a sign.
-abbrev pub Sums : Sign → List ℕ → ℕ → Type 0
-Sums g s sum = (w : ℕ) → w < stateWords → not (bit sum w) ≡ every 64 (w * 64) (asked g s)
+-- A word sums up a column's first words for a sign.
+abbrev pub Sums : Sign → List ℕ → ℕ → ℕ → Type 0
+Sums g s words sum = (w : ℕ) → w < words → not (bit sum w) ≡ every 64 (w * 64) (asked g s)
 
-pub tests-sum : (g : Sign) (s : List ℕ) (sum : ℕ) → Tests (amiss g s) 0 stateWords sum → Sums g s sum
-tests-sum g s sum tests w h =
+pub tests-sum : (g : Sign) (s : List ℕ) (words sum : ℕ) → Tests (amiss g s) 0 words sum → Sums g s words sum
+tests-sum g s words sum tests w h =
     let here : 0 + w ≡ w = omega arith in
     ap not (tests w (omega arith) ∙ ap (amiss g s) here) ∙ Bool·not-not (every 64 (w * 64) (asked g s))
 
@@ -120,10 +120,10 @@ tests-sum g s sum tests w h =
 abbrev SameStates : List ℕ → List ℕ → Type 0
 SameStates s t = (l : ℕ) → l < 64 * stateWords → clear s l ≡ clear t l
 
-sum-there : (g : Sign) (s t : List ℕ) (sum w : ℕ) → w < stateWords → SameStates s t → word t (sumAt g) ≡ sum → Sums g s sum
+sum-there : (g : Sign) (s t : List ℕ) (words sum w : ℕ) → w < words → w < stateWords → SameStates s t → word t (sumAt g) ≡ sum → Sums g s words sum
     → clear t (sumAt g * 64 + w) ≡ every 64 (w * 64) (asked g t)
 unfolding stateWords
-sum-there g s t sum w h same e sums =
+sum-there g s t words sum w h few same e sums =
     ap not (member-at t (sumAt g) w (omega arith) ∙ ap (λ (y : ℕ). bit y w) e) ∙ sums w h
     ∙ every-same 64 (w * 64) (asked g s) (asked g t) (λ l a b. ap (signed g) (same l (omega arith)))
 
@@ -142,20 +142,20 @@ module _ (s : List ℕ) (x y : ℕ) (room : length s ≡ columnWords) where
   kept : SameStates s twice
   kept l h = past-states s stateWords x (omega arith) l h ∙ past-states once (stateWords + 1) y (omega arith) l h
 
-  both-summed : (n : ℕ) → n ≤ 64 * stateWords → Sums Positive s x → Sums Negative once y → Summed twice n
+  both-summed : (n words : ℕ) → n ≤ 64 * stateWords → n ≤ 64 * words → Sums Positive s words x → Sums Negative once words y → Summed twice n
   unfolding stateWords sumAt columnWords
-  both-summed n fits p q Positive w h =
-      sum-there Positive s twice x w (omega arith) kept
+  both-summed n words fits end p q Positive w h =
+      sum-there Positive s twice words x w (omega arith) (omega arith) kept
       (getD-set-other once (stateWords + 1) stateWords y 0 (λ e. omega arith) ∙ getD-set-same s stateWords x 0 (omega arith)) p
-  both-summed n fits p q Negative w h =
-      sum-there Negative once twice y w (omega arith) (past-states once (stateWords + 1) y (omega arith))
+  both-summed n words fits end p q Negative w h =
+      sum-there Negative once twice words y w (omega arith) (omega arith) (past-states once (stateWords + 1) y (omega arith))
       (getD-set-same once (stateWords + 1) y 0 (omega (arith, length-set s stateWords x))) q
 
   pub column-done : (states : List ℕ) (p n w : ℕ) → n ≤ 64 * stateWords → n ≤ 64 * w → Right (inRow states Positive p) n s w
-      → Sums Positive s x → Sums Negative once y → Column states p n twice
+      → Sums Positive s w x → Sums Negative once w y → Column states p n twice
   unfolding inRow signed
   column-done states p n w fits end all positive negative =
       record {
         at = λ g l b. ap (signed g) (sym (kept l (omega arith)) ∙ all l b (omega arith));
-        summed = both-summed n fits positive negative;
+        summed = both-summed n w fits end positive negative;
       }

@@ -110,13 +110,13 @@ fn digit(word: u64) -> u64
     if word == 0 { 0 } else { 1 }
 }
 
-// The word that sums up a column's words of states for a sign.
-fn summary(column: &[u64], sign: Sign) -> u64
-    requires { ⌜ stateWords ≤ length (now column) ⌝ }
-    ensures { λ r. ⌜ ((w : ℕ) → w < stateWords → not (bit r w) ≡ every 64 (w * 64) (asked sign (now (column .entry)))) ⌝ }
+// The word that sums up a column's first words for a sign.
+fn summary(column: &[u64], words: usize, sign: Sign) -> u64
+    requires { ⌜ (words ≤ stateWords) × (words ≤ length (now column)) ⌝ }
+    ensures { λ r. ⌜ ((w : ℕ) → w < words → not (bit r w) ≡ every 64 (w * 64) (asked sign (now (column .entry)))) ⌝ }
 {
     let mut sum: u64 = 0;
-    let mut w: usize = STATE_WORDS;
+    let mut w = words;
     while 0 < w {
         w -= 1;
         sum = (sum << 1) | digit(turned(column[w], sign));
@@ -146,8 +146,8 @@ fn build(column: &mut [u64], states: &[u64], p: u32, n: usize)
         column[w] = word_of(states, p, from, word_end(from, n)) ^ ONES;
         w += 1;
     }
-    column[STATE_WORDS] = summary(column, Sign::Positive);
-    column[STATE_WORDS + 1] = summary(column, Sign::Negative);
+    column[STATE_WORDS] = summary(column, w, Sign::Positive);
+    column[STATE_WORDS + 1] = summary(column, w, Sign::Negative);
 }
 
 // Where the column of p starts.

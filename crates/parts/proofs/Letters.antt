@@ -29,8 +29,8 @@ and-223 : (l : ℕ) → l < 256 → bitAnd l 223 + l / 32 % 2 * 32 ≡ l
 and-223 l h =
     let whole : l / 64 * 64 + l % 64 ≡ l = omega arith in
     let parts : bitAnd l 223 ≡ l / 64 % 4 * 64 + l % 64 % 32 =
-        ap (λ (x : ℕ). bitAnd x 223) (sym whole) ∙ and-block 6 (l / 64) 3 (l % 64) 31 (omega arith) (omega arith)
-        ∙ ap₂ (λ (x y : ℕ). x * 64 + y) (and-mask (l / 64) 2) (and-mask (l % 64) 5) in
+    ap (λ (x : ℕ). bitAnd x 223) (sym whole) ∙ and-block 6 (l / 64) 3 (l % 64) 31 (omega arith) (omega arith)
+    ∙ ap₂ (λ (x y : ℕ). x * 64 + y) (and-mask (l / 64) 2) (and-mask (l % 64) 5) in
     let high : l / 64 % 4 ≡ l / 64 = omega arith in
     let low : l / 32 ≡ l / 64 * 2 + l % 64 / 32 = omega arith in
     let one : l / 32 % 2 ≡ l % 64 / 32 = omega arith in

@@ -9,10 +9,10 @@ use Rattle.columns.proofs.summary.Statement.{statement}
 use Rattle.columns.proofs.summary.Tie as tie
 
 abbrev Inv-loop : tie.InvT-loop
-Inv-loop column g sum₀ w₀ sum w = (w ≤ stateWords) × Tests (amiss g column) w stateWords sum
+Inv-loop column words g sum₀ w₀ sum w = (w ≤ words) × Tests (amiss g column) w words sum
 
 abbrev μ-loop : tie.MeasureT-loop
-μ-loop column g sum₀ w₀ sum w = w
+μ-loop column words g sum₀ w₀ sum w = w
 
 loop-holds : tie.Need-loop-holds Inv-loop μ-loop
 unfolding stateWords
@@ -46,9 +46,9 @@ loop-again c =
     let t = c .before .turned in
     let back : l .w ≡ l .w - 1 + 1 = omega arith in (
       omega arith,
-      tests-more f (l .w - 1) stateWords (l .sum) (c .digit .result) (omega arith) (c .digit .ensures .0)
+      tests-more f (l .w - 1) (a .words) (l .sum) (c .digit .result) (omega arith) (c .digit .ensures .0)
           (c .digit .ensures .1 ∙ turned-amiss (a .sign) (a .column .now) (l .w - 1) (t .result) (t .ok) (t .ensures))
-          (subst (λ (m : ℕ). Tests f m stateWords (l .sum)) back (l .inv .1)),
+          (subst (λ (m : ℕ). Tests f m (a .words) (l .sum)) back (l .inv .1)),
     )
 
 returns : tie.Need-returns Inv-loop μ-loop
@@ -56,7 +56,7 @@ returns c =
     let l = c .before .loop in
     let a = c .before .before .before .args in
     let end : l .w ≡ 0 = omega arith in
-    tests-sum (a .sign) (a .column .now) (l .sum) (subst (λ (m : ℕ). Tests (amiss (a .sign) (a .column .now)) m stateWords (l .sum)) end (l .inv .1))
+    tests-sum (a .sign) (a .column .now) (a .words) (l .sum) (subst (λ (m : ℕ). Tests (amiss (a .sign) (a .column .now)) m (a .words) (l .sum)) end (l .inv .1))
 
 pub summary-spec : {M : Type 1} → statement M
 summary-spec =
