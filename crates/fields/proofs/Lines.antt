@@ -7,7 +7,7 @@ use Rattle.rules.specs.declared.Sign.the-variants.{Positive, Negative}
 use Rattle.rules.specs.State.{State, Action}
 use Rattle.rules.specs.Table.{rowOf, table}
 use Rattle.rules.specs.Case.{Constraint, O, B, F, W, Method, NodeLine, D, E, L}
-use Rattle.rules.specs.Fields.{propositionsOf, lineFields, linesFields, initialLine, actionLine, letterOf, constraintLine, methodLines, cuesLine, nodeLine}
+use Rattle.rules.specs.Fields.{propositionsOf, lineFields, linesFields, initialLine, actionLine, signedLetter, constraintLine, methodLines, cuesLine, nodeLine}
 
 -- A set's fields: how many propositions it has, and which.
 abbrev pub setFields : State → List ℕ
@@ -36,9 +36,9 @@ cues-fields plan = ap (λ (l : List ℕ). 80 ∷ l) (append-nil plan)
 
 abbrev pub constraintFields : Constraint → List ℕ
 constraintFields (O i j) = 79 ∷ i ∷ j ∷ []
-constraintFields (B s p u) = letterOf s "B" "b" ∷ p ∷ u ∷ []
-constraintFields (F s p u) = letterOf s "F" "f" ∷ p ∷ u ∷ []
-constraintFields (W s u p v) = letterOf s "W" "w" ∷ u ∷ p ∷ v ∷ []
+constraintFields (B s p u) = signedLetter s "B" "b" ∷ p ∷ u ∷ []
+constraintFields (F s p u) = signedLetter s "F" "f" ∷ p ∷ u ∷ []
+constraintFields (W s u p v) = signedLetter s "W" "w" ∷ u ∷ p ∷ v ∷ []
 
 pub constraint-fields : (c : Constraint) → lineFields (constraintLine c) ≡ constraintFields c
 unfolding lineFields constraintLine rowOf table

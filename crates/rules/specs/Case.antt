@@ -94,6 +94,7 @@ actionOf x = record { needed = setAt (x .1) 0; forbidden = setAt (x .1) 1; added
 unfoldable pub signOf : ℕ → Sign
 signOf letter = elim (ltb letter (code "a")) [ true ↦ Positive | false ↦ Negative ]
 
+-- A letter is one of two.
 abbrev pub isEither : ℕ → ℕ → ℕ → Bool
 isEither letter large small = eqb letter large || eqb letter small
 

@@ -70,18 +70,18 @@ initialLine s = (code "I", setValue s ∷ [])
 unfoldable pub actionLine : Action → Valued
 actionLine a = (code "A", setValue (a .needed) ∷ setValue (a .forbidden) ∷ setValue (a .added) ∷ setValue (a .deleted) ∷ [])
 
--- The letter of a condition, of two.
-abbrev pub letterOf : Sign → Char → Char → ℕ
-letterOf Positive large small = code large
-letterOf Negative large small = code small
+-- Of a condition's two letters the one of its sign.
+abbrev pub signedLetter : Sign → Char → Char → ℕ
+signedLetter Positive large small = code large
+signedLetter Negative large small = code small
 
 -- "O,i,j (i before j, i ≠ j, both subtask numbers); B,p,U (before); F,p,U (after); W,U,p,V (between)." "Lines b, f and w take the fields
 -- of B, F and W" (02, Card 1).
 unfoldable pub constraintLine : Constraint → Valued
 constraintLine (O i j) = (code "O", scalar i ∷ scalar j ∷ [])
-constraintLine (B s p u) = (letterOf s "B" "b", scalar p ∷ scalar u ∷ [])
-constraintLine (F s p u) = (letterOf s "F" "f", scalar p ∷ scalar u ∷ [])
-constraintLine (W s u p v) = (letterOf s "W" "w", scalar u ∷ scalar p ∷ scalar v ∷ [])
+constraintLine (B s p u) = (signedLetter s "B" "b", scalar p ∷ scalar u ∷ [])
+constraintLine (F s p u) = (signedLetter s "F" "f", scalar p ∷ scalar u ∷ [])
+constraintLine (W s u p v) = (signedLetter s "W" "w", scalar u ∷ scalar p ∷ scalar v ∷ [])
 
 -- "One M line per method: compound task, list of subtasks [..], constraint count c (0 to 64); then c lines of its own"
 unfoldable pub methodLines : Method → List Valued

@@ -61,8 +61,8 @@ table =
     ∷ []
 
 -- Card 1: panel case a with one more condition, or two, in the panel's method.
-abbrev signed : String → List String → String → Panel
-signed method conditions answer = record {
+abbrev panelWith : String → List String → String → Panel
+panelWith method conditions answer = record {
   lines =
       "N,3,3,2,3,3,2,4" ∷ "I,1,0" ∷ "A,0,1,0,1,0,0" ∷ "A,0,0,1,1,0" ∷ "A,1,1,0,1,2,1,1" ∷ method ∷ "O,0,2" ∷ "O,1,2" ∷ "W,1,0,4"
       ∷ conditions ++ ("M,4,1,0,0" ∷ "M,4,0,1" ∷ "B,0,0" ∷ "P,1,2" ∷ "D,0" ∷ "E,2,0" ∷ "L,1,1" ∷ "L,2,2" ∷ []);
@@ -73,16 +73,16 @@ signed method conditions answer = record {
 -- first and then true there, so that w and W are broken alike. From take to "in km/h" no state is asked about: both hold.
 abbrev pub signedTable : List Panel
 signedTable =
-    signed "M,3,3,4,1,2,4" ("b,1,2" ∷ []) "Y,2,4"
-    ∷ signed "M,3,3,4,1,2,4" ("B,1,2" ∷ []) "R,11,15,3"
-    ∷ signed "M,3,3,4,1,2,4" ("f,1,2" ∷ []) "R,12,15,3"
-    ∷ signed "M,3,3,4,1,2,4" ("F,1,2" ∷ []) "Y,2,4"
-    ∷ signed "M,3,3,4,1,2,4" ("w,1,2,4" ∷ []) "Y,2,4"
-    ∷ signed "M,3,3,4,1,2,4" ("w,1,1,4" ∷ []) "R,13,15,3"
-    ∷ signed "M,3,3,4,1,2,4" ("W,1,1,4" ∷ []) "R,13,15,3"
-    ∷ signed "M,3,3,4,1,2,5" ("w,4,0,1" ∷ "W,4,2,1" ∷ []) "Y,2,4"
-    ∷ signed "M,3,3,4,1,2,4" ("b,0,1,2" ∷ []) "R,3,10,4"
-    ∷ signed "M,3,3,4,1,2,4" ("o,0,2" ∷ []) "R,3,10,1"
+    panelWith "M,3,3,4,1,2,4" ("b,1,2" ∷ []) "Y,2,4"
+    ∷ panelWith "M,3,3,4,1,2,4" ("B,1,2" ∷ []) "R,11,15,3"
+    ∷ panelWith "M,3,3,4,1,2,4" ("f,1,2" ∷ []) "R,12,15,3"
+    ∷ panelWith "M,3,3,4,1,2,4" ("F,1,2" ∷ []) "Y,2,4"
+    ∷ panelWith "M,3,3,4,1,2,4" ("w,1,2,4" ∷ []) "Y,2,4"
+    ∷ panelWith "M,3,3,4,1,2,4" ("w,1,1,4" ∷ []) "R,13,15,3"
+    ∷ panelWith "M,3,3,4,1,2,4" ("W,1,1,4" ∷ []) "R,13,15,3"
+    ∷ panelWith "M,3,3,4,1,2,5" ("w,4,0,1" ∷ "W,4,2,1" ∷ []) "Y,2,4"
+    ∷ panelWith "M,3,3,4,1,2,4" ("b,0,1,2" ∷ []) "R,3,10,4"
+    ∷ panelWith "M,3,3,4,1,2,4" ("o,0,2" ∷ []) "R,3,10,1"
     ∷ []
 
 -- With lists as long as 01 asks.
