@@ -1,78 +1,19 @@
--- `shape`: each arm of the match is the row of its letter, and no other byte has a row. Assumes nothing.
-use Rattle.lines.proofs.Shapes.{shape-other}
-use Rattle.lines.specs.Shapes.{shapeRow, rowShown, itemsOf, itemOf, kindOf}
-use Rattle.rules.specs.Table.{rowOf, table, roleNumber}
+-- `shape`: below a, and from a on. Assumes nothing.
+use borrow.Author.Needs.{needs}
 use Rattle.lines.proofs.table.shape.Statement.{statement}
 use Rattle.lines.proofs.table.shape.Tie as tie
 
+large-requires : tie.Need-large-requires
+large-requires c κs = search needs
+
+small-requires : tie.Need-small-requires
+small-requires c κs = search needs
+
 returns : tie.Need-returns
-unfolding shapeRow rowShown rowOf table roleNumber itemsOf itemOf kindOf
-returns c = rw (c .match .keys1)
+returns c = search needs
 
 returns-2 : tie.Need-returns-2
-unfolding shapeRow rowShown rowOf table roleNumber itemsOf itemOf kindOf
-returns-2 c = rw (c .match .keys2)
-
-returns-3 : tie.Need-returns-3
-unfolding shapeRow rowShown rowOf table roleNumber itemsOf itemOf kindOf
-returns-3 c = rw (c .match .keys3)
-
-returns-4 : tie.Need-returns-4
-unfolding shapeRow rowShown rowOf table roleNumber itemsOf itemOf kindOf
-returns-4 c = rw (c .match .keys4)
-
-returns-5 : tie.Need-returns-5
-unfolding shapeRow rowShown rowOf table roleNumber itemsOf itemOf kindOf
-returns-5 c = rw (c .match .keys5)
-
-returns-6 : tie.Need-returns-6
-unfolding shapeRow rowShown rowOf table roleNumber itemsOf itemOf kindOf
-returns-6 c = rw (c .match .keys6)
-
-returns-7 : tie.Need-returns-7
-unfolding shapeRow rowShown rowOf table roleNumber itemsOf itemOf kindOf
-returns-7 c = rw (c .match .keys7)
-
-returns-8 : tie.Need-returns-8
-unfolding shapeRow rowShown rowOf table roleNumber itemsOf itemOf kindOf
-returns-8 c = rw (c .match .keys8)
-
-returns-9 : tie.Need-returns-9
-unfolding shapeRow rowShown rowOf table roleNumber itemsOf itemOf kindOf
-returns-9 c = rw (c .match .keys9)
-
-returns-10 : tie.Need-returns-10
-unfolding shapeRow rowShown rowOf table roleNumber itemsOf itemOf kindOf
-returns-10 c = rw (c .match .keys10)
-
-returns-11 : tie.Need-returns-11
-unfolding shapeRow rowShown rowOf table roleNumber itemsOf itemOf kindOf
-returns-11 c = rw (c .match .keys11)
-
-returns-12 : tie.Need-returns-12
-unfolding shapeRow rowShown rowOf table roleNumber itemsOf itemOf kindOf
-returns-12 c = rw (c .match .keys12)
-
-returns-13 : tie.Need-returns-13
-unfolding shapeRow rowShown rowOf table roleNumber itemsOf itemOf kindOf
-returns-13 c = rw (c .match .keys13)
-
-returns-14 : tie.Need-returns-14
-unfolding shapeRow rowShown rowOf table roleNumber itemsOf itemOf kindOf
-returns-14 c = rw (c .match .keys14)
-
-returns-15 : tie.Need-returns-15
-unfolding shapeRow rowShown rowOf table roleNumber itemsOf itemOf kindOf
-returns-15 c = rw (c .match .keys15)
-
-returns-16 : tie.Need-returns-16
-unfolding table
-returns-16 c =
-    let r = c .match .rest in
-    shape-other (c .before .args .letter)
-    (r .0 .0 .0 .0 .0 .0 .1, (r .0 .0 .0 .0 .0 .0 .0 .0 .0 .1, (r .0 .0 .0 .0 .0 .0 .0 .0 .0 .0 .0 .0 .0 .0 .1, (r .0 .0 .0 .0 .0 .0 .0 .1, (r .0 .0 .0 .0 .0 .1, (r .0 .0 .0 .0 .0 .0 .0 .0 .0 .0 .0 .0 .0 .1, (r .0 .0 .1, (r .0 .0 .0 .0 .0 .0 .0 .0 .0 .0 .1, (r .0 .1, (r .0 .0 .0 .1, (r .1, (r .0 .0 .0 .0 .1, (r .0 .0 .0 .0 .0 .0 .0 .0 .0 .0 .0 .0 .1, (r .0 .0 .0 .0 .0 .0 .0 .0 .0 .0 .0 .1, (r .0 .0 .0 .0 .0 .0 .0 .0 .1, tt)))))))))))))))
+returns-2 c = search needs
 
 pub shape-spec : {M : Type 1} → statement M
-shape-spec =
-    tie.close
-    (tie.spec returns returns-2 returns-3 returns-4 returns-5 returns-6 returns-7 returns-8 returns-9 returns-10 returns-11 returns-12 returns-13 returns-14 returns-15 returns-16)
+shape-spec = tie.close (tie.spec large-requires small-requires returns returns-2)
