@@ -33,14 +33,15 @@ typedef struct cuecheck_node {
 } cuecheck_node;
 
 /* Judges a case. The lists may hold anything, but must not overlap. Accepted, states has states 0 to k and nodes a record for each node, in the
-   tree's order, and zero after; refused, both are zero. work is zero after each call. It needs 21 KiB of stack for the deepest tree
+   tree's order, and zero after; refused, both are zero. work is zero after each call. It needs 211 KiB of stack for the deepest tree
    (64 levels; measured). */
 cuecheck_reply cuecheck_check(const uint8_t *text, size_t text_len,
                               uint64_t *states, size_t states_len,
                               cuecheck_node *nodes, size_t nodes_len,
                               uint32_t *work, size_t work_len);
 
-/* Reads a case and runs its plan (numbers 1 to 5), without judging the tree or the constraints. The lists as for cuecheck_check. */
+/* Reads a case and runs its plan (numbers 1 to 5), without judging the tree or the constraints. The lists as for cuecheck_check. It needs 194
+   KiB of stack. */
 cuecheck_reply cuecheck_replay(const uint8_t *text, size_t text_len,
                                uint64_t *states, size_t states_len,
                                uint32_t *work, size_t work_len);
