@@ -1,6 +1,5 @@
 -- A constraint's letter picks its test; each test is the definition's, at the spans of the parts. Assumes nothing.
-use mathlib.Core.Path.{_≡_, refl, sym, ap, ap₂, subst, _∙_}
-use mathlib.Core.Logic.{_≢_}
+use mathlib.Core.Path.{_≡_, refl, sym, ap, ap₂, _∙_}
 use mathlib.Core.Bool.{Bool, true, false, cond, _||_}
 use mathlib.Core.List.{List, [], _∷_, _++_}
 use Prim.Native.Nat.{ℕ, zero, suc, _+_, _-_, _*_, _/_, _%_, _≤_, _<_}
@@ -19,7 +18,6 @@ use Rattle.rules.proofs.Spans.{hull-one}
 use Rattle.tree.specs.Layout.{subtasksPast}
 use Rattle.rows.specs.Rows.{inRow}
 use Rattle.parts.specs.Spans.{rowSpan, nodesIn, subtaskSpan, spansIn, SubtaskInside}
-use Rattle.parts.specs.Tests.{PartInside, Tested}
 use Rattle.parts.proofs.Parts.{length-nodes}
 
 -- ---- the letter

@@ -7,7 +7,7 @@ use Rattle.index.specs.Spans.{spanOf}
 use Rattle.rules.specs.State.{wordCount}
 use Rattle.rules.specs.Case.{Constraint, O, B, F, W, signOf, isEither, constraintOf}
 use borrow.Author.Needs.{needs}
-use mathlib.Core.Bool.{true, false}
+use mathlib.Core.Bool.{false}
 use mathlib.Core.Path.{_≡_, refl, sym, subst, _∙_}
 use native.Mathlib.Omega.{arith}
 
