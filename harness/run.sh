@@ -1,12 +1,14 @@
 #!/bin/sh
-# Builds the static library of crate capi, links it with the plain rendering and compares the two, call by call. At the top of the repository:
+# Builds the static library of crate capi, links it with the plain rendering and compares the two, call by call; then tries what the write call
+# promises of its own texts. At the top of the repository:
 #   sh harness/run.sh [COUNT [SEED]]
-# Each of the two comparisons ends `COUNT inputs, 0 differences`.
+# Each of the three comparisons ends `COUNT inputs, 0 differences`, that of the write call with how many inputs were accepted, how many of these
+# were tidy already and how many outputs were too short. The last line ends `0 faults`.
 set -eu
 cd "$(dirname "$0")/.."
 rt staticlib capi >/dev/null
-for call in check replay; do
-    touch harness/src/bin/compare_$call.rs
+for program in compare_check compare_replay compare_write properties; do
+    touch harness/src/bin/$program.rs
     RUSTFLAGS="-L native=$PWD/target/staticlib" cargo run --quiet --release --offline --manifest-path harness/Cargo.toml \
-        --features linked --bin compare_$call -- "${1:-20000}" "${2:-1}"
+        --features linked --bin $program -- "${1:-20000}" "${2:-1}"
 done

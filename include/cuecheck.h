@@ -23,6 +23,13 @@ typedef struct cuecheck_reply {
     uint32_t cues, nodes; /* k and n */
 } cuecheck_reply;
 
+/* What the write call answers. Accepted: number, line and item are 0. Refused: a row of the table in README.md, and the rest is 0. */
+typedef struct cuecheck_written {
+    uint32_t number, line, item;
+    uint32_t cues, nodes; /* k and n */
+    uint32_t length;      /* of the text put out, in bytes */
+} cuecheck_written;
+
 /* A node of the tree. */
 typedef struct cuecheck_node {
     uint32_t letter; /* 1: D, 2: E, 3: L */
@@ -45,6 +52,16 @@ cuecheck_reply cuecheck_check(const uint8_t *text, size_t text_len,
 cuecheck_reply cuecheck_replay(const uint8_t *text, size_t text_len,
                                uint64_t *states, size_t states_len,
                                uint32_t *work, size_t work_len);
+
+/* Judges a case and, accepted, puts it out with each method's constraints in order (O, B, b, F, f, W, w, then by their fields as numbers), lines
+   that repeat another of the same method left out, and the method's count of them following; all else stays as it is. The text is never longer
+   than the one that came, and output is zero after it. The lists as for cuecheck_check. Refused, output is zero too. An output that is too short
+   is the last thing refused: number 14, item the bytes needed. It has no least length. */
+cuecheck_written cuecheck_write(const uint8_t *text, size_t text_len,
+                                uint64_t *states, size_t states_len,
+                                cuecheck_node *nodes, size_t nodes_len,
+                                uint32_t *work, size_t work_len,
+                                uint8_t *output, size_t output_len);
 
 /* Applies one action; proposition p is bit p % 64 of word p / 64. 1: the next state is written in place of state; 0: state is as it came.
    state must not overlap the other four. */

@@ -1,30 +1,37 @@
 //! Median times of the two plain renderings' calls, the clear one's (plain) and the fast one's, and, with the feature
-//! linked (see compare_check.rs for the command), of the linked ones in the same run.
+//! linked (see compare_check.rs for the command), of the linked ones in the same run. First the check and replay calls, then
+//! the write call, beside the check call of the last rendering on the same input.
 //!
 //! bench [ROUNDS [CASE]]
 
+use harness::gen::tangles::{self, Standing};
 use harness::gen::{extremes, Weave};
 use harness::lists::{Lengths, Lists};
-use harness::plain::Reply;
 use harness::{fast, plain};
 use std::hint::black_box;
 use std::time::{Duration, Instant};
 
-/// A call on a text with lists of the length asked for.
-type Call = fn(&[u8], &mut Lists) -> Reply;
+/// A call on a text with lists of the length asked for, and an output as long as the text.
+type Call = fn(&[u8], &mut Lists) -> u32;
 
-/// The check or the replay call of one rendering.
+/// The check, replay or write call of one rendering; its answer's number.
 macro_rules! call {
     ($rendering:ident check) => {
         |text, lists| {
             let (states, nodes, work) = lists.lend(Lengths::EXACT);
-            $rendering::check(text, states, nodes, work)
+            $rendering::check(text, states, nodes, work).number
         }
     };
     ($rendering:ident replay) => {
         |text, lists| {
             let (states, _, work) = lists.lend(Lengths::EXACT);
-            $rendering::replay(text, states, work)
+            $rendering::replay(text, states, work).number
+        }
+    };
+    ($rendering:ident write) => {
+        |text, lists| {
+            let (states, nodes, work, output) = lists.lend_all(Lengths::EXACT, text.len());
+            $rendering::write(text, states, nodes, work, output).number
         }
     };
 }
@@ -36,11 +43,15 @@ const CALLS: [&[Call]; 2] = [
     &[call!(plain check), call!(fast check), call!(cuecheck check)],
     &[call!(plain replay), call!(fast replay), call!(cuecheck replay)],
 ];
+#[cfg(feature = "linked")]
+const WRITES: &[Call] = &[call!(plain write), call!(fast write), call!(cuecheck write), call!(cuecheck check)];
 
 #[cfg(not(feature = "linked"))]
 const RENDERINGS: &[&str] = &["plain", "fast"];
 #[cfg(not(feature = "linked"))]
 const CALLS: [&[Call]; 2] = [&[call!(plain check), call!(fast check)], &[call!(plain replay), call!(fast replay)]];
+#[cfg(not(feature = "linked"))]
+const WRITES: &[Call] = &[call!(plain write), call!(fast write), call!(fast check)];
 
 const LINKED: bool = cfg!(feature = "linked");
 const RATIO: &str = "; ratio is linked / the faster of plain and fast";
@@ -53,10 +64,45 @@ fn main() {
     println!("{:<20}{:>6} {:>6} | {:<width$} | replay", "", "", "", "check", width = columns.len());
     println!("{:<20}{:>6} {:>6} | {columns} | {columns}", "case", "bytes", "answer");
     for (name, text) in cases().into_iter().filter(|(name, _)| name.starts_with(&wanted)) {
-        let answer = CALLS[0][0](&text, &mut Lists::default()).number;
+        let answer = CALLS[0][0](&text, &mut Lists::default());
         let [checks, replays] = CALLS.map(|calls| row(&medians(&text, calls, rounds)));
         println!("{name:<20}{:>6} {answer:>6} | {checks} | {replays}", text.len());
     }
+    println!();
+    println!(
+        "{:<28}{:>6} {:>6} | {:<width$} | check, and what writing is of it",
+        "",
+        "",
+        "",
+        "write",
+        width = columns.len()
+    );
+    println!(
+        "{:<28}{:>6} {:>6} | {columns} | {:>9}{:>7}",
+        "case",
+        "bytes",
+        "answer",
+        RENDERINGS[RENDERINGS.len() - 1],
+        "ratio"
+    );
+    for (name, text) in cases_to_write().into_iter().filter(|(name, _)| name.starts_with(&wanted)) {
+        let answer = WRITES[0](&text, &mut Lists::with_output());
+        let times = medians(&text, WRITES, rounds);
+        let [writes @ .., check] = &times[..] else { unreachable!("a time for each call") };
+        let ratio = writes[writes.len() - 1] / check;
+        println!("{name:<28}{:>6} {answer:>6} | {} | {check:>9.1}{ratio:>7.2}", text.len(), row(writes));
+    }
+}
+
+fn cases_to_write() -> Vec<(&'static str, Vec<u8>)> {
+    vec![
+        ("four nodes", extremes::four_nodes().text()),
+        ("1000 cues, ordered", extremes::typical(1_000, 1_000, Weave::Ordered).text()),
+        ("64 methods of 64, tidy", tangles::sixty_four(Standing::Tidy).text()),
+        ("64 methods of 64, reversed", tangles::sixty_four(Standing::Reversed).text()),
+        ("64 methods of 64, shuffled", tangles::sixty_four(Standing::Shuffled).text()),
+        ("32000 fields", extremes::fields_32000().text()),
+    ]
 }
 
 fn cases() -> Vec<(&'static str, Vec<u8>)> {
@@ -96,7 +142,7 @@ fn row(medians: &[f64]) -> String {
 
 /// The median of each side. Rounds alternate, so that all sides meet the same weather.
 fn medians(text: &[u8], calls: &[Call], rounds: usize) -> Vec<f64> {
-    let mut lists = Lists::default();
+    let mut lists = Lists::with_output();
     let mut taken = vec![Vec::new(); calls.len()];
     for _ in 0..rounds {
         for (call, times) in calls.iter().zip(&mut taken) {

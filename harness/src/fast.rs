@@ -1,22 +1,24 @@
-//! Document 01, with Card 1 of document 02, once more, written for speed: the replay and check calls.
+//! Document 01, with Cards 1 and 2 of document 02, once more, written for speed: the replay, check and write calls.
 //!
 //! One pass over the text fills tables on the stack and, for the check call, the lent records (`reading`); the plan is
 //! run into the lent states (`run`); the walk goes over the records once (`walking`), the constraints a second time
-//! (`constraints`). Spans of subtasks and columns of bits are kept in the lent work space. Nothing is allocated, and
+//! (`constraints`); the write call copies what is in order and sorts the rest (`writing`). Spans of subtasks and columns of bits are kept in the lent work space. Nothing is allocated, and
 //! nothing is cleared but the lent lists. A call needs 400 KiB of stack, or 96 KiB for a text of at most 4,096 bytes.
 
 mod case;
 mod constraints;
 mod reading;
 mod walking;
+mod writing;
 
 use crate::plain::{NODES_ASKED, STATES_ASKED, TEXT_LIMIT, WORK_ASKED};
 use case::{with_tables, Case};
 use constraints::{first_broken, COLUMNS};
-use cuecheck::Accepted;
-pub use cuecheck::{Node, Refusal, Reply, Set};
+use cuecheck::{Accepted, Tidied};
+pub use cuecheck::{Node, Refusal, Reply, Set, Written};
 use reading::read;
 use walking::walk;
+use writing::put_out;
 
 type Checked<T> = Result<T, Refusal>;
 
@@ -28,22 +30,54 @@ fn refuse<T>(number: u32, line: usize, item: usize) -> Checked<T> {
 /// The check call: reads, runs, walks, and tries every constraint.
 pub fn check(text: &[u8], states: &mut [u64], nodes: &mut [Node], work: &mut [u32]) -> Reply {
     let short = [states.len() < STATES_ASKED, nodes.len() < NODES_ASKED, work.len() < WORK_ASKED];
-    let checked = within_limits(text, short).and_then(|()| {
+    let checked = within_limits(text, short)
+        .and_then(|()| with_tables(text.len(), |case| check_with(text, case, states, nodes, work)));
+    clear(checked.ok(), states, nodes, work);
+    reply(checked)
+}
+
+/// The write call: the check call's part, then the tidy text, or number 14.
+pub fn write(text: &[u8], states: &mut [u64], nodes: &mut [Node], work: &mut [u32], output: &mut [u8]) -> Written {
+    let short = [states.len() < STATES_ASKED, nodes.len() < NODES_ASKED, work.len() < WORK_ASKED];
+    let written = within_limits(text, short).and_then(|()| {
         with_tables(text.len(), |case| {
-            let accepted = read(text, case, nodes)?;
-            let rows = run(case, states)?;
-            let nodes = &mut nodes[..accepted.nodes as usize];
-            let (columns, spans) = work.split_at_mut(COLUMNS);
-            walk(case, nodes, spans)?;
-            first_broken(case, rows, nodes, spans, columns)?;
-            Ok(accepted)
+            let Accepted { cues, nodes } = check_with(text, case, states, nodes, work)?;
+            let length = put_out(text, case, output)? as u32;
+            Ok(Tidied { cues, nodes, length })
         })
     });
-    let (rows, records) = checked.map_or((0, 0), |it| (it.cues as usize + 1, it.nodes as usize));
+    clear(written.ok().map(|it| Accepted { cues: it.cues, nodes: it.nodes }), states, nodes, work);
+    output[written.map_or(0, |it| it.length as usize)..].fill(0);
+    match written {
+        Ok(Tidied { cues, nodes, length }) => Written { number: 0, line: 0, item: 0, cues, nodes, length },
+        Err(Refusal { number, line, item }) => Written { number, line, item, cues: 0, nodes: 0, length: 0 },
+    }
+}
+
+/// Everything of the check call behind number 2 but the zeroing.
+#[inline(always)]
+fn check_with(
+    text: &[u8],
+    case: &mut Case,
+    states: &mut [u64],
+    nodes: &mut [Node],
+    work: &mut [u32],
+) -> Checked<Accepted> {
+    let accepted = read(text, case, nodes)?;
+    let rows = run(case, states)?;
+    let nodes = &mut nodes[..accepted.nodes as usize];
+    let (columns, spans) = work.split_at_mut(COLUMNS);
+    walk(case, nodes, spans)?;
+    first_broken(case, rows, nodes, spans, columns)?;
+    Ok(accepted)
+}
+
+/// Clears what an acceptance, or a refusal, doesn't fill.
+fn clear(accepted: Option<Accepted>, states: &mut [u64], nodes: &mut [Node], work: &mut [u32]) {
+    let (rows, records) = accepted.map_or((0, 0), |it| (it.cues as usize + 1, it.nodes as usize));
     states[4 * rows..].fill(0);
     nodes[records..].fill(Node::default());
     work.fill(0);
-    reply(checked)
 }
 
 /// The replay call: reads and runs only.

@@ -5,11 +5,13 @@
 //! preconditions true in those states, and last the constraints that hold (or, now and then,
 //! one that doesn't), above all those that a slightly wrong reading of 01 would take otherwise.
 //! Then the draft or its text may be damaged (`damage`). Long stretches for betweens (`dents`) and
-//! texts at the size limits (`extremes`) are built by hand.
+//! texts at the size limits (`extremes`) are built by hand. For the write call constraints are put
+//! out of order and repeated (`tangles`).
 
 pub mod damage;
 mod dents;
 pub mod extremes;
+pub mod tangles;
 
 use std::io::Write;
 
@@ -64,7 +66,7 @@ impl Rng {
 // ---------------------------------------------------------------- drafts
 
 /// A proposition that is asked to be true (B, F, W) or false (b, f, w).
-#[derive(Clone, Copy, Debug)]
+#[derive(Clone, Copy, Debug, PartialEq)]
 pub struct Signed {
     pub proposition: u32,
     pub positive: bool,
@@ -91,7 +93,7 @@ impl Signed {
     }
 }
 
-#[derive(Clone, Debug)]
+#[derive(Clone, Debug, PartialEq)]
 pub enum Constraint {
     Order(u32, u32),
     Before(Signed, u32),
@@ -602,6 +604,11 @@ fn draw_size(rng: &mut Rng) -> Size {
 /// A random case that is readable and, unless a constraint is meant to fail, accepted.
 pub fn sound(rng: &mut Rng) -> Draft {
     let size = draw_size(rng);
+    sound_of(rng, size)
+}
+
+/// A random case of this size.
+fn sound_of(rng: &mut Rng, size: Size) -> Draft {
     let mut draft = draw_methods(rng, &size);
     let mut tree = grow_within(rng, &draft, size.nodes);
     let weave = *rng.pick(&[Weave::Ordered, Weave::Woven, Weave::Woven, Weave::Shuffled]);
@@ -692,12 +699,13 @@ fn grow_within(rng: &mut Rng, draft: &Draft, nodes: usize) -> Tree {
 pub struct Inputs {
     seed: u64,
     extremes: Vec<Vec<u8>>,
+    tangled: Vec<Vec<u8>>,
 }
 
 impl Inputs {
     pub fn new(seed: u64) -> Inputs {
-        let extremes = extremes::all().into_iter().map(|(_, text)| text).collect();
-        Inputs { seed, extremes }
+        let texts = |cases: Vec<(_, Vec<u8>)>| cases.into_iter().map(|(_, text)| text).collect();
+        Inputs { seed, extremes: texts(extremes::all()), tangled: texts(tangles::all()) }
     }
 
     /// The numbers that belong to one input, for its text and for whatever is done with it.
@@ -730,6 +738,28 @@ impl Inputs {
                 for _ in 0..rng.between(1, 2) {
                     damage::text(rng, &mut text);
                 }
+                text
+            }
+        }
+    }
+}
+
+impl Inputs {
+    /// A text for the write call: most are accepted.
+    pub fn text_to_write(&self, rng: &mut Rng) -> Vec<u8> {
+        match rng.below(1_000) {
+            0..=5 => rng.pick(&self.tangled).clone(),
+            6..=249 => self.text(rng),
+            250..=599 => tangles::tangled(rng).text(),
+            600..=899 => tangles::piled(rng).text(),
+            900..=949 => {
+                let mut draft = tangles::tangled(rng);
+                damage::draft(rng, &mut draft);
+                draft.text()
+            }
+            _ => {
+                let mut text = tangles::piled(rng).text();
+                damage::text(rng, &mut text);
                 text
             }
         }

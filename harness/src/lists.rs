@@ -1,7 +1,7 @@
 //! Lent lists for the calls: any length, any dirt, and margins that show a write outside.
 
 use crate::gen::Rng;
-use crate::plain::{Node, NODES_ASKED, STATES_ASKED, WORK_ASKED};
+use crate::plain::{Node, NODES_ASKED, STATES_ASKED, TEXT_LIMIT, WORK_ASKED};
 
 /// How long the lent lists are.
 #[derive(Clone, Copy, Debug)]
@@ -27,6 +27,21 @@ impl Lengths {
     }
 }
 
+/// The longest output lent to the write call.
+pub const OUTPUT: usize = TEXT_LIMIT + 1_000;
+
+/// The length of an output for a text of so many bytes: just enough or nearly so, none, short or long.
+pub fn draw_output(rng: &mut Rng, needed: usize) -> usize {
+    let length = match rng.below(8) {
+        0 => 0,
+        1..=4 => (needed + rng.below(5)).saturating_sub(2),
+        5 => rng.below(needed + 1),
+        6 => needed + rng.between(3, 300),
+        _ => rng.between(needed.min(OUTPUT), OUTPUT),
+    };
+    length.min(OUTPUT)
+}
+
 /// What lies behind a lent list at the least.
 const MARGIN: usize = 64;
 
@@ -35,6 +50,7 @@ pub struct Lists {
     states: Vec<u64>,
     nodes: Vec<Node>,
     work: Vec<u32>,
+    output: Vec<u8>,
 }
 
 impl Default for Lists {
@@ -43,6 +59,7 @@ impl Default for Lists {
             states: vec![0; STATES_ASKED + MARGIN],
             nodes: vec![Node::default(); NODES_ASKED + MARGIN],
             work: vec![0; WORK_ASKED + MARGIN],
+            output: Vec::new(),
         }
     }
 }
@@ -74,6 +91,11 @@ impl Dirt {
 }
 
 impl Lists {
+    /// Lists with an output, for the write call.
+    pub fn with_output() -> Lists {
+        Lists { output: vec![0; OUTPUT + MARGIN], ..Lists::default() }
+    }
+
     /// Fills every list with dirt, margins too.
     pub fn soil(&mut self, dirt: Dirt) {
         for (i, state) in self.states.iter_mut().enumerate() {
@@ -86,10 +108,23 @@ impl Lists {
         for (i, number) in self.work.iter_mut().enumerate() {
             *number = dirt.at(i);
         }
+        for (i, byte) in self.output.iter_mut().enumerate() {
+            *byte = dirt.at(i) as u8;
+        }
     }
 
     pub fn lend(&mut self, lengths: Lengths) -> (&mut [u64], &mut [Node], &mut [u32]) {
         (&mut self.states[..lengths.states], &mut self.nodes[..lengths.nodes], &mut self.work[..lengths.work])
+    }
+
+    /// The lists and an output of this length.
+    pub fn lend_all(&mut self, lengths: Lengths, output: usize) -> (&mut [u64], &mut [Node], &mut [u32], &mut [u8]) {
+        let Lists { states, nodes, work, output: bytes } = self;
+        (&mut states[..lengths.states], &mut nodes[..lengths.nodes], &mut work[..lengths.work], &mut bytes[..output])
+    }
+
+    pub fn output(&self) -> &[u8] {
+        &self.output
     }
 
     pub fn states(&self) -> &[u64] {
@@ -105,6 +140,7 @@ impl Lists {
         differing("states", &self.states, &other.states)
             .or_else(|| differing("nodes", &self.nodes, &other.nodes))
             .or_else(|| differing("work", &self.work, &other.work))
+            .or_else(|| differing("output", &self.output, &other.output))
     }
 }
 

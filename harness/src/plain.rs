@@ -1,11 +1,12 @@
-//! Document 01, with Card 1 of document 02, as a plain Rust program: the step, replay and check calls.
+//! Document 01, with Cards 1 and 2 of document 02, as a plain Rust program: the step, replay, check and write calls.
 //!
 //! The text is read once into vectors (`read`), the plan is run into the lent state list
 //! (`run`), the claimed tree is walked (`Walk`), and the constraints are tried node by node
-//! (`first_broken`). Replay stops after `run`. Nothing here is proved; the module is the
+//! (`first_broken`). Replay stops after `run`. The write call goes over the lines of a text that
+//! the check call accepted (`tidy`). Nothing here is proved; the module is the
 //! yardstick of tests and benchmarks, so it is written for clarity first and speed second.
 
-pub use cuecheck::{Node, Refusal, Reply, Set};
+pub use cuecheck::{Node, Refusal, Reply, Set, Written};
 use std::ops::{Range, RangeBounds};
 
 pub const STATES_ASKED: usize = 4_004;
@@ -62,6 +63,24 @@ pub fn replay(text: &[u8], states: &mut [u64], work: &mut [u32]) -> Reply {
             refused(refusal)
         }
     }
+}
+
+/// The write call: the check call, then the tidy text put out, or number 14.
+pub fn write(text: &[u8], states: &mut [u64], nodes: &mut [Node], work: &mut [u32], output: &mut [u8]) -> Written {
+    let Reply { number, line, item, cues, nodes: count } = check(text, states, nodes, work);
+    output.fill(0);
+    if number != 0 {
+        return Written { number, line, item, cues: 0, nodes: 0, length: 0 };
+    }
+    let tidy = tidy(text);
+    let length = tidy.len() as u32;
+    if output.len() < tidy.len() {
+        states.fill(0);
+        nodes.fill(Node::default());
+        return Written { number: 14, line: 0, item: length, cues: 0, nodes: 0, length: 0 };
+    }
+    output[..tidy.len()].copy_from_slice(&tidy);
+    Written { number: 0, line: 0, item: 0, cues, nodes: count, length }
 }
 
 /// Everything of the replay call but the zeroing: numbers 1 to 5.
@@ -673,4 +692,40 @@ impl Scene<'_> {
         // The AND of one word over the whole range, without a branch for each state.
         asked.is_in(self.rows[states].iter().fold(u64::MAX, |bits, state| bits & asked.word(state)))
     }
+}
+
+// ---------------------------------------------------------------- writing
+
+/// The letters of constraint lines, in the order in which they are put out.
+const IN_ORDER: &[u8] = b"OBbFfWw";
+
+/// An accepted text with each method's constraints in order, without repeats, and c following.
+fn tidy(text: &[u8]) -> Vec<u8> {
+    let mut tidy = Vec::with_capacity(text.len());
+    let mut lines = text.split_inclusive(|&byte| byte == b'\n').peekable();
+    while let Some(line) = lines.next() {
+        if line[0] != b'M' {
+            tidy.extend_from_slice(line);
+            continue;
+        }
+        let mut constraints = Vec::new();
+        while let Some(constraint) = lines.next_if(|line| IN_ORDER.contains(&line[0])) {
+            constraints.push(constraint);
+        }
+        constraints.sort_by_cached_key(|line| place_of(line));
+        // A number is written in one way only: equal constraints are equal lines, and stand side by side now.
+        constraints.dedup();
+        let c = line.iter().rposition(|&byte| byte == b',').expect("the last field of an M line") + 1;
+        tidy.extend_from_slice(&line[..c]);
+        tidy.extend_from_slice(format!("{}\n", constraints.len()).as_bytes());
+        tidy.extend(constraints.concat());
+    }
+    tidy
+}
+
+/// What a constraint line is sorted by: the place of its letter, then its fields as numbers.
+fn place_of(line: &[u8]) -> (usize, Vec<u32>) {
+    let letter = IN_ORDER.iter().position(|&letter| letter == line[0]).expect("a constraint's letter");
+    let fields = std::str::from_utf8(&line[1..]).expect("an accepted line").trim_end().split(',').skip(1);
+    (letter, fields.map(|field| field.parse().expect("a plain number")).collect())
 }

@@ -1,11 +1,14 @@
 #!/usr/bin/env python3
-"""Document 01, with Card 1 of document 02, rendered a second time, as naively as it can be said,
-to cross-check plain.rs.
+"""Document 01, with Cards 1 and 2 of document 02, rendered a second time, as naively as it can be
+said, to cross-check plain.rs.
 
 Sets of ints, fractions for half indexes, the text cut at line feeds and commas, a tree of
 objects. It shares no code and no data layout with the Rust rendering.
 
     naive.py cases FOLDER     every .case of the folder against its .expect
+    naive.py cards FOLDER     the folders of a card's cases (call, case, expect, expect.output):
+                              those that call check or write
+    naive.py stored FOLDER    the stored cases of the write call (args, data, stdout)
     naive.py dump FILE        every record that the program `dump` wrote (texts with the plain
                               rendering's answers and lists)
 """
@@ -324,6 +327,40 @@ def call(text, states_len, nodes_len, work_len, whole):
         return refused.answer, [], []
 
 
+def write(text, states_len, nodes_len, work_len, output_len):
+    """The write call: answer, states and nodes, flat, and the whole output."""
+    answer, states, records = call(text, states_len, nodes_len, work_len, True)
+    if answer[0] != 0:
+        return answer + (0,), [], [], bytes(output_len)
+    put_out = tidy(text)
+    if len(put_out) > output_len:
+        return (14, 0, len(put_out), 0, 0, 0), [], [], bytes(output_len)
+    return answer + (len(put_out),), states, records, put_out + bytes(output_len - len(put_out))
+
+
+def tidy(text):
+    """An accepted text, its constraint lines taken as many as each M line says, as numbers, and put
+    out anew, the least of those left after the other."""
+    lines = text.decode().split("\n")[:-1]
+    done = []
+    while lines:
+        line = lines.pop(0)
+        if line[0] != "M":
+            done.append(line)
+            continue
+        *head, c = line.split(",")
+        left = set()
+        for _ in range(int(c)):
+            letter, *fields = lines.pop(0).split(",")
+            left.add(("O B b F f W w".split().index(letter), tuple(int(field) for field in fields)))
+        done.append(",".join(head + [str(len(left))]))
+        while left:
+            least = min(left)
+            left.remove(least)
+            done.append(",".join(["OBbFfWw"[least[0]]] + [str(number) for number in least[1]]))
+    return "".join(line + "\n" for line in done).encode()
+
+
 def trimmed(numbers):
     """Without the zeros at the end."""
     while numbers and numbers[-1] == 0:
@@ -332,7 +369,8 @@ def trimmed(numbers):
 
 
 def printed(answer):
-    return f"Y,{answer[3]},{answer[4]}\n" if answer[0] == 0 else "R,%d,%d,%d\n" % answer[:3]
+    """As the programs print it; an accepted write call with its length."""
+    return "Y," + ",".join(map(str, answer[3:])) + "\n" if answer[0] == 0 else "R,%d,%d,%d\n" % answer[:3]
 
 
 # ------------------------------------------------------------------ comparing
@@ -349,6 +387,54 @@ def compare_cases(folder):
             print(f"{case.name}: {answer!r}, expected {expected!r}")
     print(f"{len(cases)} cases, {differing} differences")
     return differing
+
+
+def compare_cards(folder):
+    """Answer, output, states and records of each case."""
+    count = differing = 0
+    for case in sorted(Path(folder).glob("*/call")):
+        words = dict(line.split(" ", 1) for line in case.read_text().splitlines() if line[0] != "#")
+        lengths = [int(words.get(name, asked)) for name, asked in (("states", 4004), ("nodes", 3000), ("work", 16384))]
+        text = case.with_name("case").read_bytes()
+        if words["call"] == "write":
+            answer, states, records, output = write(text, *lengths, int(words["output"]))
+        elif words["call"] == "check":
+            (answer, states, records), output = call(text, *lengths, True), b""
+        else:
+            continue
+        count += 1
+        told = printed(answer)
+        for name, numbers, size in (("S", states, 4), ("T", records, 5)):
+            for i in range(0, len(numbers), size):
+                told += ",".join([name, str(i // size)] + [str(n) for n in trimmed(numbers[i : i + size])]) + "\n"
+        put_out = case.with_name("expect.output")
+        expected = put_out.read_bytes() if put_out.exists() else b""
+        if told != case.with_name("expect").read_text() or output != expected + bytes(len(output) - len(expected)):
+            differing += 1
+            print(f"{case.parent.name}: {told!r}")
+    print(f"{count} cases, {differing} differences")
+    return differing
+
+
+def compare_stored(folder):
+    """Five words to a case: its file, the bytes of the output, the lengths of the three lists."""
+    folder = Path(folder)
+    words = (folder / "args").read_text().split()
+    told = (folder / "stdout").read_bytes()
+    count = differing = 0
+    for i in range(0, len(words), 5):
+        name, output_len, *lengths = words[i : i + 5]
+        text = (folder / "data" / name).read_bytes()
+        answer, _, _, output = write(text, *map(int, lengths), int(output_len))
+        due = (" ".join(words[i : i + 5]) + " " + printed(answer)).encode() + output[: answer[5]]
+        count += 1
+        if not told.startswith(due):
+            differing += 1
+            print(f"{name}: {due[:200]!r}")
+            break
+        told = told[len(due) :]
+    print(f"{count} cases, {differing} differences, {len(told)} bytes over")
+    return differing + len(told)
 
 
 class Dump:
@@ -370,13 +456,16 @@ class Dump:
             lengths = self.numbers("I", 3)
             check = tuple(self.numbers("I", 5)), self.list("Q"), self.list("I"), self.list("I")
             replay = tuple(self.numbers("I", 5)), self.list("Q"), [], self.list("I")
-            yield text, lengths, check, replay
+            output = self.numbers("I", 1)[0]
+            written = tuple(self.numbers("I", 6)), self.list("Q"), self.list("I"), self.list("I"), bytes(self.list("B"))
+            yield text, lengths, check, replay, output, written
 
 
 def compare_dump(path):
     count = differing = 0
     numbers = {}
-    for text, lengths, check, replay in Dump(path).records():
+    writes = {}
+    for text, lengths, check, replay, output_len, written in Dump(path).records():
         for name, plain, whole in (("check", check, True), ("replay", replay, False)):
             answer, states, records = call(text, *lengths, whole)
             naive = answer, trimmed(states), trimmed(records), []
@@ -387,12 +476,20 @@ def compare_dump(path):
                     print(text[:2000])
             if whole:
                 numbers[answer[0]] = numbers.get(answer[0], 0) + 1
+        answer, states, records, output = write(text, *lengths, output_len)
+        if (answer, trimmed(states), trimmed(records), [], output) != written:
+            differing += 1
+            if differing <= 10:
+                print(f"input {count}, write, lengths {lengths}, {output_len}: naive {answer}, plain {written[0]}")
+                print(text[:2000])
+        writes[answer[0]] = writes.get(answer[0], 0) + 1
         count += 1
     print("check answers by number:", dict(sorted(numbers.items())))
+    print("write answers by number:", dict(sorted(writes.items())))
     print(f"{count} inputs, {differing} differences")
     return differing
 
 
 if __name__ == "__main__":
     kind, path = sys.argv[1:]
-    sys.exit(1 if {"cases": compare_cases, "dump": compare_dump}[kind](path) else 0)
+    sys.exit(1 if {"cases": compare_cases, "cards": compare_cards, "stored": compare_stored, "dump": compare_dump}[kind](path) else 0)

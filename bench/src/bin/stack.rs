@@ -10,8 +10,9 @@ const PAINT: u8 = 0xA5;
 /// What is left unpainted below the frame, and counted as touched.
 const GAP: usize = 512;
 
-/// A tree of so many levels, each task but the last with 32 subtasks: 31 empty ones and the next level, first or last.
-fn levels(count: usize, deep_last: bool) -> String {
+/// A tree of so many levels, each task but the last with 32 subtasks: 31 empty ones and the next level, first or last. Their method has so many
+/// constraints, out of order.
+fn levels(count: usize, deep_last: bool, constraints: usize) -> String {
     let others = ",1".repeat(31);
     let subtasks = if deep_last { format!("{others},0") } else { format!(",0{others}") };
     let empties = "E,1,0\n".repeat(31);
@@ -20,7 +21,8 @@ fn levels(count: usize, deep_last: bool) -> String {
         nodes = if deep_last { format!("D,0\n{empties}{nodes}") } else { format!("D,0\n{nodes}{empties}") };
     }
     let n = nodes.lines().count();
-    format!("N,0,0,2,3,0,0,{n}\nI,0\nM,0,32{subtasks},0\nM,1,0,0\nM,0,0,0\nP\n{nodes}")
+    let lines: String = (0..constraints).rev().map(|p| format!("b,{p},0\n")).collect();
+    format!("N,{constraints},0,2,3,0,0,{n}\nI,0\nM,0,32{subtasks},{constraints}\n{lines}M,1,0,0\nM,0,0,0\nP\n{nodes}")
 }
 
 /// Paints the stack below this frame, calls, and counts from the lowest byte that lost its paint.
@@ -37,27 +39,32 @@ fn touched(call: &mut dyn FnMut()) -> usize {
     PAINTED - kept + GAP
 }
 
-fn measured(text: String) -> (u32, usize, usize) {
+fn measured(text: String) -> (u32, usize, usize, usize) {
     let run = move || {
         let (mut states, mut nodes, mut work) = (vec![0; STATES], vec![Node::default(); NODES], vec![0; WORK]);
         let mut number = 0;
-        let check = touched(&mut || number = cuecheck::check(text.as_bytes(), &mut states, &mut nodes, &mut work).number);
+        let check =
+            touched(&mut || number = cuecheck::check(text.as_bytes(), &mut states, &mut nodes, &mut work).number);
         let replay = touched(&mut || _ = cuecheck::replay(text.as_bytes(), &mut states, &mut work));
-        (number, check, replay)
+        let mut output = vec![0; text.len()];
+        let write =
+            touched(&mut || _ = cuecheck::write(text.as_bytes(), &mut states, &mut nodes, &mut work, &mut output));
+        (number, check, replay, write)
     };
     std::thread::Builder::new().stack_size(8 * PAINTED).spawn(run).expect("a thread").join().expect("a measure")
 }
 
 fn main() {
-    println!("{:<34}{:>8}{:>10}{:>10}", "case", "answer", "check", "replay");
+    println!("{:<34}{:>8}{:>10}{:>10}{:>10}", "case", "answer", "check", "replay", "write");
     let cases = [
-        ("64 levels, the deep one first", levels(64, false)),
-        ("64 levels, the deep one last", levels(64, true)),
-        ("65 levels, the deep one last", levels(65, true)),
-        ("2 levels", levels(2, true)),
+        ("64 levels, the deep one first", levels(64, false, 0)),
+        ("64 levels, the deep one last", levels(64, true, 0)),
+        ("64 levels, 64 constraints", levels(64, true, 64)),
+        ("65 levels, the deep one last", levels(65, true, 0)),
+        ("2 levels", levels(2, true, 0)),
     ];
     for (name, text) in cases {
-        let (number, check, replay) = measured(text);
-        println!("{name:<34}{number:>8}{check:>10}{replay:>10}");
+        let (number, check, replay, write) = measured(text);
+        println!("{name:<34}{number:>8}{check:>10}{replay:>10}{write:>10}");
     }
 }

@@ -43,6 +43,26 @@ pub struct Accepted {
     pub nodes: u32,
 }
 
+/// What the write call answers: number 0 with k, n and the length of the text put out, or a row of the table in README.md with all three 0.
+#[repr(C)]
+#[derive(Clone, Copy, Debug, PartialEq, Eq)]
+pub struct Written {
+    pub number: u32,
+    pub line: u32,
+    pub item: u32,
+    pub cues: u32,
+    pub nodes: u32,
+    pub length: u32,
+}
+
+/// k, n and the length of the text put out, in bytes.
+#[derive(Clone, Copy, Debug, PartialEq, Eq)]
+pub struct Tidied {
+    pub cues: u32,
+    pub nodes: u32,
+    pub length: u32,
+}
+
 /// A row of the table in README.md.
 #[derive(Clone, Copy, Debug, PartialEq, Eq)]
 pub struct Refusal {
@@ -60,7 +80,16 @@ impl Reply {
     }
 }
 
+impl Written {
+    pub fn result(self) -> Result<Tidied, Refusal> {
+        match self.number {
+            0 => Ok(Tidied { cues: self.cues, nodes: self.nodes, length: self.length }),
+            number => Err(Refusal { number, line: self.line, item: self.item }),
+        }
+    }
+}
+
 #[cfg(feature = "linked")]
 mod linked;
 #[cfg(feature = "linked")]
-pub use linked::{check, replay, step};
+pub use linked::{check, replay, step, write};

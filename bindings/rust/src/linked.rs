@@ -1,6 +1,6 @@
 //! The calls. This is the only file with unsafe code: each passes a slice's own pointer and length, which is what the declarations ask for.
 
-use crate::{Node, Reply, Set};
+use crate::{Node, Reply, Set, Written};
 
 // Not bundled into this crate: a new archive only needs the programs to be linked again.
 #[link(name = "capi", kind = "static", modifiers = "-bundle")]
@@ -23,6 +23,18 @@ extern "C" {
         work: *mut u32,
         work_len: usize,
     ) -> Reply;
+    fn cuecheck_write(
+        text: *const u8,
+        text_len: usize,
+        states: *mut u64,
+        states_len: usize,
+        nodes: *mut Node,
+        nodes_len: usize,
+        work: *mut u32,
+        work_len: usize,
+        output: *mut u8,
+        output_len: usize,
+    ) -> Written;
     fn cuecheck_step(
         state: *mut Set,
         needed: *const Set,
@@ -55,6 +67,26 @@ pub fn replay(text: &[u8], states: &mut [u64], work: &mut [u32]) -> Reply {
     // SAFETY: as in `check`.
     unsafe {
         cuecheck_replay(text.as_ptr(), text.len(), states.as_mut_ptr(), states.len(), work.as_mut_ptr(), work.len())
+    }
+}
+
+/// Judges a case and, accepted, puts it out with each method's constraints in order, without repeats, and zero after. The lists as for
+/// `check`. Refused, `output` is zero; an output that is too short is the last thing refused, number 14, and its item is the bytes needed.
+pub fn write(text: &[u8], states: &mut [u64], nodes: &mut [Node], work: &mut [u32], output: &mut [u8]) -> Written {
+    // SAFETY: as in `check`.
+    unsafe {
+        cuecheck_write(
+            text.as_ptr(),
+            text.len(),
+            states.as_mut_ptr(),
+            states.len(),
+            nodes.as_mut_ptr(),
+            nodes.len(),
+            work.as_mut_ptr(),
+            work.len(),
+            output.as_mut_ptr(),
+            output.len(),
+        )
     }
 }
 

@@ -4,10 +4,15 @@ use Prim.Native.Nat.{ℕ}
 use Rattle.rules.specs.State.{State}
 use Rattle.rules.specs.Verdict.{Report}
 use Rattle.capi.specs.declared.Reply.{Reply}
+use Rattle.capi.specs.declared.Written.{Written}
 
 -- The report that a reply is: the same five numbers.
 abbrev pub reportOf : Reply → Report
 reportOf r = record { number = r .number; line = r .line; item = r .item; cues = r .cues; nodes = r .nodes }
+
+-- The same of what the write call returns.
+abbrev pub writtenReport : Written → Report
+writtenReport r = record { number = r .number; line = r .line; item = r .item; cues = r .cues; nodes = r .nodes }
 
 -- A step's answer as a number, 1 for yes, beside the state.
 abbrev pub stepReply : Bool × State → ℕ × State

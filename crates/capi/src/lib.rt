@@ -2,11 +2,14 @@
 use rules::Answer;
 use rules::Node;
 use state::State;
+use writer::Wrote;
 ghost use mathlib.Core.Path.{_≡_};
+ghost use lib.ListN.{length};
 ghost use Rattle.rules.specs.State.{step};
 ghost use Rattle.rules.specs.Verdict.{refusal, reported};
 ghost use Rattle.rules.specs.Demands.{borrowed, lentBy, Demand1, Demand2, Demand3, ReplayDemand1};
-ghost use Rattle.capi.specs.Replies.{reportOf, stepReply};
+ghost use Rattle.rules.specs.Writing.{WriteDemand1, WriteAnswers, WriterLaws};
+ghost use Rattle.capi.specs.Replies.{reportOf, writtenReport, stepReply};
 
 // The answer's row of the table: number, line and item, 0 for acceptance; k and n of an acceptance, 0 for a refusal.
 #[repr(C)]
@@ -55,6 +58,7 @@ pub fn as_reply(answer: Answer) -> Reply
         Answer::BeforeBroken { line, constraint } => refusal(11, line, constraint),
         Answer::AfterBroken { line, constraint } => refusal(12, line, constraint),
         Answer::BetweenBroken { line, constraint } => refusal(13, line, constraint),
+        Answer::ShortOutput { needed } => refusal(14, 0, needed),
     }
 }
 
@@ -79,6 +83,61 @@ pub extern "C" fn cuecheck_replay(text: &[u8], states: &mut [u64], work: &mut [u
     ensures { λ r. ⌜ ReplayDemand1 (now (text .entry)) (now (states .entry)) (now (work .entry)) (reportOf r) (now (states .exit)) (now (work .exit)) ⌝ }
 {
     as_reply(replay::replay(text, states, work))
+}
+
+// The answer's row of the table, as in a reply, and the length of the text that was put out, 0 for a refusal.
+#[repr(C)]
+pub struct Written {
+    pub number: u32,
+    pub line: u32,
+    pub item: u32,
+    pub cues: u32,
+    pub nodes: u32,
+    pub length: u32,
+}
+
+// How many records the write call comes with.
+fn records_of(w: Wrote) -> usize
+    ensures { λ r. ⌜ r ≡ reported (w .answer) .nodes ⌝ }
+{
+    let answer = w.answer;
+    verdict::count_of(answer)
+}
+
+// The numbers of what the write call answers.
+fn as_written(w: Wrote) -> Written
+    ensures { λ r. ⌜ (writtenReport r ≡ reported (w .answer)) × (r .length ≡ w .length) ⌝ }
+{
+    let answer = w.answer;
+    let reply = as_reply(answer);
+    Written {
+        number: reply.number,
+        line: reply.line,
+        item: reply.item,
+        cues: reply.cues,
+        nodes: reply.nodes,
+        length: w.length,
+    }
+}
+
+// The write call (02, Card 2).
+#[no_mangle]
+pub extern "C" fn cuecheck_write(
+    text: &[u8],
+    states: &mut [u64],
+    nodes: &mut [Node],
+    work: &mut [u32],
+    output: &mut [u8],
+) -> Written
+    ensures demand1 { λ r. ⌜ WriteDemand1 (now (text .entry)) (borrowed (now (states .entry)) (now (nodes .entry)) (now (work .entry))) (now (output .entry)) (writtenReport r) (r .length) (borrowed (now (states .exit)) (now (nodes .exit)) (now (work .exit))) (now (output .exit)) ⌝ }
+    ensures answers { λ r. ⌜ WriteAnswers (now (text .entry)) (lentBy (borrowed (now (states .entry)) (now (nodes .entry)) (now (work .entry)))) (length (now (output .entry))) (writtenReport r) ⌝ }
+    ensures laws { λ _. ⌜ WriterLaws ⌝ }
+{
+    let room = nodes.len();
+    let wrote = writer::write(text, states, work, room, output);
+    verdict::fill(nodes, work, records_of(wrote));
+    rows::clear_work(work);
+    as_written(wrote)
 }
 
 // The step call: 1 and the next state in the place of the state; or 0, and the state as it came.

@@ -1,3 +1,4 @@
+pub mod Tags
 pub mod Verdicts
 pub mod Frames
 pub mod Phases

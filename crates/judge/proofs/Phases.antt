@@ -9,9 +9,11 @@ use Rattle.rules.specs.declared.Header.{Header}
 use Rattle.rules.specs.declared.Answer.{Answer}
 use Rattle.rules.specs.Result.{Result, found, refused}
 use Rattle.rules.specs.Case.{Case, readCase}
+use Rattle.rules.specs.Fields.{fieldsOf}
 use Rattle.rules.specs.Tree.{Tree, mayClaim, walkTree, leastUnclaimed}
 use Rattle.rules.specs.Verdict.{Found, stateNeed, workNeed, textMost, statesOf, filled, statesAfter}
 use Rattle.rules.proofs.Judgement.Sound.{Sound, sound}
+use Rattle.fields.specs.Standing.{Stands}
 use Rattle.fields.specs.Directory.{Finds, directorySize}
 use Rattle.reading.specs.Whole.{ReadsAs}
 use Rattle.reading.specs.declared.CaseRead.{CaseRead}
@@ -56,11 +58,13 @@ answers-as {g = g} {m = m} {r = r} {states = states} {work = work} e size x =
 module _ (text fields work : List ℕ) {r : CaseRead} (as-read : ReadsAs (readCase text) r fields work) where
   pub read-opens : (h : Header) (l i p ns : ℕ) → r ≡ CaseIs h l i p ns → length text ≤ textMost → workNeed ≤ length work
       → (k : Case) × (readCase text ≡ found k) × Opens k fields (record { header = h; «plan_line» = l; plan = p; nodes = ns }) i work
+      × Stands fields 0 (fieldsOf k)
   read-opens h l i p ns e short room = go (readCase text) refl as-read
     where
       go : (x : Result Case) → readCase text ≡ x → ReadsAs x r fields work
           → (k : Case) × (readCase text ≡ found k) × Opens k fields (record { header = h; «plan_line» = l; plan = p; nodes = ns }) i work
-      go (found k) q (initial, plan, nodes, answer, _, finds) =
+          × Stands fields 0 (fieldsOf k)
+      go (found k) q (initial, plan, nodes, answer, stands, finds) =
           let same : CaseIs h l i p ns ≡ CaseIs (k .head) (k .planLine) initial plan nodes = sym e ∙ answer in
           let head : h ≡ k .head = cc in
           let line : l ≡ k .planLine = cc in
@@ -78,6 +82,7 @@ module _ (text fields work : List ℕ) {r : CaseRead} (as-read : ReadsAs (readCa
                   (subst (λ (n : ℕ). Finds k fields work n plan nodes) first finds));
               workRoom = room;
             },
+            stands,
           )
       go (refused b) q w = let z : _≡_ {A = ℕ} 0 1 = cc in absurd (omega arith)
 

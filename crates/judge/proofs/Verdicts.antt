@@ -1,5 +1,5 @@
 -- The verdict row by row: what the rows up to here have answered settles it, or leaves it to the rows after. Assumes nothing.
-use mathlib.Core.Path.{_≡_, ap, _∙_}
+use mathlib.Core.Path.{_≡_, ap, _∙_, subst}
 use mathlib.Core.Bool.{Bool, true, false}
 use mathlib.Core.List.{List}
 use mathlib.Core.Option.{Option, none, some}
@@ -12,9 +12,15 @@ use Rattle.rules.specs.declared.Answer.the-variants.{ShortList, LongText, Inapp
 use Rattle.rules.specs.State.{firstStop}
 use Rattle.rules.specs.Result.{Result, found, refused, _>>=_, _>>_}
 use Rattle.rules.specs.Case.{Case, readCase}
+use Rattle.rules.specs.Fields.{fieldsOf}
 use Rattle.rules.specs.Tree.{Tree, preorder, mayClaim, walkTree, leastUnclaimed}
 use Rattle.rules.specs.Constraint.{holdsIn, firstBroken}
 use Rattle.rules.specs.Verdict.{Found, stateNeed, nodeNeed, workNeed, checkLists, unless, statesOf, planRuns, allClaimed, noneBroken, textMost, check}
+use Rattle.fields.specs.Standing.{Stands}
+use Rattle.fields.specs.Directory.{IsRead}
+use Rattle.judge.specs.declared.Admission.{Admission}
+use Rattle.judge.specs.declared.Admission.the-variants.{Passed, Refused}
+use Rattle.judge.specs.Phases.{FieldsHeld, Admits}
 use Rattle.rules.proofs.Judgement.Rows.{fromConstraints, fromClaims, fromTree, fromRun, fromText}
 
 -- ---- Rows 6 to 13
@@ -107,3 +113,32 @@ module _ (states nodes work : ℕ) (text : List ℕ) where
 
   pub lists-long : stateNeed ≤ states → nodeNeed ≤ nodes → workNeed ≤ work → check (checkLists states nodes work) text ≡ fromText fromTree text
   lists-long s n w = lists-are (found tt) (λ j. shortOf (le-ltb states stateNeed s j) (le-ltb nodes nodeNeed n j) (le-ltb work workNeed w j))
+
+-- ---- Rows 1 and 2
+
+module _ (states nodes work : ℕ) (text : List ℕ) {r : Admission} (said : Admits states nodes work text r) where
+  pub admit-passes : r ≡ Passed → Admits states nodes work text Passed
+  admit-passes e = subst (Admits states nodes work text) e said
+
+  pub admit-refuses : (a : Answer) → r ≡ Refused a → check (checkLists states nodes work) text ≡ refused a
+  admit-refuses a e = subst (Admits states nodes work text) e said
+
+-- ---- The fields
+
+-- Whatever the rows after reading answer, a case that they accept is the one that was read.
+pub fields-held : (k : Case) (fields : List ℕ) → IsRead k → Stands fields 0 (fieldsOf k) → FieldsHeld (fromRun fromTree k) fields
+unfolding FieldsHeld fromRun fromTree
+fields-held k fields r s = go (planRuns k) (walkTree k (mayClaim (k .plan)))
+  where
+    last : (t : Tree) (o : Result (Unit {0})) → FieldsHeld (o >> found (k, t)) fields
+    last t (found u) = (r, s)
+    last t (refused a) = tt
+
+    claims : (t : Tree) (o : Result (Unit {0})) → FieldsHeld (o >> fromConstraints k t) fields
+    claims t (found u) = last t (noneBroken k t)
+    claims t (refused a) = tt
+
+    go : (o : Result (Unit {0})) (w : Result (Tree × List ℕ)) → FieldsHeld (o >> onTree k w) fields
+    go (found u) (found (t, claimed)) = claims t (allClaimed k claimed)
+    go (found u) (refused a) = tt
+    go (refused a) w = tt

@@ -6,20 +6,34 @@ use Prim.Native.Nat.{ℕ, _*_, _≤_}
 use lib.ListN.{length, take, replicate}
 use Rattle.rules.specs.declared.Answer.{Answer}
 use Rattle.rules.specs.State.{firstStop}
-use Rattle.rules.specs.Result.{found}
+use Rattle.rules.specs.Result.{found, refused}
 use Rattle.rules.specs.Case.{Case}
 use Rattle.rules.specs.Tree.{Tree, mayClaim, walkTree, leastUnclaimed}
-use Rattle.rules.specs.Verdict.{Found, stateNeed, workNeed, textMost, statesOf, filled, answerOf, statesAfter}
+use Rattle.rules.specs.Fields.{fieldsOf}
+use Rattle.rules.specs.Verdict.{Found, stateNeed, nodeNeed, workNeed, textMost, checkLists, check, statesOf, filled, answerOf, statesAfter}
+use Rattle.fields.specs.Standing.{Stands}
 use Rattle.fields.specs.Directory.{IsRead, Finds}
 use Rattle.tree.specs.Layout.{size, rows, marksOf, marksIn, rowsIn}
 use Rattle.records.specs.Records.{RecordsHeld}
 use Rattle.judge.specs.declared.Opened.{Opened}
+use Rattle.judge.specs.declared.Admission.{Admission}
+use Rattle.judge.specs.declared.Admission.the-variants.{Passed, Refused}
 
 -- What a verdict answers, and leaves in a state list of a size and in the work space: the records of an accepted tree as columns.
 pub record Answers (f : Found Tree) (size : ℕ) (r : Answer) (states work : List ℕ) : Type 0 where
   pub answer : r ≡ answerOf f
   pub statesHeld : states ≡ statesAfter size f
   pub recordsHeld : RecordsHeld f work
+
+-- The fields of a case that is accepted.
+unfoldable pub FieldsHeld : Found Tree → List ℕ → Type 0
+FieldsHeld (found (k, t)) fields = IsRead k × Stands fields 0 (fieldsOf k)
+FieldsHeld (refused r) fields = Unit {0}
+
+-- What rows 1 and 2 say of lists of these lengths and of a text: both are passed; or they refuse it.
+abbrev pub Admits : ℕ → ℕ → ℕ → List ℕ → Admission → Type 0
+Admits states nodes work text Passed = (stateNeed ≤ states) × (nodeNeed ≤ nodes) × (workNeed ≤ work) × (length text ≤ textMost)
+Admits states nodes work text (Refused r) = check (checkLists states nodes work) text ≡ refused r
 
 -- Rows 1 and 2 are passed, and the state list is zero.
 pub record Cleared (text states work : List ℕ) : Type 0 where

@@ -8,7 +8,7 @@ ghost use Rattle.rules.specs.Verdict.{check, checkLists, answerOf, statesAfter}
 ghost use Rattle.rules.proofs.Judgement.Rows.{fromText, fromRun, fromTree};
 ghost use Rattle.records.specs.Records.{RecordsHeld};
 ghost use Rattle.fields.specs.Directory.{Roomy};
-ghost use Rattle.judge.specs.Phases.{Answers, Cleared, HasRead, Ran as HasRun, Walked, Claimed};
+ghost use Rattle.judge.specs.Phases.{Answers, FieldsHeld, Cleared, Admits, HasRead, Ran as HasRun, Walked, Claimed};
 use columns::BUILT;
 use columns::COLUMNS;
 use constraints::Kept;
@@ -137,10 +137,12 @@ fn judge_run(
     }
 }
 
-// Rows 3 and 4, with lists that are long enough and a text that is not too long; then the rest. Refused, the state list is still zero.
-fn judge_text(text: &[u8], states: &mut [u64], work: &mut [u32], fields: &mut [u32]) -> Answer
+// Rows 3 and 4, with lists that are long enough and a text that is not too long; then the rest. Refused, the state list is still zero; the
+// fields of an accepted case are left to the caller.
+pub fn judge_text(text: &[u8], states: &mut [u64], work: &mut [u32], fields: &mut [u32]) -> Answer
     requires { ⌜ Cleared (now text) (now states) (now work) × Roomy (now text) (now fields) ⌝ }
-    ensures { λ r. ⌜ Answers (fromText fromTree (now (text .entry))) (length (now (states .entry))) r (now (states .exit)) (now (work .exit)) ⌝ }
+    ensures answers { λ r. ⌜ Answers (fromText fromTree (now (text .entry))) (length (now (states .entry))) r (now (states .exit)) (now (work .exit)) ⌝ }
+    ensures fields { λ r. ⌜ FieldsHeld (fromText fromTree (now (text .entry))) (now (fields .exit)) ⌝ }
 {
     match reading::read_case(text, fields, work) {
         CaseRead::Case {
@@ -190,24 +192,48 @@ fn judge_lent(text: &[u8], states: &mut [u64], work: &mut [u32]) -> Answer
     judge_any(text, states, work)
 }
 
-// All rows: "1 state, 2 node, 3 work; first such", the text's length, and the rest. The state list is zero before anything is checked.
+// What rows 1 and 2 say: nothing is wrong, or what is.
+pub enum Admission {
+    Passed,
+    Refused { answer: Answer },
+}
+
+// Rows 1 and 2: "1 state, 2 node, 3 work; first such", and the text's length.
+pub fn admit(text: &[u8], state_room: usize, node_room: usize, work_room: usize) -> Admission
+    ensures { λ r. ⌜ Admits «state_room» «node_room» «work_room» (now (text .entry)) r ⌝ }
+{
+    if state_room < STATES * WORDS {
+        return Admission::Refused {
+            answer: Answer::ShortList { list: 1 },
+        };
+    }
+    if node_room < NODES {
+        return Admission::Refused {
+            answer: Answer::ShortList { list: 2 },
+        };
+    }
+    if work_room < WORK {
+        return Admission::Refused {
+            answer: Answer::ShortList { list: 3 },
+        };
+    }
+    if TEXT < text.len() {
+        return Admission::Refused {
+            answer: Answer::LongText,
+        };
+    }
+    Admission::Passed
+}
+
+// All rows. The state list is zero before anything is checked.
 pub fn judge(text: &[u8], states: &mut [u64], work: &mut [u32], node_room: usize) -> Answer
     ensures { λ r. ⌜ r ≡ answerOf (check (checkLists (length (now (states .entry))) «node_room» (length (now (work .entry)))) (now (text .entry))) ⌝ }
     ensures { λ r. ⌜ now (states .exit) ≡ statesAfter (length (now (states .entry))) (check (checkLists (length (now (states .entry))) «node_room» (length (now (work .entry)))) (now (text .entry))) ⌝ }
     ensures { λ r. ⌜ RecordsHeld (check (checkLists (length (now (states .entry))) «node_room» (length (now (work .entry)))) (now (text .entry))) (now (work .exit)) ⌝ }
 {
     rows::clear(states);
-    if states.len() < STATES * WORDS {
-        return Answer::ShortList { list: 1 };
+    match admit(text, states.len(), node_room, work.len()) {
+        Admission::Passed => judge_lent(text, states, work),
+        Admission::Refused { answer } => answer,
     }
-    if node_room < NODES {
-        return Answer::ShortList { list: 2 };
-    }
-    if work.len() < WORK {
-        return Answer::ShortList { list: 3 };
-    }
-    if TEXT < text.len() {
-        return Answer::LongText;
-    }
-    judge_lent(text, states, work)
 }

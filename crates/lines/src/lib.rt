@@ -11,3 +11,4 @@ pub use line::Finish;
 pub use line::Role;
 pub use line::read_line;
 pub use range::KNOWN;
+pub use table::shape;

@@ -232,7 +232,7 @@ fn methods(
 }
 
 // The numbers of an N line that was read, by their names: they follow its letter.
-fn header_of(fields: &[u32]) -> Header
+pub fn header_of(fields: &[u32]) -> Header
     requires { ⌜ 8 ≤ length (now fields) ⌝ }
     ensures { λ r. ⌜ r ≡ headerIn (drop 1 (now (fields .entry))) ⌝ }
 {

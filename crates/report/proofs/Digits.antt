@@ -8,7 +8,7 @@ use native.Mathlib.Omega.{arith}
 use borrow.Author.Tests.{lt-ltb, le-ltb}
 use lib.Dec.{ltb}
 use lib.ListN.{length, drop}
-use Rattle.rules.specs.Line.{decimalIn, decimal}
+use Rattle.rules.specs.Text.{decimalIn, decimal}
 use Rattle.report.specs.Put.{Put}
 
 -- The digits come before what they are put in front of.

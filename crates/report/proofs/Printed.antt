@@ -5,7 +5,8 @@ use mathlib.Core.List.{List, [], _∷_}
 use Prim.Native.Nat.{ℕ}
 use borrow.Author.Tests.{eq-eqb, ne-eqb}
 use Rattle.rules.specs.Verdict.{Report}
-use Rattle.rules.specs.Line.{decimal, fields, printedReport}
+use Rattle.rules.specs.Text.{decimal}
+use Rattle.rules.specs.Line.{fields, printedReport}
 
 module _ (x : Report) where
   abbrev accepted : List ℕ

@@ -4,7 +4,8 @@ ghost use mathlib.Core.Path.{_≡_};
 ghost use mathlib.Core.List.{[], _∷_};
 ghost use Prim.Native.Nat.{_≤_, _<_};
 ghost use lib.ListN.{length, drop};
-ghost use Rattle.rules.specs.Line.{decimal, printedReport};
+ghost use Rattle.rules.specs.Line.{printedReport};
+ghost use Rattle.rules.specs.Text.{decimal};
 ghost use Rattle.report.specs.Put.{Put};
 
 // The longest line: a letter, three commas with ten digits each, and the line feed.

@@ -14,6 +14,10 @@ pub mod Reports
 pub mod Faults
 -- Demand 2: the verdict against the declarative rules.
 pub mod Judgement
+-- Card 2: a case as text and the text as a case, each from the other.
+pub mod Printing
 -- Demand 3: the rules against the rewritings of the goal task.
 pub mod Rewritings
 pub mod Demands
+-- The promises of the write call: the order, and what is written.
+pub mod Writing

@@ -6,7 +6,7 @@ use mathlib.Core.List.{List, [], _∷_}
 use Prim.Native.Nat.{ℕ}
 use lib.Dec.{eqb}
 use Rattle.rules.specs.declared.Answer.{Answer}
-use Rattle.rules.specs.declared.Answer.the-variants.{Accepted, ShortList, LongText, Unreadable, OutOfRange, Inapplicable, WrongNode, TooDeep, WrongClaim, Unclaimed, OrderBroken, BeforeBroken, AfterBroken, BetweenBroken}
+use Rattle.rules.specs.declared.Answer.the-variants.{Accepted, ShortList, LongText, Unreadable, OutOfRange, Inapplicable, WrongNode, TooDeep, WrongClaim, Unclaimed, OrderBroken, BeforeBroken, AfterBroken, BetweenBroken, ShortOutput}
 use Rattle.rules.specs.Verdict.{Report, reported}
 
 -- "No.", and the answer that has it.
@@ -26,6 +26,7 @@ numbers r =
     ∷ (11, BeforeBroken (r .line) (r .item))
     ∷ (12, AfterBroken (r .line) (r .item))
     ∷ (13, BetweenBroken (r .line) (r .item))
+    ∷ (14, ShortOutput (r .item))
     ∷ []
 
 abbrev numbered : ℕ → List (ℕ × Answer) → Answer
@@ -51,6 +52,7 @@ answered-reported (OrderBroken l i) = refl
 answered-reported (BeforeBroken l i) = refl
 answered-reported (AfterBroken l i) = refl
 answered-reported (BetweenBroken l i) = refl
+answered-reported (ShortOutput i) = refl
 
 pub reported-one : (a b : Answer) → reported a ≡ reported b → a ≡ b
 reported-one a b e = sym (answered-reported a) ∙ ap answered e ∙ answered-reported b

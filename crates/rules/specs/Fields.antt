@@ -3,7 +3,7 @@
 use mathlib.Core.Bool.{true, false}
 use mathlib.Core.List.{List, [], _∷_, _++_, map, flatten}
 use mathlib.Core.Option.{Option, none, some}
-use Prim.Native.Nat.{ℕ, zero, suc, _*_}
+use Prim.Native.Nat.{ℕ, zero, suc, _+_, _*_}
 use Prim.Native.Char.{Char, code}
 use lib.ListN.{length}
 use Rattle.rules.specs.declared.Header.{Header}
@@ -108,3 +108,7 @@ linesOf k =
 
 unfoldable pub fieldsOf : Case → List ℕ
 fieldsOf k = linesFields (linesOf k)
+
+-- The number of the P line: it comes after the header, the initial line, the actions' lines and the methods'.
+unfoldable pub planLineOf : List Action → List Method → ℕ
+planLineOf actions methods = 3 + length actions + length (flatten (map methodLines methods))

@@ -7,6 +7,7 @@ pub mod Text
 pub mod Table
 pub mod Case
 pub mod Fields
+pub mod Print
 pub mod Tree
 pub mod Constraint
 pub mod Verdict
@@ -14,9 +15,12 @@ pub mod Verdict
 pub mod Rules
 pub mod Faults
 pub mod Refusals
+pub mod Ranges
 pub mod Rewriting
 -- What the calls promise.
 pub mod Demands
+-- The calls that the cards add, each in a file of its own.
+pub mod Writing
 -- The program's line, and 01's ten panel cases.
 pub mod Line
 pub mod Panel

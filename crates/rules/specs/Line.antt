@@ -1,20 +1,12 @@
 -- The line that the program `cuecheck` prints (01, "The check and replay calls"). Assumes nothing.
 use mathlib.Core.Bool.{true, false}
 use mathlib.Core.List.{List, [], _∷_, _++_}
-use Prim.Native.Nat.{ℕ, zero, suc, _+_, _/_, _%_}
+use Prim.Native.Nat.{ℕ}
 use Prim.Native.Char.{code}
-use lib.Dec.{eqb, ltb}
+use lib.Dec.{eqb}
 use Rattle.rules.specs.declared.Answer.{Answer}
+use Rattle.rules.specs.Text.{decimal}
 use Rattle.rules.specs.Verdict.{Report, reported}
-
-abbrev pub decimalIn : ℕ → ℕ → List ℕ → List ℕ
-decimalIn zero n rest = rest
-decimalIn (suc digits) n rest =
-    elim (ltb n 10) [ true ↦ (code "0" + n) ∷ rest | false ↦ decimalIn digits (n / 10) ((code "0" + n % 10) ∷ rest) ]
-
--- A 32-bit number in base ten has at most ten digits.
-unfoldable pub decimal : ℕ → List ℕ
-decimal n = decimalIn 10 n []
 
 abbrev pub fields : List (List ℕ) → List ℕ
 fields [] = code "\n" ∷ []
@@ -29,5 +21,5 @@ printedReport r =
       | false ↦ fields ((code "R" ∷ []) ∷ decimal (r .number) ∷ decimal (r .line) ∷ decimal (r .item) ∷ [])
     ]
 
-unfoldable pub printed : Answer → List ℕ
-printed r = printedReport (reported r)
+unfoldable pub printedAnswer : Answer → List ℕ
+printedAnswer r = printedReport (reported r)

@@ -1,7 +1,8 @@
--- The ten panel cases (01, "Panel cases"): text and answer of each, in one table under one lemma; and beside them cases of Card 1 of 02.
+-- The ten panel cases (01, "Panel cases"): text and answer of each, in one table under one lemma; and beside them cases of Cards 1
+-- and 2 of 02.
 -- Assumes nothing.
 use mathlib.Core.Path.{_≡_, refl}
-use mathlib.Core.List.{List, [], _∷_, _++_, map}
+use mathlib.Core.List.{List, [], _∷_, _++_, map, flatten}
 use Prim.Native.Nat.{ℕ}
 use Prim.Native.Char.{code}
 use Prim.Native.String.{String}
@@ -13,12 +14,16 @@ use Rattle.rules.specs.Case as Ca
 use Rattle.rules.specs.Tree as Tr
 use Rattle.rules.specs.Constraint as Co
 use Rattle.rules.specs.Verdict as Ve
+use Rattle.rules.specs.Fields as Fi
+use Rattle.rules.specs.Print as Pr
+use Rattle.rules.specs.Writing as Wr
 use Rattle.rules.specs.Line as Li
 use Rattle.rules.specs.Index.{Span}
 use Rattle.rules.specs.Tree.{Tree, preorder, span}
 use Rattle.rules.specs.Result.{found as seen, refused}
 use Rattle.rules.specs.Verdict.{Found, check, checkLists, answerOf}
-use Rattle.rules.specs.Line.{printed}
+use Rattle.rules.specs.Writing.{written, write}
+use Rattle.rules.specs.Line.{printedAnswer}
 
 -- The bytes of a text of characters below 128.
 abbrev pub bytes : String → List ℕ
@@ -85,6 +90,41 @@ signedTable =
     ∷ panelWith "M,3,3,4,1,2,4" ("o,0,2" ∷ []) "R,3,10,1"
     ∷ []
 
+-- Card 2: panel case a with other constraints in the panel's method.
+abbrev panelOf : String → List String → List String
+panelOf method constraints =
+    "N,3,3,2,3,3,2,4" ∷ "I,1,0" ∷ "A,0,1,0,1,0,0" ∷ "A,0,0,1,1,0" ∷ "A,1,1,0,1,2,1,1" ∷ method
+    ∷ constraints ++ ("M,4,1,0,0" ∷ "M,4,0,1" ∷ "B,0,0" ∷ "P,1,2" ∷ "D,0" ∷ "E,2,0" ∷ "L,1,1" ∷ "L,2,2" ∷ [])
+
+abbrev mixed : List String
+mixed =
+    "w,1,2,4" ∷ "W,4,2,1" ∷ "W,1,0,4" ∷ "f,2,2" ∷ "F,1,2" ∷ "b,2,2" ∷ "b,1,2" ∷ "B,0,4"
+    ∷ "B,0,2" ∷ "O,1,2" ∷ "W,1,0,4" ∷ "O,0,2" ∷ []
+
+abbrev inOrder : List String
+inOrder =
+    "O,0,2" ∷ "O,1,2" ∷ "B,0,2" ∷ "B,0,4" ∷ "b,1,2" ∷ "b,2,2" ∷ "F,1,2" ∷ "f,2,2"
+    ∷ "W,1,0,4" ∷ "W,4,2,1" ∷ "w,1,2,4" ∷ []
+
+-- A text, the length of the output lent, the answer, and what is put out.
+pub record Written : Type 0 where
+  pub lines : List String
+  pub room : ℕ
+  pub answer : String
+  pub tidy : List String
+
+abbrev writes : List String → ℕ → String → List String → Written
+writes lines room answer tidy = record { lines = lines; room = room; answer = answer; tidy = tidy }
+
+-- Sorted, with one duplicate less; what was written, again; one byte too few; a case that the check refuses.
+abbrev pub writtenTable : List Written
+writtenTable =
+    writes (panelOf "M,3,3,4,1,2,12" mixed) 203 "Y,2,4" (panelOf "M,3,3,4,1,2,11" inOrder)
+    ∷ writes (panelOf "M,3,3,4,1,2,11" inOrder) 400 "Y,2,4" (panelOf "M,3,3,4,1,2,11" inOrder)
+    ∷ writes (panelOf "M,3,3,4,1,2,12" mixed) 202 "R,14,0,203" []
+    ∷ writes (panelOf "M,3,3,4,1,2,2" ("W,1,1,4" ∷ "O,2,0" ∷ [])) 0 "R,13,13,0" []
+    ∷ []
+
 -- With lists as long as 01 asks.
 abbrev checked : Panel → Found Tree
 checked p = check (checkLists 4004 3000 16384) (textOf (p .lines))
@@ -98,9 +138,22 @@ doubled s e = record { start = s; end = e }
 
 -- What is printed for each case of a table is its answer.
 abbrev Answered : List Panel → Type 0
-Answered cases = map (λ p. printed (answerOf (checked p))) cases ≡ map (λ p. textOf (p .answer ∷ [])) cases
+Answered cases = map (λ p. printedAnswer (answerOf (checked p))) cases ≡ map (λ p. textOf (p .answer ∷ [])) cases
 
--- Each case is answered as 01 prints it; "a. [..] doubled spans 1-4, 1-1, 2-2, 4-4"; and as Card 1 has it.
-pub answers : Answered table × (spansOf (checked caseA) ≡ doubled 1 4 ∷ doubled 1 1 ∷ doubled 2 2 ∷ doubled 4 4 ∷ []) × Answered signedTable
-unfolding St.wordCount St.bit St.member St.noPropositions St.insert St.without St.appliesWord St.applies St.nextWord St.next St.noAction St.actionAt St.states St.stateAt St.firstStop Ix.ofCue Ix.ofGap Ix.at Ix.least Ix.greatest Ix.hull Ix.partOf Ix.only Ix.pick Ix.spanOfPart Ix.roundedUp Ix.roundedDown Ix.c Ix.f Ix.isBefore Tx.isFeed Tx.isComma Tx.isDigit Tx.endsField Tx.isPlain Tx.numberAt Tx.letterAt Tx.endingAt Tx.feedFollows Tb.table Tb.rowOf Tb.roleNumber Tb.isCompound Tb.inRange Tb.readList Tb.readItem Tb.readLine Ca.noMethod Ca.methodAt Ca.scalarAt Ca.membersAt Ca.setAt Ca.headerOf Ca.initialOf Ca.actionOf Ca.signOf Ca.constraintOf Ca.asConstraint Ca.planOf Ca.nodeOf Ca.asNode Ca.oneLine Ca.oneMethod Ca.noSurplus Ca.readBody Ca.noHeader Ca.readFrom Ca.readCase Tr.preorder Tr.preorders Tr.rootLine Tr.span Tr.spans Tr.subtaskSpans Tr.noSubtasks Tr.isMethodOf Tr.fits Tr.isIn Tr.mayClaim Tr.walkNode Tr.levelCount Tr.walkTree Co.signed Co.holdsIn Co.holdsFrom Co.keeps Co.constraintsOf Co.partsOf Co.brokenAt Co.firstBroken Ve.reported Ve.stateNeed Ve.nodeNeed Ve.workNeed Ve.checkLists Ve.statesOf Ve.planRuns Ve.allClaimed Ve.noneBroken Ve.textMost Ve.check Li.decimal Li.printed
-answers = (refl, refl, refl)
+-- What the write call answers and puts out.
+abbrev wrote : Written → Found Tree
+wrote w = write (checkLists 4004 3000 16384) (w .room) (textOf (w .lines))
+
+abbrev putOut : Found Tree → List ℕ
+putOut (seen (k, t)) = written k
+putOut (refused r) = []
+
+abbrev Puts : List Written → Type 0
+Puts cases =
+    (map (λ w. printedAnswer (answerOf (wrote w))) cases ≡ map (λ w. textOf (w .answer ∷ [])) cases)
+    × (map (λ w. putOut (wrote w)) cases ≡ map (λ w. textOf (w .tidy)) cases)
+
+-- Each case is answered as 01 prints it; "a. [..] doubled spans 1-4, 1-1, 2-2, 4-4"; and as Cards 1 and 2 have it.
+pub answers : Answered table × (spansOf (checked caseA) ≡ doubled 1 4 ∷ doubled 1 1 ∷ doubled 2 2 ∷ doubled 4 4 ∷ []) × Answered signedTable × Puts writtenTable
+unfolding St.wordCount St.bit St.member St.noPropositions St.insert St.without St.appliesWord St.applies St.nextWord St.next St.noAction St.actionAt St.states St.stateAt St.firstStop Ix.ofCue Ix.ofGap Ix.at Ix.least Ix.greatest Ix.hull Ix.partOf Ix.only Ix.pick Ix.spanOfPart Ix.roundedUp Ix.roundedDown Ix.c Ix.f Ix.isBefore Tx.isFeed Tx.isComma Tx.isDigit Tx.endsField Tx.isPlain Tx.numberAt Tx.letterAt Tx.endingAt Tx.feedFollows Tb.table Tb.rowOf Tb.roleNumber Tb.isCompound Tb.inRange Tb.readList Tb.readItem Tb.readLine Ca.noMethod Ca.methodAt Ca.scalarAt Ca.membersAt Ca.setAt Ca.headerOf Ca.initialOf Ca.actionOf Ca.signOf Ca.constraintOf Ca.asConstraint Ca.planOf Ca.nodeOf Ca.asNode Ca.oneLine Ca.oneMethod Ca.noSurplus Ca.readBody Ca.noHeader Ca.readFrom Ca.readCase Tr.preorder Tr.preorders Tr.rootLine Tr.span Tr.spans Tr.subtaskSpans Tr.noSubtasks Tr.isMethodOf Tr.fits Tr.isIn Tr.mayClaim Tr.walkNode Tr.levelCount Tr.walkTree Co.signed Co.holdsIn Co.holdsFrom Co.keeps Co.constraintsOf Co.partsOf Co.brokenAt Co.firstBroken Ve.reported Ve.stateNeed Ve.nodeNeed Ve.workNeed Ve.checkLists Ve.statesOf Ve.planRuns Ve.allClaimed Ve.noneBroken Ve.textMost Ve.check Tx.decimal Li.printedAnswer Fi.lineFields Fi.propositionsOf Fi.headerLine Fi.initialLine Fi.actionLine Fi.constraintLine Fi.methodLines Fi.cuesLine Fi.nodeLine Fi.linesOf Fi.planLineOf Pr.lineText Pr.printed Wr.rank Wr.sortKey Wr.precedes Wr.sorted Wr.tidiedMethod Wr.tidied Wr.written Wr.outputLong Wr.write flatten
+answers = (refl, refl, refl, (refl, refl))

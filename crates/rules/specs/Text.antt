@@ -2,9 +2,9 @@
 -- start; reading a field starts at the byte that ended the field before it. Assumes nothing.
 use mathlib.Core.Bool.{Bool, true, false, _&&_, _||_, not}
 use mathlib.Core.List.{List, [], _∷_}
-use Prim.Native.Nat.{ℕ, _+_, _-_, _*_}
+use Prim.Native.Nat.{ℕ, zero, suc, _+_, _-_, _*_, _/_, _%_}
 use Prim.Native.Char.{code}
-use lib.Dec.{eqb, leb}
+use lib.Dec.{eqb, leb, ltb}
 use lib.ListN.{length, drop}
 
 unfoldable pub isFeed : ℕ → Bool
@@ -42,6 +42,16 @@ valueOf v (b ∷ bs) = valueOf (v * 10 + (b - code "0")) bs
 
 unfoldable pub isPlain : List ℕ → Bool
 isPlain field = digitsOnly field && leb (valueOf 0 field) 4294967295
+
+-- The digits of a number, so many at most, before what follows them.
+abbrev pub decimalIn : ℕ → ℕ → List ℕ → List ℕ
+decimalIn zero n rest = rest
+decimalIn (suc digits) n rest =
+    elim (ltb n 10) [ true ↦ (code "0" + n) ∷ rest | false ↦ decimalIn digits (n / 10) ((code "0" + n % 10) ∷ rest) ]
+
+-- The plain number that stands for n: one of 32 bits has at most ten digits.
+unfoldable pub decimal : ℕ → List ℕ
+decimal n = decimalIn 10 n []
 
 -- What stands where a number is due: one, with the place of the byte that ends it; a field that is none; or no field at all.
 pub data Number : Type 0 where

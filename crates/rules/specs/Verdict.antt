@@ -6,7 +6,7 @@ use Prim.Native.Nat.{ℕ, _+_, _-_, _*_}
 use lib.Dec.{eqb, ltb}
 use lib.ListN.{length, replicate}
 use Rattle.rules.specs.declared.Answer.{Answer}
-use Rattle.rules.specs.declared.Answer.the-variants.{Accepted, ShortList, LongText, Unreadable, OutOfRange, Inapplicable, WrongNode, TooDeep, WrongClaim, Unclaimed, OrderBroken, BeforeBroken, AfterBroken, BetweenBroken}
+use Rattle.rules.specs.declared.Answer.the-variants.{Accepted, ShortList, LongText, Unreadable, OutOfRange, Inapplicable, WrongNode, TooDeep, WrongClaim, Unclaimed, OrderBroken, BeforeBroken, AfterBroken, BetweenBroken, ShortOutput}
 use Rattle.rules.specs.declared.Node.{Node}
 use Rattle.rules.specs.State.{State, wordCount, states, firstStop}
 use Rattle.rules.specs.Index.{Span}
@@ -43,6 +43,8 @@ reported (OrderBroken line constraint) = refusal 10 line constraint
 reported (BeforeBroken line constraint) = refusal 11 line constraint
 reported (AfterBroken line constraint) = refusal 12 line constraint
 reported (BetweenBroken line constraint) = refusal 13 line constraint
+-- "14, output shorter than needed, checked last, line 0, item the bytes needed" (02, Card 2)
+reported (ShortOutput needed) = refusal 14 0 needed
 
 -- ---- Row by row
 

@@ -37,6 +37,7 @@ pub enum Answer {
     BeforeBroken { line: u32, constraint: u32 },
     AfterBroken { line: u32, constraint: u32 },
     BetweenBroken { line: u32, constraint: u32 },
+    ShortOutput { needed: u32 },
 }
 
 // What a condition asks of a proposition in a state: that it be true, or that it be false (02, Card 1).

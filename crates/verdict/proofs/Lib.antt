@@ -7,5 +7,6 @@ pub mod Steps
 pub mod Zero
 pub mod Written
 pub mod Records
--- The call of `check`, for whoever makes it.
+-- The calls, for whoever makes them.
+pub mod Calls
 pub mod CheckCall

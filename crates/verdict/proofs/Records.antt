@@ -1,9 +1,10 @@
--- What `fill` makes of what the core leaves is the node list that the check call owes, for every text and for lists of every length.
+-- What `fill` makes of what a core leaves is the node list that the check and write calls owe, for every text and for lists of every length.
 -- Accepted: the columns hold the records, which all fit, since then no list was short, and a case has at most 3,000 nodes. Refused: no record
 -- is taken. Assumes nothing.
 --     no-records       only an acceptance comes with records
+--     Comes            only a case that the check accepts is found, and a refusal comes with no records: so it is with the check (`check-comes`)
 --     Fits             what `fill` asks: a node list of n has room for the records, and they all stand in the columns of a work space of w
---     records-fit      so it is with the records of an answer
+--     records-fit      so it is with the records of what comes
 --     records-filled   what the core leaves gives what `nodesAfter` says
 use mathlib.Core.Path.{_≡_, refl, sym, _∙_, ap, subst}
 use mathlib.Core.List.{List, List·Memᴰ·head as here, List·Memᴰ·tail as there}
@@ -11,7 +12,7 @@ use Prim.Native.Nat.{ℕ, _+_, _-_, _≤_, _<_}
 use native.Mathlib.Omega.{arith}
 use lib.ListN.{replicate}
 use Rattle.rules.specs.declared.Answer.{Answer}
-use Rattle.rules.specs.declared.Answer.the-variants.{Accepted, ShortList, LongText, Unreadable, OutOfRange, Inapplicable, WrongNode, TooDeep, WrongClaim, Unclaimed, OrderBroken, BeforeBroken, AfterBroken, BetweenBroken}
+use Rattle.rules.specs.declared.Answer.the-variants.{Accepted, ShortList, LongText, Unreadable, OutOfRange, Inapplicable, WrongNode, TooDeep, WrongClaim, Unclaimed, OrderBroken, BeforeBroken, AfterBroken, BetweenBroken, ShortOutput}
 use Rattle.rules.specs.Result.{found, refused}
 use Rattle.rules.specs.Case.{Case}
 use Rattle.rules.specs.Tree.{Tree}
@@ -39,10 +40,22 @@ no-records (OrderBroken l i) h = refl
 no-records (BeforeBroken l i) h = refl
 no-records (AfterBroken l i) h = refl
 no-records (BetweenBroken l i) h = refl
+no-records (ShortOutput i) h = refl
 
 refused-none : (s n w : ℕ) (text : List ℕ) (r : Answer) → CheckSays (checkLists s n w) text (refused r) → reported r .nodes ≡ 0
 unfolding reported
 refused-none s n w text r b = no-records r (λ cues nodes e. shows-not-zero b (ap (λ (a : Answer). reported a .number) e))
+
+abbrev pub Comes : ℕ → ℕ → ℕ → List ℕ → Found Tree → Type 0
+Comes s n w text (found (k, t)) = Accepts (checkLists s n w) text k t
+Comes s n w text (refused r) = reported r .nodes ≡ 0
+
+pub check-comes : (s n w : ℕ) (text : List ℕ) → Comes s n w text (check (checkLists s n w) text)
+check-comes s n w text = go (check (checkLists s n w) text) (check-says (checkLists s n w) text)
+  where
+    go : (f : Found Tree) → CheckSays (checkLists s n w) text f → Comes s n w text f
+    go (found (k, t)) a = a
+    go (refused r) b = refused-none s n w text r b
 
 abbrev pub Fits : ℕ → ℕ → ℕ → Type 0
 Fits n w count = (count ≤ n) × ((i : ℕ) → i < count → placesFrom + i < w)
@@ -57,23 +70,17 @@ accepted-fit s n w text k t a =
     let work-long : 16384 ≤ w = r .admits .lists-long (lent 3 w workNeed) (there (there (here refl))) in
     (omega arith, λ i below. omega arith)
 
-pub records-fit : (s n w : ℕ) (text : List ℕ) → Fits n w (reported (answerOf (check (checkLists s n w) text)) .nodes)
+pub records-fit : (s n w : ℕ) (text : List ℕ) (f : Found Tree) → Comes s n w text f → Fits n w (reported (answerOf f) .nodes)
 unfolding reported
-records-fit s n w text = go (check (checkLists s n w) text) (check-says (checkLists s n w) text)
-  where
-    go : (f : Found Tree) → CheckSays (checkLists s n w) text f → Fits n w (reported (answerOf f) .nodes)
-    go (found (k, t)) a = accepted-fit s n w text k t a
-    go (refused r) b = subst (Fits n w) (sym (refused-none s n w text r b)) (omega arith, λ i below. absurd (omega arith))
+records-fit s n w text (found (k, t)) a = accepted-fit s n w text k t a
+records-fit s n w text (refused r) none = subst (Fits n w) (sym none) (omega arith, λ i below. absurd (omega arith))
 
 -- ---- What the core leaves
 
-pub records-filled : (s n w : ℕ) (text work : List ℕ) → RecordsHeld (check (checkLists s n w) text) work
-    → filled n noNode (upTo (recordAt work) (reported (answerOf (check (checkLists s n w) text)) .nodes)) ≡ nodesAfter n (check (checkLists s n w) text)
+pub records-filled : (s n w : ℕ) (text work : List ℕ) (f : Found Tree) → Comes s n w text f → RecordsHeld f work
+    → filled n noNode (upTo (recordAt work) (reported (answerOf f) .nodes)) ≡ nodesAfter n f
 unfolding RecordsHeld recordOf nodesAfter reported filled
-records-filled s n w text work = go (check (checkLists s n w) text) (check-says (checkLists s n w) text)
-  where
-    go : (f : Found Tree) → CheckSays (checkLists s n w) text f → RecordsHeld f work → filled n noNode (upTo (recordAt work) (reported (answerOf f) .nodes)) ≡ nodesAfter n f
-    go (found (k, t)) a held = ap (filled n noNode) held
-    go (refused r) b held =
-        let all : n - 0 ≡ n = omega arith in
-        ap (λ (m : ℕ). filled n noNode (upTo (recordAt work) m)) (refused-none s n w text r b) ∙ ap (λ (m : ℕ). replicate m noNode) all
+records-filled s n w text work (found (k, t)) a held = ap (filled n noNode) held
+records-filled s n w text work (refused r) none held =
+    let all : n - 0 ≡ n = omega arith in
+    ap (λ (m : ℕ). filled n noNode (upTo (recordAt work) m)) none ∙ ap (λ (m : ℕ). replicate m noNode) all

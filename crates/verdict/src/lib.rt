@@ -49,7 +49,7 @@ fn clear_from(nodes: &mut [Node], count: usize)
 }
 
 // The node list: the records below the count, which all stand in the columns and all fit, then the rest. No element is stored to twice.
-fn fill(nodes: &mut [Node], work: &[u32], count: usize)
+pub fn fill(nodes: &mut [Node], work: &[u32], count: usize)
     requires { ⌜ (count ≤ length (now nodes)) × ((i : ℕ) → i < count → placesFrom + i < length (now work)) ⌝ }
     ensures { λ _. ⌜ now (nodes .exit) ≡ filled (length (now (nodes .entry))) noNode (upTo (recordAt (now (work .entry))) count) ⌝ }
 {
@@ -62,7 +62,7 @@ fn fill(nodes: &mut [Node], work: &[u32], count: usize)
 }
 
 // How many records an answer comes with: the n of an acceptance, none for a refusal.
-fn count_of(answer: Answer) -> usize
+pub fn count_of(answer: Answer) -> usize
     ensures { λ r. ⌜ r ≡ reported answer .nodes ⌝ }
 {
     let Answer::Accepted { nodes, .. } = answer else {

@@ -4,7 +4,7 @@
 #[path = "../../src/plain.rs"]
 mod plain;
 
-use plain::{Reply, Node};
+use plain::{Node, Reply, Written};
 use std::slice::{from_raw_parts, from_raw_parts_mut};
 
 /// # Safety
@@ -39,6 +39,29 @@ pub unsafe extern "C" fn cuecheck_check(
     let (text, states, work) =
         (from_raw_parts(text, text_len), from_raw_parts_mut(states, states_len), from_raw_parts_mut(work, work_len));
     spoiled(plain::check(text, states, from_raw_parts_mut(nodes, nodes_len), work), states, work)
+}
+
+/// # Safety
+/// Each pointer is valid for its length, and no two lists overlap.
+#[no_mangle]
+pub unsafe extern "C" fn cuecheck_write(
+    text: *const u8,
+    text_len: usize,
+    states: *mut u64,
+    states_len: usize,
+    nodes: *mut Node,
+    nodes_len: usize,
+    work: *mut u32,
+    work_len: usize,
+    output: *mut u8,
+    output_len: usize,
+) -> Written {
+    let (text, states, work) =
+        (from_raw_parts(text, text_len), from_raw_parts_mut(states, states_len), from_raw_parts_mut(work, work_len));
+    let (nodes, output) = (from_raw_parts_mut(nodes, nodes_len), from_raw_parts_mut(output, output_len));
+    let Written { number, line, item, cues, nodes, length } = plain::write(text, states, nodes, work, output);
+    let Reply { number, line, item, cues, nodes } = spoiled(Reply { number, line, item, cues, nodes }, states, work);
+    Written { number, line, item, cues, nodes, length }
 }
 
 /// The answer and the lists as they came, or with the bug that the features ask for.

@@ -2,8 +2,9 @@
 //!
 //! compare_plain COUNT SEED
 
-use harness::compare::{self, Call};
+use harness::compare::{self, Call, WriteCall};
 use harness::fast;
+use std::collections::BTreeMap;
 
 fn main() {
     let check: Call = |text, lists, lengths| {
@@ -16,8 +17,18 @@ fn main() {
     };
     for (name, plain, fast) in [("check", compare::PLAIN_CHECK, check), ("replay", compare::PLAIN_REPLAY, replay)] {
         println!("{name}");
-        for (number, times) in compare::run(plain, fast, "fast") {
-            println!("{number:>6}: {times:>8}");
-        }
+        show(compare::run(plain, fast, "fast"));
+    }
+    let write: WriteCall = |text, lists, lengths, output| {
+        let (states, nodes, work, output) = lists.lend_all(lengths, output);
+        fast::write(text, states, nodes, work, output)
+    };
+    println!("write");
+    show(compare::run_write(compare::PLAIN_WRITE, write, "fast"));
+}
+
+fn show(answers: BTreeMap<u32, u64>) {
+    for (number, times) in answers {
+        println!("{number:>6}: {times:>8}");
     }
 }

@@ -3,12 +3,13 @@
 //! dump COUNT SEED FILE
 //!
 //! A record, all numbers little-endian: the text, three list lengths, the check call's answer,
-//! states, nodes and work, the replay call's answer, states and work. A list is its count and
-//! its members; the zeros at the end of a lent list are left out.
+//! states, nodes and work, the replay call's answer, states and work, the length of an output, the
+//! write call's answer, states, nodes, work and output. A list is its count and its members; the
+//! zeros at the end of a lent list are left out, but not those of the output.
 
 use harness::gen::Inputs;
-use harness::lists::{Dirt, Lengths, Lists};
-use harness::plain::{check, replay, Reply, Node};
+use harness::lists::{draw_output, Dirt, Lengths, Lists, OUTPUT};
+use harness::plain::{check, replay, write, Node, Reply, Written};
 use std::io::{BufWriter, Result, Write};
 
 fn main() -> Result<()> {
@@ -19,10 +20,10 @@ fn main() -> Result<()> {
     };
     let inputs = Inputs::new(seed.parse().expect("a seed"));
     let mut out = BufWriter::new(std::fs::File::create(file)?);
-    let mut lists = Lists::default();
+    let mut lists = Lists::with_output();
     for number in 0..count.parse().expect("a count") {
         let mut rng = inputs.rng(number);
-        let text = inputs.text(&mut rng);
+        let text = if rng.percent(50) { inputs.text(&mut rng) } else { inputs.text_to_write(&mut rng) };
         let lengths = if rng.percent(85) { Lengths::EXACT } else { Lengths::draw(&mut rng) };
         write_list(&mut out, &text, |byte| vec![byte])?;
         for length in [lengths.states, lengths.nodes, lengths.work] {
@@ -32,20 +33,40 @@ fn main() -> Result<()> {
         let (states, nodes, work) = lists.lend(lengths);
         write_answer(&mut out, check(&text, states, nodes, work))?;
         write_list(&mut out, states, |word| word.to_le_bytes().to_vec())?;
-        let flat: Vec<u32> = nodes.iter().flat_map(|&node| numbers(node)).collect();
-        write_list(&mut out, &flat, |number| number.to_le_bytes().to_vec())?;
+        write_list(&mut out, &flat(nodes), |number| number.to_le_bytes().to_vec())?;
         write_list(&mut out, work, |number| number.to_le_bytes().to_vec())?;
         lists.soil(Dirt::draw(&mut rng));
         let (states, _, work) = lists.lend(lengths);
         write_answer(&mut out, replay(&text, states, work))?;
         write_list(&mut out, states, |word| word.to_le_bytes().to_vec())?;
         write_list(&mut out, work, |number| number.to_le_bytes().to_vec())?;
+        let (states, nodes, work, output) = lists.lend_all(lengths, OUTPUT);
+        let needed = match write(&text, states, nodes, work, output) {
+            Written { number: 0, length, .. } => length as usize,
+            _ => text.len(),
+        };
+        let length = draw_output(&mut rng, needed);
+        out.write_all(&(length as u32).to_le_bytes())?;
+        lists.soil(Dirt::draw(&mut rng));
+        let (states, nodes, work, output) = lists.lend_all(lengths, length);
+        write_written(&mut out, write(&text, states, nodes, work, output))?;
+        write_list(&mut out, states, |word| word.to_le_bytes().to_vec())?;
+        write_list(&mut out, &flat(nodes), |number| number.to_le_bytes().to_vec())?;
+        write_list(&mut out, work, |number| number.to_le_bytes().to_vec())?;
+        write_list(&mut out, output, |byte| vec![byte])?;
     }
     out.flush()
 }
 
-fn numbers(node: Node) -> [u32; 5] {
-    [node.letter, node.label, node.place, node.start, node.end]
+/// The numbers of all records.
+fn flat(nodes: &[Node]) -> Vec<u32> {
+    nodes.iter().flat_map(|node| [node.letter, node.label, node.place, node.start, node.end]).collect()
+}
+
+fn write_written(out: &mut impl Write, answer: Written) -> Result<()> {
+    let Written { number, line, item, cues, nodes, length } = answer;
+    write_answer(out, Reply { number, line, item, cues, nodes })?;
+    out.write_all(&length.to_le_bytes())
 }
 
 fn write_answer(out: &mut impl Write, answer: Reply) -> Result<()> {
@@ -56,7 +77,7 @@ fn write_answer(out: &mut impl Write, answer: Reply) -> Result<()> {
 }
 
 /// Writes a list without the zeros at its end. (No text ends in a zero byte by 01's rules, but
-/// a damaged one may: texts are written whole.)
+/// a damaged one may: texts are written whole, and so is the output.)
 fn write_list<T: Copy>(out: &mut impl Write, list: &[T], bytes: impl Fn(T) -> Vec<u8>) -> Result<()> {
     let is_zero = |item: &T| bytes(*item).iter().all(|&byte| byte == 0);
     let whole = size_of::<T>() == 1;

@@ -50,6 +50,14 @@ pub struct Method {
     pub task: u16,
     pub subtasks: Range<u16>,
     pub constraints: Range<u16>,
+    pub lines: Lines,
+}
+
+/// Where a method stands in the text, as bytes that are left of it: from the end of its M line, and from the end of its constraints.
+#[derive(Clone, Copy)]
+pub struct Lines {
+    pub head: u16,
+    pub end: u16,
 }
 
 /// The members of a flat table that belong to a method.
@@ -57,14 +65,27 @@ pub fn stretch<'a, T>(all: &'a [T], range: &Range<u16>) -> &'a [T] {
     &all[usize::from(range.start)..usize::from(range.end)]
 }
 
-/// A constraint, with the refusal number if it is broken: 10 order, 11 before, 12 after, 13 between. An order has two
-/// subtasks in `from` and `to`. The others have sets of them, bit j for subtask j, 0 for the whole task; a before has
-/// only `to`, an after only `from`.
+/// A constraint. An order has two subtasks in `from` and `to`. The others have sets of them, bit j for subtask j, 0 for the
+/// whole task; a before has only `to`, an after only `from`.
 pub struct Constraint {
-    pub number: u8,
-    pub asked: Signed,
+    /// O, B, F and W are 0, 2, 4 and 6; b, f and w one more.
+    pub letter: u8,
+    pub proposition: u8,
+    /// Where its line stands in the text, as bytes that are left of it.
+    pub left: u16,
     pub from: u32,
     pub to: u32,
+}
+
+impl Constraint {
+    /// The refusal number if it is broken: 10 order, 11 before, 12 after, 13 between.
+    pub fn number(&self) -> u32 {
+        10 + u32::from(self.letter / 2)
+    }
+
+    pub fn asked(&self) -> Signed {
+        Signed { proposition: self.proposition, negative: self.letter % 2 == 1 }
+    }
 }
 
 /// A proposition, and whether it is asked to be true (B, F, W) or false (b, f, w).

@@ -14,7 +14,7 @@ pub fn first_broken(case: &Case, rows: &[Set], nodes: &[Node], spans: &[u32], co
         next_span += method.subtasks.len();
         let constraints = stretch(&case.constraints, &method.constraints);
         if let Some(item) = constraints.iter().position(|it| !scene.holds(it, &mut columns)) {
-            return refuse(constraints[item].number.into(), case.node_line(at), item);
+            return refuse(constraints[item].number(), case.node_line(at), item);
         }
     }
     Ok(())
@@ -30,17 +30,17 @@ struct Scene<'a> {
 impl Scene<'_> {
     #[inline(always)]
     fn holds(&self, constraint: &Constraint, columns: &mut Columns) -> bool {
-        let &Constraint { number, from, to, .. } = constraint;
-        match number {
+        let &Constraint { from, to, .. } = constraint;
+        match constraint.number() {
             10 => self.subtask(from).last() < self.subtask(to).first(),
-            11 => self.is_so(self.span_of(to).first() - 1, constraint.asked),
-            12 => self.is_so(self.span_of(from).last(), constraint.asked),
+            11 => self.is_so(self.span_of(to).first() - 1, constraint.asked()),
+            12 => self.is_so(self.span_of(from).last(), constraint.asked()),
             _ => {
                 let (first, end) = (self.span_of(from).last(), self.span_of(to).first());
                 match end.saturating_sub(first) {
                     0 => true,
-                    1 => self.is_so(first, constraint.asked),
-                    _ => columns.is_so_throughout(first, end - 1, constraint.asked),
+                    1 => self.is_so(first, constraint.asked()),
+                    _ => columns.is_so_throughout(first, end - 1, constraint.asked()),
                 }
             }
         }

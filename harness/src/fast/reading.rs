@@ -1,6 +1,6 @@
 //! One pass over the text: numbers 3 and 4.
 
-use super::case::{Case, Constraint, Method, Signed};
+use super::case::{Case, Constraint, Lines, Method};
 use super::{refuse, Accepted, Checked, Node, Refusal, Set};
 use std::ops::RangeBounds;
 
@@ -232,12 +232,14 @@ fn read_methods<'a>(mut reader: Reader<'a>, header: &Header, case: &mut Case) ->
         case.subtasks.extend(subtasks, || Ok(reader.number_in(..header.tasks)? as u16))?;
         let constraints = reader.number_in(..=64)?;
         reader.end_line()?;
+        let head = reader.0.len() as u16;
         let first_constraint = case.constraints.len() as u16;
         case.constraints.extend(constraints, || read_constraint(&mut reader, header.propositions, subtasks))?;
         case.methods.push(Method {
             task,
             subtasks: first_subtask..case.subtasks.len() as u16,
             constraints: first_constraint..case.constraints.len() as u16,
+            lines: Lines { head, end: reader.0.len() as u16 },
         });
     }
     Ok(reader)
@@ -245,26 +247,27 @@ fn read_methods<'a>(mut reader: Reader<'a>, header: &Header, case: &mut Case) ->
 
 #[inline(always)]
 fn read_constraint(reader: &mut Reader, propositions: u32, subtasks: u32) -> Read<Constraint> {
+    let left = reader.0.len() as u16;
     let letter = reader.letter()?;
-    let (number, proposition, from, to) = match letter {
+    let (capital, proposition, from, to) = match letter {
         b'O' => {
             let (first, second) = (reader.number_in(..subtasks)?, reader.number_in(..subtasks)?);
             if second == first {
                 return reader.fault(4);
             }
-            (10, 0, first, second)
+            (0, 0, first, second)
         }
-        b'B' | b'b' => (11, reader.number_in(..propositions)?, 0, reader.mask(subtasks)?),
-        b'F' | b'f' => (12, reader.number_in(..propositions)?, reader.mask(subtasks)?, 0),
+        b'B' | b'b' => (2, reader.number_in(..propositions)?, 0, reader.mask(subtasks)?),
+        b'F' | b'f' => (4, reader.number_in(..propositions)?, reader.mask(subtasks)?, 0),
         b'W' | b'w' => {
             let from = reader.mask(subtasks)?;
-            (13, reader.number_in(..propositions)?, from, reader.mask(subtasks)?)
+            (6, reader.number_in(..propositions)?, from, reader.mask(subtasks)?)
         }
         _ => return reader.wrong_letter(),
     };
     reader.end_line()?;
-    let asked = Signed { proposition: proposition as u8, negative: letter.is_ascii_lowercase() };
-    Ok(Constraint { number, asked, from, to })
+    let letter = capital + u8::from(letter.is_ascii_lowercase());
+    Ok(Constraint { letter, proposition: proposition as u8, left, from, to })
 }
 
 #[inline(never)]

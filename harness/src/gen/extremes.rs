@@ -414,7 +414,7 @@ fn full_sets() -> Draft {
 
 /// The draft's text brought to just this length by filling the sets of actions not in the
 /// plan: a member of one digit is 2 bytes, one of two digits 3.
-fn padded(mut draft: Draft, length: usize) -> Vec<u8> {
+pub(super) fn padded(mut draft: Draft, length: usize) -> Vec<u8> {
     let mut lacking = length - draft.text().len();
     let spare: Vec<usize> = (0..draft.actions.len()).filter(|&a| !draft.plan.contains(&(a as u32))).collect();
     for set in spare.into_iter().flat_map(|a| (0..4).map(move |s| (a, s))) {

@@ -94,6 +94,12 @@ enum-known-answer-13 c = search needs
 refusal-requires-13 : tie.Need-refusal-requires-13
 refusal-requires-13 c κs = search needs
 
+enum-known-answer-14 : tie.Need-enum-known-answer-14
+enum-known-answer-14 c = search needs
+
+refusal-requires-14 : tie.Need-refusal-requires-14
+refusal-requires-14 c κs = search needs
+
 returns : tie.Need-returns
 unfolding reported
 returns c = sym (ap reported (c .before .answer .given .1))
@@ -150,6 +156,10 @@ returns-14 : tie.Need-returns-14
 unfolding reported
 returns-14 c = told _ _ _ (c .before .before .answer13 .given .1) (c .refusal13 .ensures)
 
+returns-15 : tie.Need-returns-15
+unfolding reported
+returns-15 c = told _ _ _ (c .before .before .answer14 .given .1) (c .refusal14 .ensures)
+
 pub as-reply-spec : {M : Type 1} → statement M
 as-reply-spec =
     tie.close
@@ -181,6 +191,8 @@ as-reply-spec =
     refusal-requires-12
     enum-known-answer-13
     refusal-requires-13
+    enum-known-answer-14
+    refusal-requires-14
     returns
     returns-2
     returns-3
@@ -194,4 +206,5 @@ as-reply-spec =
     returns-11
     returns-12
     returns-13
-    returns-14)
+    returns-14
+    returns-15)

@@ -1,14 +1,16 @@
 -- `judge_text`: the text reads as a case, and the run follows; or it is refused, and the state list is zero as it was. Assumes nothing.
 use Rattle.fields.specs.Directory.{directorySize}
 use Rattle.judge.proofs.Phases.{refused-all, answers-as, read-opens, read-refuses}
-use Rattle.judge.proofs.Verdicts.{text-refused, text-reads}
+use Rattle.judge.proofs.Verdicts.{text-refused, text-reads, fields-held}
+use Rattle.judge.specs.Phases.{FieldsHeld}
 use Rattle.judge.proofs.judge_text.Statement.{statement}
 use Rattle.judge.proofs.judge_text.Tie as tie
 use Rattle.rules.proofs.Judgement.Rows.{fromTree}
-use Rattle.rules.specs.Verdict.{textMost, workNeed}
+use Rattle.rules.specs.Tree.{Tree}
+use Rattle.rules.specs.Verdict.{Found, textMost, workNeed}
 use borrow.Author.Needs.{needs}
 use lib.ListN.{length}
-use mathlib.Core.Path.{_≡_, refl, sym}
+use mathlib.Core.Path.{_≡_, refl, sym, subst}
 use native.Mathlib.Omega.{arith}
 
 read-case-requires : tie.Need-read-case-requires
@@ -29,7 +31,7 @@ judge-run-requires c κs =
     let x = c .before .before .before .before .header .given in
     let kept : length (b .last .1 .1 .0) ≡ length (a .work .now) = b .kept .1 .1 .0 in
     let room = s .pre .0 .workRoom in
-    let (k, reads, opens) = read-opens (a .text .now) (b .last .1 .0) (b .last .1 .1 .0) (b .ensures) (x .0 .0) (x .0 .1 .0) (x .0 .1 .1 .0) (x .0 .1 .1 .1 .0)
+    let (k, reads, opens, stands) = read-opens (a .text .now) (b .last .1 .0) (b .last .1 .1 .0) (b .ensures) (x .0 .0) (x .0 .1 .0) (x .0 .1 .1 .0) (x .0 .1 .1 .1 .0)
     (x .0 .1 .1 .1 .1 .0) (x .1) (s .pre .0 .short) (omega arith) in
     (k, record { opens = opens; stateRoom = s .pre .0 .stateRoom; statesZero = s .pre .0 .statesZero })
 
@@ -53,10 +55,13 @@ returns c =
     let x = c .before .before .before .before .before .before .before .before .before .header .given in
     let kept : length (b .last .1 .1 .0) ≡ length (a .work .now) = b .kept .1 .1 .0 in
     let room = s .pre .0 .workRoom in
-    let (k, reads, opens) = read-opens (a .text .now) (b .last .1 .0) (b .last .1 .1 .0) (b .ensures) (x .0 .0) (x .0 .1 .0) (x .0 .1 .1 .0) (x .0 .1 .1 .1 .0)
+    let (k, reads, opens, stands) = read-opens (a .text .now) (b .last .1 .0) (b .last .1 .1 .0) (b .ensures) (x .0 .0) (x .0 .1 .0) (x .0 .1 .1 .0) (x .0 .1 .1 .1 .0)
     (x .0 .1 .1 .1 .1 .0) (x .1) (s .pre .0 .short) (omega arith) in
-    answers-as (sym (text-reads fromTree (a .text .now) k (s .pre .0 .short) reads)) refl
-    (c .before .before .before .before .judge-run .ensures k (record { opens = opens; stateRoom = s .pre .0 .stateRoom; statesZero = s .pre .0 .statesZero }))
+    let same = sym (text-reads fromTree (a .text .now) k (s .pre .0 .short) reads) in (
+      answers-as same refl
+          (c .before .before .before .before .judge-run .ensures k (record { opens = opens; stateRoom = s .pre .0 .stateRoom; statesZero = s .pre .0 .statesZero })),
+      subst (λ (f : Found Tree). FieldsHeld f (b .last .1 .0)) same (fields-held k (b .last .1 .0) (opens .read) stands),
+    )
 
 same-length-4 : tie.Need-same-length-4
 same-length-4 c = search needs
@@ -65,13 +70,15 @@ same-length-5 : tie.Need-same-length-5
 same-length-5 c = search needs
 
 returns-2 : tie.Need-returns-2
+unfolding FieldsHeld
 returns-2 c =
     let s = c .before .before .before .before .before .before .before .before .before .before .before .before .before .before in
     let a = s .args in
     let b = c .before .before .before .before .before .before .before .read-case in
     let x = c .before .answer .given in
     let refuses = read-refuses (a .text .now) (b .last .1 .0) (b .last .1 .1 .0) (b .ensures) (x .0 .0) (x .1) in
-    refused-all (x .0 .0) (text-refused fromTree (a .text .now) (x .0 .0) (s .pre .0 .short) refuses) refl (s .pre .0 .statesZero)
+    let same = text-refused fromTree (a .text .now) (x .0 .0) (s .pre .0 .short) refuses in
+    (refused-all (x .0 .0) same refl (s .pre .0 .statesZero), subst (λ (f : Found Tree). FieldsHeld f (b .last .1 .0)) (sym same) tt)
 
 pub judge-text-spec : {M : Type 1} → statement M
 judge-text-spec =

@@ -20,7 +20,7 @@ split-on parts b bs e = rw (e, pieces)
 -- ---- Fields
 
 -- The field that starts here, and what follows it, are what stands here.
-field-split : (bs : List ℕ) → bs ≡ fieldOf bs ++ drop (length (fieldOf bs)) bs
+pub field-split : (bs : List ℕ) → bs ≡ fieldOf bs ++ drop (length (fieldOf bs)) bs
 field-split [] = refl
 field-split (b ∷ bs) = go (endsField b) (field-split bs)
   where
@@ -30,10 +30,10 @@ field-split (b ∷ bs) = go (endsField b) (field-split bs)
     go true ih = refl
     go false ih = ap (λ (l : List ℕ). b ∷ l) ih
 
-field-here : (b : ℕ) (bs : List ℕ) → endsField b ≡ true → fieldOf (b ∷ bs) ≡ []
+pub field-here : (b : ℕ) (bs : List ℕ) → endsField b ≡ true → fieldOf (b ∷ bs) ≡ []
 field-here b bs e = rw (e, fieldOf)
 
-field-on : (b : ℕ) (bs : List ℕ) → endsField b ≡ false → fieldOf (b ∷ bs) ≡ b ∷ fieldOf bs
+pub field-on : (b : ℕ) (bs : List ℕ) → endsField b ≡ false → fieldOf (b ∷ bs) ≡ b ∷ fieldOf bs
 field-on b bs e = rw (e, fieldOf)
 
 -- ---- A line
@@ -103,10 +103,10 @@ line-in (b ∷ bs) e = go (isFeed b) (isComma b) refl refl e (line-in bs)
 
 -- ---- What reading finds at a place, by the fields that the line has left there
 
-module _ (text after : List ℕ) (place : ℕ) where
-  tail-at : (b : ℕ) (bs : List ℕ) → drop place text ≡ b ∷ bs → drop (place + 1) text ≡ bs
-  tail-at b bs e = sym (drop-drop 1 place text) ∙ ap (λ (l : List ℕ). drop 1 l) e
+pub tail-at : (text : List ℕ) (place b : ℕ) (bs : List ℕ) → drop place text ≡ b ∷ bs → drop (place + 1) text ≡ bs
+tail-at text place b bs e = sym (drop-drop 1 place text) ∙ ap (λ (l : List ℕ). drop 1 l) e
 
+module _ (text after : List ℕ) (place : ℕ) where
   pub number-missing : Left (drop place text) [] after → numberAt text place ≡ missing
   unfolding numberAt isComma
   number-missing e = ap (numberAfter place) e
@@ -117,12 +117,12 @@ module _ (text after : List ℕ) (place : ℕ) where
   number-there f fs (rest, e, is, left) = (
     ap (numberAfter place) e ∙ ap (numberIn (place + 1)) is,
     subst (λ (bs : List ℕ). Left bs fs after)
-        (sym (sym (drop-drop (length f) (place + 1) text) ∙ ap (drop (length f)) (tail-at 44 (f ++ rest) e) ∙ drop-append-seam f rest)) left,
+        (sym (sym (drop-drop (length f) (place + 1) text) ∙ ap (drop (length f)) (tail-at text place 44 (f ++ rest) e) ∙ drop-append-seam f rest)) left,
   )
 
   pub line-over : Left (drop place text) [] after → (endingAt text place ≡ ended (place + 1)) × (drop (place + 1) text ≡ after)
   unfolding endingAt isFeed
-  line-over e = (ap (endingOf place) e, tail-at 10 after e)
+  line-over e = (ap (endingOf place) e, tail-at text place 10 after e)
 
   pub field-over : (f : List ℕ) (fs : List (List ℕ)) → Left (drop place text) (f ∷ fs) after → endingAt text place ≡ surplus
   unfolding endingAt isFeed

@@ -15,7 +15,7 @@ use Rattle.rules.proofs.Judgement.Each.{Each}
 use Rattle.rules.proofs.Judgement.Reading.{Rises, ForLine}
 use Rattle.rules.proofs.Judgement.Sound.{GoodHeader, ascends}
 
-set-back : (h : Header) (vs : List ℕ) → GoodHeader h → Each (λ v. ltb v (h .propositions) ≡ true) vs → Rises true 0 vs
+pub set-back : (h : Header) (vs : List ℕ) → GoodHeader h → Each (λ v. ltb v (h .propositions) ≡ true) vs → Rises true 0 vs
     → propositionsOf (insertAll noPropositions vs) ≡ vs
 set-back h vs good hs r = members-back vs (ascends (h .propositions) 0 vs (good .few-propositions) hs r)
 

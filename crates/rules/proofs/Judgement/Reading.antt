@@ -21,7 +21,7 @@ use Rattle.rules.proofs.Judgement.Each.{Each, each-nil, each-cons, both
 -- ---- Items
 
 -- Nothing is said of a field that is refused.
-abbrev Any : ℕ → Type 0
+abbrev pub Any : ℕ → Type 0
 Any field = Unit {0}
 
 taken-says : (P : Value → ℕ → ℕ → Type 0) (ok : ℕ → Bool) (x : Number) (field : ℕ) (rest : ℕ → ℕ → ItemRead)

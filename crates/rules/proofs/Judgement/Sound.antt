@@ -16,65 +16,11 @@ use Rattle.rules.specs.Table.{Value, header, initial, action, method, co
 use Rattle.rules.specs.Result.{Result, found, refused, _>>_}
 use Rattle.rules.specs.Case.{Constraint, O, B, F, W, Method, NodeLine, D, E, L, Case, scalarAt, membersAt, setAt, headerOf, initialOf, actionOf, constraintOf, asConstraint, planOf, nodeOf, asNode, oneLine, many, oneMethod, noSurplus, readBody, noHeader, readFrom, readCase}
 use Rattle.rules.specs.Fields.{propositionsOf}
+pub use Rattle.rules.specs.Ranges.{GoodHeader, GoodConstraint, GoodMethod, GoodNode, IsSet, GoodAction, Sound}
 use Rattle.rules.proofs.Fields.{Ascends, set-back}
 use Rattle.rules.proofs.Worded.{Worded, all-worded}
 use Rattle.rules.proofs.Judgement.Each.{Each, each-nil, each-tail, each-weaken, both-true}
 use Rattle.rules.proofs.Judgement.Reading.{Rises, ForLine, OfReading, Says, ReadSays, says-then, read-then, one-line-says, Counted, many-say, lines-say}
-
--- ---- What is guaranteed
-
-pub record GoodHeader (h : Header) : Type 0 where
-  pub few-propositions : h .propositions ≤ 256
-  pub few-actions : h .actions ≤ 1024
-  pub few-compounds : h .compounds ≤ 1024
-  pub few-methods : h .methods ≤ 2048
-  pub goal-least : h .actions ≤ h .goal
-  pub goal-below : h .goal < h .actions + h .compounds
-  pub few-cues : h .cues ≤ 1000
-  pub some-nodes : 1 ≤ h .nodes
-  pub few-nodes : h .nodes ≤ 3000
-
--- A constraint of a method with so many subtasks.
-abbrev pub GoodConstraint : Header → ℕ → Constraint → Type 0
-GoodConstraint h count (O i j) = (i < count) × (j < count) × (i ≢ j)
-GoodConstraint h count (B s p u) = (p < h .propositions) × (u < 2 ^ count)
-GoodConstraint h count (F s p u) = (p < h .propositions) × (u < 2 ^ count)
-GoodConstraint h count (W s u p v) = (u < 2 ^ count) × (p < h .propositions) × (v < 2 ^ count)
-
-pub record GoodMethod (h : Header) (m : Method) : Type 0 where
-  pub task-least : h .actions ≤ m .task
-  pub task-below : m .task < h .actions + h .compounds
-  pub few-subtasks : length (m .subtasks) ≤ 32
-  pub subtasks-below : Each (λ t. t < h .actions + h .compounds) (m .subtasks)
-  pub few-constraints : length (m .constraints) ≤ 64
-  pub constraints-good : Each (GoodConstraint h (length (m .subtasks))) (m .constraints)
-
-abbrev pub GoodNode : Header → NodeLine → Type 0
-GoodNode h (D m) = m < h .methods
-GoodNode h (E m g) = (m < h .methods) × (g ≤ h .cues)
-GoodNode h (L a i) = (a < h .actions) × (1 ≤ i) × (i ≤ h .cues)
-
--- The words hold the set's propositions and nothing else.
-abbrev pub IsSet : State → Type 0
-IsSet s = insertAll noPropositions (propositionsOf s) ≡ s
-
-pub record GoodAction (a : Action) : Type 0 where
-  pub needed-set : IsSet (a .needed)
-  pub forbidden-set : IsSet (a .forbidden)
-  pub added-set : IsSet (a .added)
-  pub deleted-set : IsSet (a .deleted)
-
-pub record Sound (k : Case) : Type 0 where
-  pub head-good : GoodHeader (k .head)
-  pub initial-set : IsSet (k .initial)
-  pub actions-good : Each GoodAction (k .actions)
-  pub actions-length : length (k .actions) ≡ k .head .actions
-  pub methods-length : length (k .methods) ≡ k .head .methods
-  pub methods-good : Each (GoodMethod (k .head)) (k .methods)
-  pub plan-length : length (k .plan) ≡ k .head .cues
-  pub plan-below : Each (λ a. a < k .head .actions) (k .plan)
-  pub nodes-length : length (k .nodes) ≡ k .head .nodes
-  pub nodes-good : Each (GoodNode (k .head)) (k .nodes)
 
 -- ---- Tests as what they say
 

@@ -1,0 +1,5 @@
+pub mod Decimals
+pub mod Putting
+pub mod Texts
+pub mod Lines
+pub mod Cases

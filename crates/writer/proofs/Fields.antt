@@ -1,0 +1,77 @@
+-- What the tidy text is put out from: the header that stands among the fields, and how many fields and bytes there are. Assumes nothing.
+use mathlib.Core.Path.{_≡_, refl, sym, ap, subst}
+use mathlib.Core.List.{List, [], _∷_}
+use Prim.Native.Nat.{ℕ, _*_, _≤_}
+use native.Mathlib.Omega.{arith}
+use lib.ListN.{length, drop, length-append}
+use Rattle.rules.specs.Text.{decimal}
+use Rattle.rules.specs.Table.{table, rowOf}
+use Rattle.rules.specs.Case.{Case, Valued, headerIn}
+use Rattle.rules.specs.Fields.{lineFields, linesFields, headerLine, linesOf, fieldsOf}
+use Rattle.rules.specs.Print.{numbersText, lineText, linesText, printed}
+use Rattle.rules.specs.Verdict.{textMost}
+use Rattle.rules.specs.Writing.{tidied, written}
+use Rattle.rules.proofs.Judgement.Sound.{sound}
+use Rattle.rules.proofs.Printing.{canonical}
+use Rattle.rules.proofs.Writing.Lengths.{written-length}
+use Rattle.fields.specs.Standing.{Stands}
+use Rattle.fields.specs.Directory.{IsRead}
+use Rattle.fields.proofs.Standing.{stands-inside}
+use Rattle.output.specs.Output.{HasLines}
+use Rattle.output.proofs.Decimals.{size-least}
+use Rattle.output.proofs.Cases.{case-has-lines}
+
+-- The header's numbers follow the first letter.
+pub header-here : (k : Case) (fields : List ℕ) → Stands fields 0 (fieldsOf k) → headerIn (drop 1 fields) ≡ k .head
+unfolding fieldsOf linesOf lineFields headerLine rowOf table
+header-here k fields s = ap (λ (l : List ℕ). headerIn (drop 1 l)) (s .here)
+
+-- It takes eight of them.
+pub header-fits : (k : Case) (fields : List ℕ) → Stands fields 0 (fieldsOf k) → 8 ≤ length fields
+unfolding fieldsOf linesOf lineFields headerLine rowOf table
+header-fits k fields s = let inside = stands-inside fields 0 (fieldsOf k) s (omega (arith, eight)) in omega (arith, eight)
+  where
+    eight : 8 ≤ length (fieldsOf k)
+    eight = omega arith
+
+-- Every field takes two bytes at least: a number its comma and a digit, the letter itself and the line feed.
+numbers-long : (ns : List ℕ) → 2 * length ns ≤ length (numbersText ns)
+unfolding decimal
+numbers-long [] = omega arith
+numbers-long (n ∷ ns) =
+    let some = size-least 9 n [] in
+    omega (arith, numbers-long ns, length-append (decimal n) (numbersText ns))
+
+line-long : (ns : List ℕ) → 2 * length ns ≤ length (lineText ns)
+unfolding lineText
+line-long [] = omega arith
+line-long (l ∷ ns) = omega (arith, numbers-long ns, length-append (numbersText ns) (10 ∷ []))
+
+lines-long : (xs : List Valued) → 2 * length (linesFields xs) ≤ length (linesText xs)
+lines-long [] = omega arith
+lines-long (x ∷ xs) =
+    omega (arith, line-long (lineFields x), lines-long xs, length-append (lineFields x) (linesFields xs), length-append (lineText (lineFields x)) (linesText xs))
+
+-- The tidy text is no longer than the text that came.
+pub few-bytes : (k : Case) → IsRead k → length (written k) ≤ 65535
+unfolding textMost
+few-bytes k r =
+    let same = ap length (canonical (r .text) k (r .reads)) in
+    let short = r .short in
+    omega (arith, written-length k)
+
+-- What is put out are the lines of the tidied case.
+pub written-lines : (k : Case) → linesText (linesOf (tidied k)) ≡ written k
+unfolding written printed
+written-lines k = refl
+
+pub tidy-has-lines : (k : Case) (fields : List ℕ) (end cues : ℕ) → IsRead k → cues ≡ k .head .cues → Stands fields 0 (fieldsOf (tidied k))
+    → end ≡ length (fieldsOf (tidied k)) → HasLines cues fields end (linesOf (tidied k))
+unfolding tidied
+tidy-has-lines k fields end cues r h s e =
+    let lines = case-has-lines (tidied k) fields (sound (r .text) k (r .reads) .plan-length) s in
+    subst (λ (n : ℕ). HasLines n fields end (linesOf (tidied k))) (sym h) (subst (λ (n : ℕ). HasLines (k .head .cues) fields n (linesOf (tidied k))) (sym e) lines)
+
+pub few-fields : (k : Case) → IsRead k → length (fieldsOf (tidied k)) ≤ 32768
+unfolding fieldsOf written printed
+few-fields k r = omega (arith, few-bytes k r, lines-long (linesOf (tidied k)))

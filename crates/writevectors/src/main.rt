@@ -1,0 +1,152 @@
+// Runs the core of the write call on every case that its arguments name, in their order: five words to a case, its file, the bytes of the
+// output, and the lengths of the state list, the node list and the work space. All that is lent comes in dirty. Prints the words and the answer of each, and then
+// what was put out. What it prints is held against the stored expectations, which come from the papers and two independent renderings.
+use capi::Reply;
+use libc::STDOUT_FILENO;
+use writer::Wrote;
+ghost use mathlib.Core.Path.{_≡_};
+ghost use Prim.Native.Nat.{_+_, _≤_};
+ghost use lib.ListN.{length, take};
+
+// The most that is lent; the core takes the length of the node list alone.
+const MOST_STATES: usize = 4036;
+
+const MOST_WORK: usize = 16416;
+
+const MOST_OUTPUT: usize = 65536;
+
+// The number that a word is: of a longer one the first six digits count.
+fn number(word: &[u8]) -> usize {
+    let mut value: usize = 0;
+    let mut i: usize = 0;
+    while i < word.len() {
+        if value < 100000 {
+            value = value * 10 + (word[i] % 16) as usize;
+        }
+        i += 1;
+    }
+    value
+}
+
+// The number that argument i is; the word is printed.
+fn number_argument(i: usize) -> usize {
+    let mut word = io::buffer();
+    let n = os::arg(i, &mut word);
+    io::write_all(STDOUT_FILENO, &word[..n]);
+    io::write_all(STDOUT_FILENO, b" ");
+    number(&word[..n])
+}
+
+// How many elements of a list are lent: so many, or all.
+fn count_states(n: usize, list: &[u64]) -> usize
+    ensures { λ r. ⌜ (r ≤ length (now (list .entry))) × (r ≡ length (take r (now (list .entry)))) ⌝ }
+{
+    if n < list.len() { n } else { list.len() }
+}
+
+fn count_work(n: usize, list: &[u32]) -> usize
+    ensures { λ r. ⌜ (r ≤ length (now (list .entry))) × (r ≡ length (take r (now (list .entry)))) ⌝ }
+{
+    if n < list.len() { n } else { list.len() }
+}
+
+fn count_bytes(n: usize, list: &[u8]) -> usize
+    ensures { λ r. ⌜ (r ≤ length (now (list .entry))) × (r ≡ length (take r (now (list .entry)))) ⌝ }
+{
+    if n < list.len() { n } else { list.len() }
+}
+
+fn print_field(n: u32) {
+    io::write_all(STDOUT_FILENO, b",");
+    io::print_decimal(STDOUT_FILENO, n as u64);
+}
+
+// The answer: `Y,k,n,length` or `R,number,line,item`, and a line feed.
+fn print_written(r: Reply, length: u32) {
+    if r.number == 0 {
+        io::write_all(STDOUT_FILENO, b"Y");
+        print_field(r.cues);
+        print_field(r.nodes);
+        print_field(length);
+    } else {
+        io::write_all(STDOUT_FILENO, b"R");
+        print_field(r.number);
+        print_field(r.line);
+        print_field(r.item);
+    }
+    io::write_all(STDOUT_FILENO, b"\n");
+}
+
+// The answer, and the bytes up to the length answered.
+fn print_all(w: Wrote, output: &[u8]) {
+    let answer = w.answer;
+    let length = w.length;
+    print_written(capi::as_reply(answer), length);
+    let n = count_bytes(length as usize, output);
+    io::write_all(STDOUT_FILENO, &output[..n]);
+}
+
+fn write_with(text: &[u8], nodes: usize, states: &mut [u64], work: &mut [u32], output: &mut [u8]) {
+    print_all(writer::write(text, states, work, nodes, output), output);
+}
+
+// The call on a text, with lists and an output of these lengths.
+fn write_text(
+    text: &[u8],
+    output_len: usize,
+    states_len: usize,
+    nodes_len: usize,
+    work_len: usize,
+) {
+    let mut states = [7u64; MOST_STATES];
+    let mut work = [7u32; MOST_WORK];
+    let mut output = [7u8; MOST_OUTPUT];
+    let s = count_states(states_len, &states);
+    let w = count_work(work_len, &work);
+    let o = count_bytes(output_len, &output);
+    write_with(
+        text,
+        nodes_len,
+        &mut states[..s],
+        &mut work[..w],
+        &mut output[..o],
+    );
+}
+
+// The case of a file, its bytes up to one more than a case may have, and the words that follow its name.
+fn write_file(path: &[u8], i: usize)
+    requires { ⌜ i + 4 ≤ 18446744073709551615 ⌝ }
+{
+    let fd = os::open_read(path);
+    if fd < 0 {
+        os::fail(path);
+        return;
+    }
+    let mut buffer = io::large_buffer();
+    let n = io::read_full(fd, &mut buffer);
+    libc::close(fd);
+    io::write_all(STDOUT_FILENO, path);
+    io::write_all(STDOUT_FILENO, b" ");
+    let output = number_argument(i + 1);
+    let states = number_argument(i + 2);
+    let nodes = number_argument(i + 3);
+    let work = number_argument(i + 4);
+    write_text(&buffer[..n], output, states, nodes, work);
+}
+
+fn write_argument(i: usize)
+    requires { ⌜ i + 4 ≤ 18446744073709551615 ⌝ }
+{
+    let mut path = io::buffer();
+    let n = os::arg(i, &mut path);
+    write_file(&path[..n], i);
+}
+
+fn main() {
+    let cases = os::arg_count() / 5;
+    let mut done: usize = 0;
+    while done < cases {
+        write_argument(5 * done + 1);
+        done += 1;
+    }
+}
