@@ -1,12 +1,10 @@
 -- A list of bytes, put into another from a place on, part by part. Assumes nothing.
 use mathlib.Core.Path.{_≡_, refl, sym, ap, _∙_}
 use mathlib.Core.List.{List, [], _∷_, _++_, append-assoc, append-nil}
-use Prim.Native.Nat.{ℕ, zero, suc, _+_, _-_, _≤_, _<_}
-use native.Mathlib.Nat.{add-zero}
-use native.Mathlib.Numerals.{add-one}
+use Prim.Native.Nat.{ℕ, suc, _+_, _-_, _≤_, _<_}
 use native.Mathlib.Omega.{arith}
-use lib.ListN.{length, set, take, drop, replicate, length-append, length-set, length-replicate, drop-of-length-le}
-use lib.Seq.{sets, sets-eq, length-sets, set-comm}
+use lib.ListN.{length, set, replicate, length-append, length-replicate, drop-of-length-le}
+use lib.Seq.{sets, sets-eq, length-sets}
 use Rattle.rules.specs.Verdict.{filled}
 use Rattle.fields.proofs.Standing.{sets-append}
 

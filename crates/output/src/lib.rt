@@ -166,11 +166,33 @@ pub fn clear(out: &mut [u8])
     clear_from(0, out);
 }
 
-// The text of the first `end` fields: "output past the text is zero".
-pub fn put_text(fields: &[u32], end: usize, cues: u32, out: &mut [u8])
+// The text of the first `end` fields: "output past the text is zero". Answers its length.
+pub fn put_text(fields: &[u32], end: usize, cues: u32, out: &mut [u8]) -> usize
     requires { ⌜ ((xs : List Valued) × HasLines cues (now fields) end xs × (length (linesText xs) ≤ length (now out))) ⌝ }
-    ensures { λ _. ⌜ ((xs : List Valued) → HasLines cues (now (fields .entry)) end xs → now (out .exit) ≡ filled (length (now (out .entry))) 0 (linesText xs)) ⌝ }
+    ensures { λ r. ⌜ ((xs : List Valued) → HasLines cues (now (fields .entry)) end xs → (now (out .exit) ≡ filled (length (now (out .entry))) 0 (linesText xs)) × (r ≡ length (linesText xs))) ⌝ }
 {
     let past = put_lines(fields, end, cues, out);
     clear_from(past, out);
+    past
+}
+
+// The bytes of a text, from the output's start on.
+fn copy(text: &[u8], out: &mut [u8])
+    requires { ⌜ length (now text) ≤ length (now out) ⌝ }
+    ensures { λ _. ⌜ now (out .exit) ≡ sets (now (out .entry)) 0 (now (text .entry)) ⌝ }
+{
+    let mut i: usize = 0;
+    while i < text.len() {
+        out[i] = text[i];
+        i += 1;
+    }
+}
+
+// A text as it is, and zero past it.
+pub fn put_copy(text: &[u8], out: &mut [u8])
+    requires { ⌜ length (now text) ≤ length (now out) ⌝ }
+    ensures { λ _. ⌜ now (out .exit) ≡ filled (length (now (out .entry))) 0 (now (text .entry)) ⌝ }
+{
+    copy(text, out);
+    clear_from(text.len(), out);
 }

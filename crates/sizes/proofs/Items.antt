@@ -1,7 +1,7 @@
 -- The items of a line, passed one by one. Assumes nothing.
 use mathlib.Core.Path.{_≡_, refl, sym, ap, subst, _∙_}
 use mathlib.Core.Bool.{Bool, true, false}
-use mathlib.Core.List.{List, [], _∷_, _++_}
+use mathlib.Core.List.{List, [], _∷_}
 use mathlib.Core.Logic.{_⊎_, inl, inr, ⊎-elim}
 use mathlib.Core.Option.{Option, none, some}
 use Prim.Native.Nat.{ℕ, zero, suc, _+_, _/_, _%_, _^_, _≤_, _<_}
@@ -10,7 +10,7 @@ use native.Mathlib.Omega.{arith}
 use borrow.Author.Tests.{eqb-true, eqb-false, ne-eqb}
 use lib.Dec.{eqb}
 use lib.ListN.{length, getD, length-append}
-use Rattle.rules.specs.Table.{Item, one, set, subtaskList, cues, Row, Value, scalar, listed, rowOf}
+use Rattle.rules.specs.Table.{Item, set, subtaskList, cues, Row, Value, scalar, listed, rowOf}
 use Rattle.rules.specs.Case.{Valued}
 use Rattle.rules.specs.Fields.{itemFields, itemsFields, rowItems, lineFields}
 use Rattle.fields.specs.Standing.{Stands}

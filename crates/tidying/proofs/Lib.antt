@@ -2,7 +2,9 @@ pub mod Letters
 pub mod Lists
 pub mod Putting
 pub mod Here
+pub mod First
 pub mod Gathering
 pub mod Methods
 pub mod Tidying
+pub mod Passing
 pub mod Whole

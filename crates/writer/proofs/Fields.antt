@@ -1,8 +1,11 @@
 -- What the tidy text is put out from: the header that stands among the fields, and how many fields and bytes there are. Assumes nothing.
-use mathlib.Core.Path.{_≡_, refl, sym, ap, subst}
+use mathlib.Core.Path.{_≡_, refl, sym, ap, subst, _∙_}
+use mathlib.Core.Bool.{Bool, true, false}
 use mathlib.Core.List.{List, [], _∷_}
-use Prim.Native.Nat.{ℕ, _*_, _≤_}
+use Prim.Native.Nat.{ℕ, _*_, _≤_, _<_}
+use native.Mathlib.Decide.{decLt}
 use native.Mathlib.Omega.{arith}
+use borrow.Author.Tests.{lt-ltb, le-ltb}
 use lib.ListN.{length, drop, length-append}
 use Rattle.rules.specs.Text.{decimal}
 use Rattle.rules.specs.Table.{table, rowOf}
@@ -17,6 +20,7 @@ use Rattle.rules.proofs.Writing.Lengths.{written-length}
 use Rattle.fields.specs.Standing.{Stands}
 use Rattle.fields.specs.Directory.{IsRead}
 use Rattle.fields.proofs.Standing.{stands-inside}
+use Rattle.writer.specs.Writes.{lacked}
 use Rattle.output.specs.Output.{HasLines}
 use Rattle.output.proofs.Decimals.{size-least}
 use Rattle.output.proofs.Cases.{case-has-lines}
@@ -52,13 +56,17 @@ lines-long [] = omega arith
 lines-long (x ∷ xs) =
     omega (arith, line-long (lineFields x), lines-long xs, length-append (lineFields x) (linesFields xs), length-append (lineText (lineFields x)) (linesText xs))
 
--- The tidy text is no longer than the text that came.
+-- A case that was read is printed as the text that came, and the tidy text is no longer.
+pub print-short : (k : Case) → IsRead k → length (printed k) ≤ textMost
+print-short k r = subst (λ (l : List ℕ). length l ≤ textMost) (canonical (r .text) k (r .reads)) (r .short)
+
 pub few-bytes : (k : Case) → IsRead k → length (written k) ≤ 65535
 unfolding textMost
-few-bytes k r =
-    let same = ap length (canonical (r .text) k (r .reads)) in
-    let short = r .short in
-    omega (arith, written-length k)
+few-bytes k r = let short = print-short k r in omega (arith, written-length k)
+
+pub written-same : (k : Case) → tidied k ≡ k → written k ≡ printed k
+unfolding written
+written-same k e = ap printed e
 
 -- What is put out are the lines of the tidied case.
 pub written-lines : (k : Case) → linesText (linesOf (tidied k)) ≡ written k
@@ -75,3 +83,31 @@ tidy-has-lines k fields end cues r h s e =
 pub few-fields : (k : Case) → IsRead k → length (fieldsOf (tidied k)) ≤ 32768
 unfolding fieldsOf written printed
 few-fields k r = omega (arith, few-bytes k r, lines-long (linesOf (tidied k)))
+
+-- ---- Room
+
+module _ (needed room : ℕ) where
+  abbrev picked : Bool → ℕ
+  picked b = elim b [ true ↦ needed | false ↦ 0 ]
+
+  pub lacks-none : needed ≤ room → 0 ≡ lacked needed room
+  unfolding lacked
+  lacks-none h = sym (ap picked (le-ltb room needed h))
+
+  pub lacks-all : room < needed → needed ≡ lacked needed room
+  unfolding lacked
+  lacks-all h = sym (ap picked (lt-ltb room needed h))
+
+  pub some-lacks : (r : ℕ) → r ≡ lacked needed room → 0 < r → (room < needed) × (r ≡ needed)
+  some-lacks r e h = go (decLt room needed)
+    where
+      go : Dec (room < needed) → (room < needed) × (r ≡ needed)
+      go (yes l) = (l, e ∙ sym (lacks-all l))
+      go (no l) = let z = lacks-none (omega arith) in absurd (omega arith)
+
+  pub none-lacks : (r : ℕ) → r ≡ lacked needed room → r ≤ 0 → needed ≤ room
+  none-lacks r e h = go (decLt room needed)
+    where
+      go : Dec (room < needed) → needed ≤ room
+      go (yes l) = let z = lacks-all l in absurd (omega arith)
+      go (no l) = omega arith

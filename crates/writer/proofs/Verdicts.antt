@@ -9,12 +9,15 @@ use Rattle.rules.specs.declared.Answer.the-variants.{Accepted, ShortOutput}
 use Rattle.rules.specs.Result.{Result, found, refused, _>>=_, _>>_}
 use Rattle.rules.specs.Case.{Case}
 use Rattle.rules.specs.Fields.{fieldsOf}
+use Rattle.rules.specs.Print.{printed}
 use Rattle.rules.specs.Tree.{Tree}
-use Rattle.rules.specs.Verdict.{Found, stateNeed, nodeNeed, workNeed, checkLists, check, reported, answerOf, filled, statesAfter}
+use Rattle.rules.specs.Verdict.{Lent, Found, stateNeed, nodeNeed, workNeed, checkLists, check, reported, answerOf, filled, statesAfter}
 use Rattle.rules.specs.Writing.{written, outputLong, write, outputAfter, lengthAfter}
 use Rattle.rules.proofs.Judgement.Rows.{fromText, fromTree}
 use Rattle.rules.proofs.Judgement.Refusals.{CheckSays, check-says}
-use Rattle.rules.proofs.Judgement.Theorem.{shows-not-zero}
+use Rattle.rules.proofs.Judgement.Theorem.{accepts-rules, shows-not-zero}
+use Rattle.rules.proofs.Printing.{canonical}
+use Rattle.rules.proofs.Writing.Answers.{output-fits, output-short}
 use Rattle.fields.specs.Standing.{Stands}
 use Rattle.fields.specs.Directory.{IsRead}
 use Rattle.records.specs.Records.{RecordsHeld}
@@ -27,12 +30,18 @@ use Rattle.writer.specs.Writes.{Writes, PutAs, thenOutput}
 
 -- ---- What the check answered
 
+abbrev asked : List Lent
+asked = checkLists stateNeed nodeNeed workNeed
+
+-- With lists as long as asked the rest of the rows decide.
+as-asked : (text : List ℕ) → check asked text ≡ fromText fromTree text
+as-asked text = lists-long stateNeed nodeNeed workNeed text (omega arith) (omega arith) (omega arith)
+
 -- No refusal is an acceptance.
 no-refusal : (text : List ℕ) (cues nodes : ℕ) → fromText fromTree text ≡ refused (Accepted cues nodes) → ⊥
 unfolding reported
 no-refusal text cues nodes e =
-    let same = lists-long stateNeed nodeNeed workNeed text (omega arith) (omega arith) (omega arith) ∙ e in
-    shows-not-zero (subst (CheckSays (checkLists stateNeed nodeNeed workNeed) text) same (check-says (checkLists stateNeed nodeNeed workNeed) text)) refl
+    shows-not-zero (subst (CheckSays asked text) (as-asked text ∙ e) (check-says asked text)) refl
 
 -- An answer that is no acceptance refuses the text.
 pub answer-refuses : (f : Found Tree) (r : Answer) → r ≡ answerOf f → ((cues nodes : ℕ) → r ≡ Accepted cues nodes → ⊥) → f ≡ refused r
@@ -42,13 +51,13 @@ answer-refuses (refused a) r e not = ap (λ (x : Answer). refused x) (sym e)
 -- An acceptance has found a case, whose fields are held.
 pub answer-finds : (text : List ℕ) (r : Answer) (cues nodes : ℕ) (fields : List ℕ) → r ≡ answerOf (fromText fromTree text) → r ≡ Accepted cues nodes
     → FieldsHeld (fromText fromTree text) fields
-    → (k : Case) × (t : Tree) × (fromText fromTree text ≡ found (k, t)) × IsRead k × Stands fields 0 (fieldsOf k)
+    → (k : Case) × (t : Tree) × (fromText fromTree text ≡ found (k, t)) × IsRead k × (text ≡ printed k) × Stands fields 0 (fieldsOf k)
 unfolding FieldsHeld
 answer-finds text r cues nodes fields e a held = go (fromText fromTree text) refl e held
   where
     go : (f : Found Tree) → fromText fromTree text ≡ f → r ≡ answerOf f → FieldsHeld f fields
-        → (k : Case) × (t : Tree) × (fromText fromTree text ≡ found (k, t)) × IsRead k × Stands fields 0 (fieldsOf k)
-    go (found (k, t)) q x (read, stands) = (k, t, q, read, stands)
+        → (k : Case) × (t : Tree) × (fromText fromTree text ≡ found (k, t)) × IsRead k × (text ≡ printed k) × Stands fields 0 (fieldsOf k)
+    go (found (k, t)) q x (read, stands) = (k, t, q, read, canonical text k (accepts-rules asked text k t (as-asked text ∙ q) .0), stands)
     go (refused b) q x h = absurd (no-refusal text cues nodes (q ∙ ap (λ (y : Answer). refused y) (sym x ∙ a)))
 
 -- ---- What the call answers and leaves
@@ -73,10 +82,10 @@ module _ (m : ℕ) {f : Found Tree} {n : ℕ} {r : Answer} {states work : List �
     output-then o q = ap (thenOutput m) e ∙ ap (λ (x : Result (Unit {0})). _>>_ {B = Case × Tree} x (found (k, t))) q
 
     -- The text is put out.
-    pub put-writes : {output : List ℕ} (bytes : ℕ) → PutAs k m (Put bytes) output → Writes (thenOutput m f) n m (record { answer = r; length = bytes }) states work output
+    pub put-writes : {output : List ℕ} (bytes : ℕ) → PutAs (written k) m (Put bytes) output → Writes (thenOutput m f) n m (record { answer = r; length = bytes }) states work output
     unfolding lengthAfter outputAfter
     put-writes bytes (long, count, stands) =
-        let same : thenOutput m f ≡ found (k, t) = output-then (found tt) long in
+        let same : thenOutput m f ≡ found (k, t) = output-then (found tt) (output-fits m k long) in
         let back : f ≡ thenOutput m f = e ∙ sym same in
         record {
           answer = told .answer ∙ ap answerOf back;
@@ -87,11 +96,12 @@ module _ (m : ℕ) {f : Found Tree} {n : ℕ} {r : Answer} {states work : List �
         }
 
     -- The output is too short: all lists are zero.
-    pub short-writes : {states′ output : List ℕ} (needed : ℕ) → PutAs k m (Short needed) output → states′ ≡ replicate n 0
+    pub short-writes : {states′ output : List ℕ} (needed : ℕ) → PutAs (written k) m (Short needed) output → states′ ≡ replicate n 0
         → Writes (thenOutput m f) n m (record { answer = ShortOutput needed; length = 0 }) states′ work output
     unfolding lengthAfter outputAfter statesAfter RecordsHeld
-    short-writes needed (short, zeros) cleared =
-        let same : thenOutput m f ≡ refused (ShortOutput needed) = output-then (refused (ShortOutput needed)) short in
+    short-writes needed (short, all, zeros) cleared =
+        let told = output-short m k short ∙ ap (λ (n : ℕ). refused (ShortOutput n)) (sym all) in
+        let same : thenOutput m f ≡ refused (ShortOutput needed) = output-then (refused (ShortOutput needed)) told in
         record {
           answer = sym (ap answerOf same);
           answered = sym (ap lengthAfter same);

@@ -1,20 +1,24 @@
 // The write call (02, Card 2) over plain lists: the check, and of an accepted case the tidy text. What it leaves in the work space are the
 // columns of the node records, which the call then gathers into the node list.
 ghost use mathlib.Core.Path.{_≡_};
-ghost use Prim.Native.Nat.{_<_};
+ghost use mathlib.Core.List.{List};
+ghost use Prim.Native.Nat.{_≤_, _<_};
 ghost use lib.ListN.{length, replicate};
-ghost use Rattle.rules.specs.Case.{Case};
+ghost use Rattle.rules.specs.Case.{Case, Valued};
 ghost use Rattle.rules.specs.Fields.{fieldsOf};
-ghost use Rattle.rules.specs.Verdict.{checkLists};
-ghost use Rattle.rules.specs.Writing.{write};
+ghost use Rattle.rules.specs.Print.{linesText, printed};
+ghost use Rattle.rules.specs.Verdict.{textMost, checkLists};
+ghost use Rattle.rules.specs.Writing.{written, write};
 ghost use Rattle.rules.proofs.Judgement.Rows.{fromText, fromTree};
 ghost use Rattle.fields.specs.Standing.{Stands};
 ghost use Rattle.fields.specs.Directory.{IsRead, Roomy};
 ghost use Rattle.judge.specs.Phases.{Cleared};
-ghost use Rattle.writer.specs.Writes.{Writes, PutAs, thenOutput};
+ghost use Rattle.output.specs.Output.{HasLines};
+ghost use Rattle.writer.specs.Writes.{Writes, lacked, PutAs, thenOutput};
 use fields::FIELDS;
 use judge::Admission;
 use rules::Answer;
+use rules::Header;
 
 // Room for the fields of a text of fewer than twice as many bytes: less to clear than what any text may need.
 const SMALL: usize = 2048;
@@ -39,25 +43,68 @@ fn refuse(output: &mut [u8], answer: Answer) -> Wrote
     Wrote { answer, length: 0 }
 }
 
-// The tidy text of the case whose fields these are. "14, output shorter than needed, checked last": nothing of it is put out then.
-fn put_tidy(fields: &mut [u32], output: &mut [u8]) -> Outcome
-    requires { ⌜ ((k : Case) × IsRead k × Stands (now fields) 0 (fieldsOf k)) ⌝ }
-    ensures { λ r. ⌜ ((k : Case) → IsRead k → Stands (now (fields .entry)) 0 (fieldsOf k) → PutAs k (length (now (output .entry))) r (now (output .exit))) ⌝ }
+// The bytes needed for the text of these fields, of at most `most`, if there is less room; 0 if there isn't. Where there is room for the most
+// nothing is measured.
+fn lacking(fields: &[u32], end: usize, cues: u32, most: usize, room: usize) -> usize
+    requires { ⌜ ((xs : List Valued) × HasLines cues (now fields) end xs × (length (linesText xs) ≤ most)) ⌝ }
+    requires { ⌜ end ≤ 32768 ⌝ }
+    ensures { λ r. ⌜ ((xs : List Valued) → HasLines cues (now (fields .entry)) end xs → length (linesText xs) ≤ most → r ≡ lacked (length (linesText xs)) room) ⌝ }
 {
-    let header = reading::header_of(fields);
+    if most <= room {
+        return 0;
+    }
+    let needed = output::measure(fields, end, cues);
+    if room < needed { needed } else { 0 }
+}
+
+// The tidy text of the case whose fields these are, of at most `most` bytes. "14, output shorter than needed, checked last": nothing of it is
+// put out then.
+fn put_sorted(most: usize, fields: &mut [u32], header: Header, output: &mut [u8]) -> Outcome
+    requires { ⌜ ((k : Case) × IsRead k × (k .head ≡ header) × Stands (now fields) 0 (fieldsOf k) × (length (written k) ≤ most)) ⌝ }
+    ensures { λ r. ⌜ ((k : Case) → IsRead k → k .head ≡ header → Stands (now (fields .entry)) 0 (fieldsOf k) → length (written k) ≤ most → PutAs (written k) (length (now (output .entry))) r (now (output .exit))) ⌝ }
+{
     let cues = header.cues;
     let end = tidying::tidy(fields, header);
-    let needed = output::measure(fields, end, cues);
-    if output.len() < needed {
+    let needed = lacking(fields, end, cues, most, output.len());
+    if needed > 0 {
         output::clear(output);
         return Outcome::Short {
             needed: needed as u32,
         };
     }
-    output::put_text(fields, end, cues, output);
+    let bytes = output::put_text(fields, end, cues, output);
     Outcome::Put {
-        bytes: needed as u32,
+        bytes: bytes as u32,
     }
+}
+
+// A text as it is.
+fn put_same(text: &[u8], output: &mut [u8]) -> Outcome
+    requires { ⌜ length (now text) ≤ textMost ⌝ }
+    ensures { λ r. ⌜ PutAs (now (text .entry)) (length (now (output .entry))) r (now (output .exit)) ⌝ }
+{
+    if output.len() < text.len() {
+        output::clear(output);
+        return Outcome::Short {
+            needed: text.len() as u32,
+        };
+    }
+    output::put_copy(text, output);
+    Outcome::Put {
+        bytes: text.len() as u32,
+    }
+}
+
+// The tidy text of the case that the text holds, and whose fields these are.
+fn put_tidy(text: &[u8], fields: &mut [u32], output: &mut [u8]) -> Outcome
+    requires { ⌜ ((k : Case) × IsRead k × (now text ≡ printed k) × Stands (now fields) 0 (fieldsOf k)) ⌝ }
+    ensures { λ r. ⌜ ((k : Case) → IsRead k → now (text .entry) ≡ printed k → Stands (now (fields .entry)) 0 (fieldsOf k) → PutAs (written k) (length (now (output .entry))) r (now (output .exit))) ⌝ }
+{
+    let header = reading::header_of(fields);
+    if tidying::is_tidy(fields, header) {
+        return put_same(text, output);
+    }
+    put_sorted(text.len(), fields, header, output)
 }
 
 // The rows from reading on, with room for the fields; then 14.
@@ -75,7 +122,7 @@ fn write_text(
     let Answer::Accepted { .. } = answer else {
         return refuse(output, answer);
     };
-    match put_tidy(fields, output) {
+    match put_tidy(text, fields, output) {
         Outcome::Put { bytes } => Wrote {
             answer,
             length: bytes,

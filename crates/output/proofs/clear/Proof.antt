@@ -1,6 +1,5 @@
 -- `clear`: zeros from the start on. Assumes nothing.
 use mathlib.Core.Path.{_∙_}
-use lib.ListN.{length, replicate, length-replicate}
 use Rattle.output.proofs.Putting.{sets-zero}
 use borrow.Author.Needs.{needs}
 use Rattle.output.proofs.clear.Statement.{statement}

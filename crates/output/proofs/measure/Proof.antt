@@ -1,10 +1,9 @@
 -- `measure`: the lines before `at` are measured (Lines). Assumes nothing.
-use Prim.Native.Nat.{_+_, _-_, _≤_}
+use Prim.Native.Nat.{_-_}
 use mathlib.Core.List.{List}
 use Rattle.rules.specs.Case.{Valued}
 use Rattle.output.specs.Output.{HasLines}
 use Rattle.output.proofs.Lines.{Measured, measured-starts, measured-due, measured-sum, measured-next, measured-ends, lines-most}
-use borrow.Author.Needs.{needs}
 use native.Mathlib.Omega.{arith}
 use Rattle.output.proofs.measure.Statement.{statement}
 use Rattle.output.proofs.measure.Tie as tie

@@ -64,7 +64,7 @@ add-put-number c =
     omega arith
 
 put-number-requires : tie.Need-put-number-requires Inv-loop μ-loop
-put-number-requires c κs = comma-room (c .before .before .before .loop .inv) (c .before .before .loop-test .taken)
+put-number-requires c κs = let r = comma-room (c .before .before .before .loop .inv) (c .before .before .loop-test .taken) in omega arith
 
 add-i-2 : tie.Need-add-i-2 Inv-loop μ-loop
 add-i-2 c = search needs

@@ -4,7 +4,6 @@ use mathlib.Core.List.{List}
 use Rattle.rules.specs.Case.{Valued}
 use Rattle.output.specs.Output.{HasLines}
 use Rattle.output.proofs.Lines.{Written, written-starts, written-due, written-size, written-room, written-next, written-ends}
-use borrow.Author.Needs.{needs}
 use native.Mathlib.Omega.{arith}
 use Rattle.output.proofs.put_lines.Statement.{statement}
 use Rattle.output.proofs.put_lines.Tie as tie

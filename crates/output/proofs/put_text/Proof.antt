@@ -36,10 +36,12 @@ returns c =
     let past = p .put-lines .result in
     let fits : past ≤ length (s .args .out .now) = let all = p .put-lines .ensures (x .0) (x .1) .1 in let room = x .2 in omega arith in
     λ xs h.
-    let e = p .put-lines .ensures xs h in
-    q .clear-from .ensures
-    ∙ (λ j. sets (e .0 j) past (replicate {A = ℕ} (length (e .0 j) - past) 0))
-    ∙ sets-filled (s .args .out .now) (linesText xs) past (e .1) fits
+    let e = p .put-lines .ensures xs h in (
+      q .clear-from .ensures
+          ∙ (λ j. sets (e .0 j) past (replicate {A = ℕ} (length (e .0 j) - past) 0))
+          ∙ sets-filled (s .args .out .now) (linesText xs) past (e .1) fits,
+      e .1,
+    )
 
 pub put-text-spec : {M : Type 1} → statement M
 put-text-spec = tie.close (tie.spec put-lines-requires clear-from-requires same-length returns)

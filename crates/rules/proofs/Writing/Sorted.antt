@@ -26,6 +26,11 @@ ascending [] r = tt
 ascending (c ∷ []) r = tt
 ascending (c ∷ d ∷ ds) r = (r .0 d (here refl), ascending (d ∷ ds) (r .1))
 
+rising : (cs : List Constraint) → Ascending cs → Rising cs
+rising [] a = tt
+rising (c ∷ []) a = (each-nil (After c), tt)
+rising (c ∷ d ∷ ds) (e, a) = let r = rising (d ∷ ds) a in (each-cons (After c) d ds e (λ x m. precedes-trans c d x e (r .0 x m)), r)
+
 -- ---- One constraint put among others
 
 -- What holds of the result where c comes first, where it comes later, and where it is there already holds of the result.
@@ -133,6 +138,10 @@ same-sorted cs ds w =
       λ m. sorted-same ds c .1 (w c .0 (sorted-same cs c .0 m)),
       λ m. sorted-same cs c .1 (w c .1 (sorted-same ds c .0 m)),
     ))
+
+-- Constraints in order are sorted already.
+pub ascending-sorted : (cs : List Constraint) → Ascending cs → sorted cs ≡ cs
+ascending-sorted cs a = rising-one (sorted cs) cs (sorted-rises cs) (rising cs a) (sorted-same cs)
 
 pub sorted-back : (cs ds : List Constraint) → sorted cs ≡ sorted ds → SameConstraints cs ds
 sorted-back cs ds e c = (

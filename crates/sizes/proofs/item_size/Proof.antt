@@ -1,6 +1,5 @@
 -- `item_size`: by the byte of the item (Items). Assumes nothing.
 use Rattle.sizes.proofs.Items.{one-size, list-size, cues-size}
-use borrow.Author.Needs.{needs}
 use native.Mathlib.Omega.{arith}
 use Rattle.sizes.proofs.item_size.Statement.{statement}
 use Rattle.sizes.proofs.item_size.Tie as tie

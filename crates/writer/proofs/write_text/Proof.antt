@@ -3,6 +3,7 @@ use Prim.Native.Nat.{ℕ}
 use borrow.Author.Needs.{needs}
 use lib.ListN.{length, replicate}
 use mathlib.Core.Path.{_≡_, ap, _∙_, subst}
+use Rattle.rules.specs.Writing.{written}
 use Rattle.judge.proofs.Tags.{not-accepted}
 use Rattle.writer.specs.declared.Outcome.{Outcome}
 use Rattle.writer.specs.Writes.{PutAs}
@@ -43,8 +44,8 @@ put-tidy-requires c κs =
     let s = c .before .before .before .before .before .before .before .before .before .before .before .before .before .before .before .before .before .before .before in
     let j = c .before .before .before .before .before .before .before .before .before .before .judge-text in
     let x = c .before .before .enum-told .given in
-    let (k, t, _, read, stands) = answer-finds (s .args .text .now) _ _ _ (j .last .1 .1 .1 .0) (j .ensures .0 .answer) (x .1) (j .ensures .1) in
-    (k, read, stands)
+    let (k, t, _, read, same, stands) = answer-finds (s .args .text .now) _ _ _ (j .last .1 .1 .1 .0) (j .ensures .0 .answer) (x .1) (j .ensures .1) in
+    (k, read, same, stands)
 
 enum-known-bytes : tie.Need-enum-known-bytes
 enum-known-bytes c = search needs
@@ -72,9 +73,9 @@ returns-2 c =
     let s = c .before .before .before .before .before .before .before .before .before .before .before .before .before .before .before .before .before .before .before .before .before .before .before .before .before .before .before in
     let j = c .before .before .before .before .before .before .before .before .before .before .before .before .before .before .before .before .before .before .judge-text in
     let x = c .before .before .before .before .before .before .before .before .before .before .enum-told .given in
-    let (k, t, e, read, stands) = answer-finds (s .args .text .now) _ _ _ (j .last .1 .1 .1 .0) (j .ensures .0 .answer) (x .1) (j .ensures .1) in
+    let (k, t, e, read, same, stands) = answer-finds (s .args .text .now) _ _ _ (j .last .1 .1 .1 .0) (j .ensures .0 .answer) (x .1) (j .ensures .1) in
     let p = c .before .bytes .given in
-    put-writes (length (s .args .output .now)) (j .ensures .0) e (p .0 .0) (subst (λ (o : Outcome). PutAs k (length (s .args .output .now)) o (c .before .before .before .before .before .before .before .put-tidy .last .1 .0)) (p .1) (c .before .before .before .before .before .before .before .put-tidy .ensures k read stands))
+    put-writes (length (s .args .output .now)) (j .ensures .0) e (p .0 .0) (subst (λ (o : Outcome). PutAs (written k) (length (s .args .output .now)) o (c .before .before .before .before .before .before .before .put-tidy .last .1 .1 .0)) (p .1) (c .before .before .before .before .before .before .before .put-tidy .ensures k read same stands))
 
 same-length-9 : tie.Need-same-length-9
 same-length-9 c = search needs
@@ -93,10 +94,10 @@ returns-3 c =
     let s = c .before .before .before .before .before .before .before .before .before .before .before .before .before .before .before .before .before .before .before .before .before .before .before .before .before .before .before .before .before .before .before in
     let j = c .before .before .before .before .before .before .before .before .before .before .before .before .before .before .before .before .before .before .before .before .before .before .judge-text in
     let x = c .before .before .before .before .before .before .before .before .before .before .before .before .before .before .enum-told .given in
-    let (k, t, e, read, stands) = answer-finds (s .args .text .now) _ _ _ (j .last .1 .1 .1 .0) (j .ensures .0 .answer) (x .1) (j .ensures .1) in
+    let (k, t, e, read, same, stands) = answer-finds (s .args .text .now) _ _ _ (j .last .1 .1 .1 .0) (j .ensures .0 .answer) (x .1) (j .ensures .1) in
     let p = c .before .before .before .before .before .needed .given in
     let kept : length (j .last .1 .0) ≡ length (s .args .states .now) = j .kept .1 .0 in
-    short-writes (length (s .args .output .now)) (j .ensures .0) e (p .0 .0) (subst (λ (o : Outcome). PutAs k (length (s .args .output .now)) o (c .before .before .before .before .before .before .before .before .before .before .before .put-tidy .last .1 .0)) (p .1) (c .before .before .before .before .before .before .before .before .before .before .before .put-tidy .ensures k read stands))
+    short-writes (length (s .args .output .now)) (j .ensures .0) e (p .0 .0) (subst (λ (o : Outcome). PutAs (written k) (length (s .args .output .now)) o (c .before .before .before .before .before .before .before .before .before .before .before .put-tidy .last .1 .1 .0)) (p .1) (c .before .before .before .before .before .before .before .before .before .before .before .put-tidy .ensures k read same stands))
     (c .before .before .clear .ensures ∙ ap (λ (n : ℕ). replicate n 0) kept)
 
 pub write-text-spec : {M : Type 1} → statement M
