@@ -55,6 +55,7 @@ module _ (text : List ℕ) (lists : List Lent) (size : ℕ) where
       go (found (k, t)) e a =
           record {
             checked = reported (Accepted (k .head .cues) (k .head .nodes));
+            is = ap (λ (f : Found Tree). reported (answerOf f)) (sym e);
             demand2 = subst (λ (f : Found Tree). Demand2 text lists (reported (answerOf f))) e (demand-2 text lists);
             demand3 = subst (λ (f : Found Tree). Demand3 text lists (reported (answerOf f))) e (demand-3 text lists);
             refused = λ no. absurd (no refl);
@@ -63,6 +64,7 @@ module _ (text : List ℕ) (lists : List Lent) (size : ℕ) where
       go (refused r) e b =
           record {
             checked = reported r;
+            is = ap (λ (f : Found Tree). reported (answerOf f)) (sym e);
             demand2 = subst (λ (f : Found Tree). Demand2 text lists (reported (answerOf f))) e (demand-2 text lists);
             demand3 = subst (λ (f : Found Tree). Demand3 text lists (reported (answerOf f))) e (demand-3 text lists);
             refused = λ no. refl;
