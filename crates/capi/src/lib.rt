@@ -2,6 +2,7 @@
 use rules::Answer;
 use rules::Node;
 use state::State;
+use state::WORDS;
 use writer::Wrote;
 ghost use mathlib.Core.Path.{_≡_};
 ghost use lib.ListN.{length};
@@ -143,11 +144,11 @@ pub extern "C" fn cuecheck_write(
 // The step call: 1 and the next state in the place of the state; or 0, and the state as it came.
 #[no_mangle]
 pub extern "C" fn cuecheck_step(
-    state: &mut [u64; 4],
-    needed: &[u64; 4],
-    forbidden: &[u64; 4],
-    added: &[u64; 4],
-    deleted: &[u64; 4],
+    state: &mut [u64; WORDS],
+    needed: &[u64; WORDS],
+    forbidden: &[u64; WORDS],
+    added: &[u64; WORDS],
+    deleted: &[u64; WORDS],
 ) -> u32
     ensures { λ r. ⌜ (r, now (state .exit)) ≡ stepReply (step (now (state .entry)) (record { needed = now (needed .entry); forbidden = now (forbidden .entry); added = now (added .entry); deleted = now (deleted .entry) })) ⌝ }
 {

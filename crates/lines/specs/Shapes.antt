@@ -6,6 +6,7 @@ use mathlib.Core.Option.{Option, none, some}
 use Prim.Native.Nat.{ℕ, zero, suc, _/_, _%_}
 use lib.Dec.{eqb, ltb}
 use lib.ListN.{getD}
+use Rattle.rules.specs.State.{propositionMost}
 use Rattle.rules.specs.Table as T
 use Rattle.rules.specs.Table.{Kind, Item, one, set, subtaskList, cues, Row, roleNumber}
 
@@ -15,7 +16,7 @@ kinds =
     T.task
     ∷ T.goal
     ∷ T.otherSubtask
-    ∷ T.upTo 256
+    ∷ T.upTo propositionMost
     ∷ T.upTo 1024
     ∷ T.upTo 2048
     ∷ T.upTo 1000

@@ -5,6 +5,7 @@ ghost use Rattle.rules.specs.Case.{headerIn};
 ghost use Rattle.lines.specs.Ranges.{allBelow, knownOf, Known};
 use crate::range::KNOWN;
 use rules::Header;
+use rules::PROPOSITIONS;
 
 // A range, as its least and its greatest number: there is none if the least is above the greatest.
 struct Bounds(u32, u32);
@@ -49,7 +50,7 @@ pub fn known(h: Header) -> [u32; KNOWN]
         0,
         // 3 to 7: the counts of the N line.
         0,
-        256,
+        PROPOSITIONS,
         0,
         1024,
         0,

@@ -13,11 +13,16 @@ use lib.ListN.{length, getD, List·getD-eq-default, length-set}
 use lib.Seq.{getD-set-same, getD-set-other}
 use lib.Bits.{bitAnd, bitOr, xor-lt, and-le-l}
 use borrow.Author.Tests.{eq-eqb, ne-eqb, eqb-true}
-use Rattle.rules.specs.State.{wordCount, State, Action, word, bit, member, noPropositions, insert, without, appliesWord, applies, nextWord, next}
+use Rattle.rules.specs.State.{wordCount, propositionMost, State, Action, word, bit, member, noPropositions, insert, without, appliesWord, applies, nextWord, next}
 use Rattle.rules.proofs.Bits.{bit-and, bit-or, bit-without, bit-zero, bit-pow, no-bits}
 use Rattle.rules.proofs.Tables.{length-tabulate, getD-tabulate-zero, and-left, and-right, and-both, every-at, every-of}
 
 -- ---- words past the end, and the number of a proposition
+
+-- A state has a bit for each proposition that a model may have.
+pub propositions-fit : propositionMost ≤ 64 * wordCount
+unfolding propositionMost wordCount
+propositions-fit = omega arith
 
 -- Past its last word a set has no member.
 pub member-past : (s : State) (p : ℕ) → length s ≤ p / 64 → member s p ≡ false

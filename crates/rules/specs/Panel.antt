@@ -14,6 +14,7 @@ use Rattle.rules.specs.Case as Ca
 use Rattle.rules.specs.Tree as Tr
 use Rattle.rules.specs.Constraint as Co
 use Rattle.rules.specs.Verdict as Ve
+use Rattle.rules.specs.Demands as De
 use Rattle.rules.specs.Fields as Fi
 use Rattle.rules.specs.Print as Pr
 use Rattle.rules.specs.Writing as Wr
@@ -21,7 +22,8 @@ use Rattle.rules.specs.Line as Li
 use Rattle.rules.specs.Index.{Span}
 use Rattle.rules.specs.Tree.{Tree, preorder, span}
 use Rattle.rules.specs.Result.{found as seen, refused}
-use Rattle.rules.specs.Verdict.{Found, check, checkLists, answerOf}
+use Rattle.rules.specs.Verdict.{Found, check, answerOf}
+use Rattle.rules.specs.Demands.{asAsked}
 use Rattle.rules.specs.Writing.{written, write}
 use Rattle.rules.specs.Line.{printedAnswer}
 
@@ -127,7 +129,7 @@ writtenTable =
 
 -- With lists as long as 01 asks.
 abbrev checked : Panel → Found Tree
-checked p = check (checkLists 4004 3000 16384) (textOf (p .lines))
+checked p = check asAsked (textOf (p .lines))
 
 abbrev spansOf : Found Tree → List Span
 spansOf (seen (k, t)) = map span (preorder t)
@@ -142,7 +144,7 @@ Answered cases = map (λ p. printedAnswer (answerOf (checked p))) cases ≡ map 
 
 -- What the write call answers and puts out.
 abbrev wrote : Written → Found Tree
-wrote w = write (checkLists 4004 3000 16384) (w .room) (textOf (w .lines))
+wrote w = write asAsked (w .room) (textOf (w .lines))
 
 abbrev putOut : Found Tree → List ℕ
 putOut (seen (k, t)) = written k
@@ -155,5 +157,5 @@ Puts cases =
 
 -- Each case is answered as 01 prints it; "a. [..] doubled spans 1-4, 1-1, 2-2, 4-4"; and as Cards 1 and 2 have it.
 pub answers : Answered table × (spansOf (checked caseA) ≡ doubled 1 4 ∷ doubled 1 1 ∷ doubled 2 2 ∷ doubled 4 4 ∷ []) × Answered signedTable × Puts writtenTable
-unfolding St.wordCount St.bit St.member St.noPropositions St.insert St.without St.appliesWord St.applies St.nextWord St.next St.noAction St.actionAt St.states St.stateAt St.firstStop Ix.ofCue Ix.ofGap Ix.at Ix.least Ix.greatest Ix.hull Ix.partOf Ix.only Ix.pick Ix.spanOfPart Ix.roundedUp Ix.roundedDown Ix.c Ix.f Ix.isBefore Tx.isFeed Tx.isComma Tx.isDigit Tx.endsField Tx.isPlain Tx.numberAt Tx.letterAt Tx.endingAt Tx.feedFollows Tb.table Tb.rowOf Tb.roleNumber Tb.isCompound Tb.inRange Tb.readList Tb.readItem Tb.readLine Ca.noMethod Ca.methodAt Ca.scalarAt Ca.membersAt Ca.setAt Ca.headerOf Ca.initialOf Ca.actionOf Ca.signOf Ca.constraintOf Ca.asConstraint Ca.planOf Ca.nodeOf Ca.asNode Ca.oneLine Ca.oneMethod Ca.noSurplus Ca.readBody Ca.noHeader Ca.readFrom Ca.readCase Tr.preorder Tr.preorders Tr.rootLine Tr.span Tr.spans Tr.subtaskSpans Tr.noSubtasks Tr.isMethodOf Tr.fits Tr.isIn Tr.mayClaim Tr.walkNode Tr.levelCount Tr.walkTree Co.signed Co.holdsIn Co.holdsFrom Co.keeps Co.constraintsOf Co.partsOf Co.brokenAt Co.firstBroken Ve.reported Ve.stateNeed Ve.nodeNeed Ve.workNeed Ve.checkLists Ve.statesOf Ve.planRuns Ve.allClaimed Ve.noneBroken Ve.textMost Ve.check Tx.decimal Li.printedAnswer Fi.lineFields Fi.propositionsOf Fi.headerLine Fi.initialLine Fi.actionLine Fi.constraintLine Fi.methodLines Fi.cuesLine Fi.nodeLine Fi.linesOf Fi.planLineOf Pr.lineText Pr.printed Wr.rank Wr.sortKey Wr.precedes Wr.sorted Wr.tidiedMethod Wr.tidied Wr.written Wr.outputLong Wr.write flatten
+unfolding St.wordCount St.propositionMost St.bit St.member St.noPropositions St.insert St.without St.appliesWord St.applies St.nextWord St.next St.noAction St.actionAt St.states St.stateAt St.firstStop Ix.ofCue Ix.ofGap Ix.at Ix.least Ix.greatest Ix.hull Ix.partOf Ix.only Ix.pick Ix.spanOfPart Ix.roundedUp Ix.roundedDown Ix.c Ix.f Ix.isBefore Tx.isFeed Tx.isComma Tx.isDigit Tx.endsField Tx.isPlain Tx.numberAt Tx.letterAt Tx.endingAt Tx.feedFollows Tb.table Tb.rowOf Tb.roleNumber Tb.isCompound Tb.inRange Tb.readList Tb.readItem Tb.readLine Ca.noMethod Ca.methodAt Ca.scalarAt Ca.membersAt Ca.setAt Ca.headerOf Ca.initialOf Ca.actionOf Ca.signOf Ca.constraintOf Ca.asConstraint Ca.planOf Ca.nodeOf Ca.asNode Ca.oneLine Ca.oneMethod Ca.noSurplus Ca.readBody Ca.noHeader Ca.readFrom Ca.readCase Tr.preorder Tr.preorders Tr.rootLine Tr.span Tr.spans Tr.subtaskSpans Tr.noSubtasks Tr.isMethodOf Tr.fits Tr.isIn Tr.mayClaim Tr.walkNode Tr.levelCount Tr.walkTree Co.signed Co.holdsIn Co.holdsFrom Co.keeps Co.constraintsOf Co.partsOf Co.brokenAt Co.firstBroken Ve.reported De.asAsked Ve.stateNeed Ve.nodeNeed Ve.workNeed Ve.checkLists Ve.statesOf Ve.planRuns Ve.allClaimed Ve.noneBroken Ve.textMost Ve.check Tx.decimal Li.printedAnswer Fi.lineFields Fi.propositionsOf Fi.headerLine Fi.initialLine Fi.actionLine Fi.constraintLine Fi.methodLines Fi.cuesLine Fi.nodeLine Fi.linesOf Fi.planLineOf Pr.lineText Pr.printed Wr.rank Wr.sortKey Wr.precedes Wr.sorted Wr.tidiedMethod Wr.tidied Wr.written Wr.outputLong Wr.write flatten
 answers = (refl, refl, refl, (refl, refl))

@@ -6,7 +6,7 @@ use mathlib.Core.List.{List}
 use Prim.Native.Nat.{ℕ, _+_, _^_, _≤_, _<_}
 use lib.ListN.{length}
 use Rattle.rules.specs.declared.Header.{Header}
-use Rattle.rules.specs.State.{State, Action, noPropositions, insertAll}
+use Rattle.rules.specs.State.{State, Action, propositionMost, noPropositions, insertAll}
 use Rattle.rules.specs.Case.{Constraint, O, B, F, W, Method, NodeLine, D, E, L, Case}
 use Rattle.rules.specs.Fields.{propositionsOf, planLineOf}
 use Rattle.rules.specs.Refusals.{Each}
@@ -14,7 +14,7 @@ use Rattle.rules.specs.Refusals.{Each}
 -- "propositions (0 to 256), actions (0 to 1,024), compound tasks (0 to 1,024), methods (0 to 2,048), goal, k (0 to 1,000), nodes (1 to
 -- 3,000) [..] the goal is compound."
 pub record GoodHeader (h : Header) : Type 0 where
-  pub few-propositions : h .propositions ≤ 256
+  pub few-propositions : h .propositions ≤ propositionMost
   pub few-actions : h .actions ≤ 1024
   pub few-compounds : h .compounds ≤ 1024
   pub few-methods : h .methods ≤ 2048

@@ -8,6 +8,7 @@ use Prim.Native.Char.{Char, code}
 use lib.Dec.{eqb, leb, ltb}
 use lib.ListN.{length, getD}
 use Rattle.rules.specs.declared.Header.{Header}
+use Rattle.rules.specs.State.{propositionMost}
 use Rattle.rules.specs.Text.{Number, number, notPlain, missing, numberAt, Letter, letter, noLetter, letterAt, Ending, ended, surplus, endingAt, feedFollows}
 
 -- The lines of a case, by what is due there.
@@ -38,7 +39,7 @@ row l r is = record { letter = code l; role = r; items = is }
 unfoldable pub table : List Row
 table =
     row "N" header
-    (one (upTo 256) ∷ one (upTo 1024) ∷ one (upTo 1024) ∷ one (upTo 2048) ∷ one goal ∷ one (upTo 1000) ∷ one (oneUpTo 3000) ∷ [])
+    (one (upTo propositionMost) ∷ one (upTo 1024) ∷ one (upTo 1024) ∷ one (upTo 2048) ∷ one goal ∷ one (upTo 1000) ∷ one (oneUpTo 3000) ∷ [])
     ∷ row "I" initial (set ∷ [])
     ∷ row "A" action (set ∷ set ∷ set ∷ set ∷ [])
     ∷ row "M" method (one compound ∷ subtaskList ∷ one (upTo 64) ∷ [])

@@ -57,9 +57,13 @@ pub record Lent : Type 0 where
 abbrev pub lent : ℕ → ℕ → ℕ → Lent
 lent i s n = record { item = i; size = s; need = n }
 
+-- "states 0 to k", "k (0 to 1,000)": how many states at most.
+abbrev pub stateMost : ℕ
+stateMost = 1001
+
 -- "a state list of at least 4,004 64-bit numbers, a list of at least 3,000 node records, and work space of at least 16,384 32-bit numbers"
 unfoldable pub stateNeed : ℕ
-stateNeed = 1001 * wordCount
+stateNeed = stateMost * wordCount
 
 unfoldable pub nodeNeed : ℕ
 nodeNeed = 3000

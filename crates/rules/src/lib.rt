@@ -1,7 +1,7 @@
 // The types that document 01 lends to its callers; what they mean is in specs/.
 
 // What 01 asks of the lent lists and of a text: "states 0 to k" of at most 1,000 cues, the node records, the work space, the text's bytes. The
-// definitions' stateNeed (in states), nodeNeed, workNeed and textMost.
+// definitions' stateMost, nodeNeed, workNeed and textMost.
 pub const STATES: usize = 1001;
 
 pub const NODES: usize = 3000;
@@ -9,6 +9,9 @@ pub const NODES: usize = 3000;
 pub const WORK: usize = 16384;
 
 pub const TEXT: usize = 65535;
+
+// How many propositions a model may have: the definitions' propositionMost.
+pub const PROPOSITIONS: u32 = 256;
 
 // The header line's numbers.
 pub struct Header {

@@ -14,7 +14,7 @@ use Rattle.fields.specs.Standing.{Stands}
 use Rattle.fields.proofs.Standing.{stands-left, stands-right, stands-rest, stands-first, stands-inside, stands-as}
 use Rattle.fields.proofs.Lines.{setFields, initial-fields, action-fields}
 use Rattle.rows.specs.Rows.{rowAt}
-use Rattle.running.specs.Sets.{membersAt, past, actionIn}
+use Rattle.running.specs.Sets.{membersAt, past, setCount, actionIn}
 
 -- ---- The loop over a set's members: those from i to the end
 
@@ -101,7 +101,7 @@ setsOf a = a .needed ∷ a .forbidden ∷ a .added ∷ a .deleted ∷ []
 
 module _ (fields : List ℕ) (at : ℕ) (a : Action) (here : Stands fields at (lineFields (actionLine a))) where
   -- The four sets of an A line stand after its letter, one after the other.
-  set-here : (i : ℕ) → i < 4 → Stands fields (placeOf fields (at + 1) i) (fromSet (setsOf a) i)
+  set-here : (i : ℕ) → i < setCount → Stands fields (placeOf fields (at + 1) i) (fromSet (setsOf a) i)
   set-here =
       sets-here fields (at + 1) (setsOf a)
       (stands-rest fields at 65 (allFields (setsOf a))
@@ -110,15 +110,15 @@ module _ (fields : List ℕ) (at : ℕ) (a : Action) (here : Stands fields at (l
       ∙ ap (λ (l : List ℕ). 65 ∷ (setFields (a .needed) ++ (setFields (a .forbidden) ++ (setFields (a .added) ++ l)))) (sym (append-nil (setFields (a .deleted)))))
       here))
 
-  pub action-inside : (i : ℕ) → i < 4 → past fields (placeOf fields (at + 1) i) ≤ length fields
+  pub action-inside : (i : ℕ) → i < setCount → past fields (placeOf fields (at + 1) i) ≤ length fields
   action-inside i h =
       set-inside fields (placeOf fields (at + 1) i) (getD (setsOf a) i noPropositions) (allFields (drop (suc i) (setsOf a))) (set-here i h)
 
   pub action-is : (words : List ℕ)
-      → ((i : ℕ) → i < 4 → rowAt words i ≡ insertAll noPropositions (membersAt fields (placeOf fields (at + 1) i))) → GoodAction a → actionIn words ≡ a
+      → ((i : ℕ) → i < setCount → rowAt words i ≡ insertAll noPropositions (membersAt fields (placeOf fields (at + 1) i))) → GoodAction a → actionIn words ≡ a
   unfolding actionIn
   action-is words rows good =
-      let set : (i : ℕ) → i < 4 → IsSet (getD (setsOf a) i noPropositions) → rowAt words i ≡ getD (setsOf a) i noPropositions =
+      let set : (i : ℕ) → i < setCount → IsSet (getD (setsOf a) i noPropositions) → rowAt words i ≡ getD (setsOf a) i noPropositions =
       λ i h kept. rows i h
       ∙ set-is fields (placeOf fields (at + 1) i) (getD (setsOf a) i noPropositions) (allFields (drop (suc i) (setsOf a))) (set-here i h) kept in
       let needed = set 0 (omega arith) (good .needed-set) in

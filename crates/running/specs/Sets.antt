@@ -29,9 +29,13 @@ IsAction fields at x = (a : Action) → GoodAction a → Stands fields at (lineF
 abbrev pub IsStep : List ℕ → ℕ → State → Stepped → Type 0
 IsStep fields at s x = (a : Action) → GoodAction a → Stands fields at (lineFields (actionLine a)) → (x .ok, x .state .words) ≡ step s a
 
--- An action's four sets as words: how many, and the action that they are.
+-- "An action has four sets"
+abbrev pub setCount : ℕ
+setCount = 4
+
+-- An action's sets as words: how many, and the action that they are.
 abbrev pub actionSize : ℕ
-actionSize = 4 * wordCount
+actionSize = setCount * wordCount
 
 unfoldable pub actionIn : List ℕ → Action
 actionIn words = record { needed = rowAt words 0; forbidden = rowAt words 1; added = rowAt words 2; deleted = rowAt words 3 }

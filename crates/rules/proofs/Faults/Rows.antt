@@ -9,6 +9,7 @@ use lib.Dec.{eqb}
 use lib.ListN.{length, getD}
 use lib.Seq.{getD-append-seam}
 use Rattle.rules.specs.Table.{Role, header, initial, action, method, constraint, plan, node, Kind, upTo, oneUpTo, goal, compound, Item, one, subtaskList, Row, table, rowIn, rowOf, Value, numberOf}
+use Rattle.rules.specs.State.{propositionMost}
 use Rattle.rules.specs.Case.{scalarAt}
 use Rattle.rules.proofs.Faults.Items.{aNumber, aList, HoldAll, over, more}
 
@@ -43,7 +44,7 @@ AllRows (r ∷ rs) = RowMeans r × AllRows rs
 all-rows : AllRows table
 unfolding table
 all-rows = (
-  λ vs ns o. header-means (upTo 256 ∷ upTo 1024 ∷ upTo 1024 ∷ upTo 2048 ∷ goal ∷ upTo 1000 ∷ oneUpTo 3000 ∷ []) o,
+  λ vs ns o. header-means (upTo propositionMost ∷ upTo 1024 ∷ upTo 1024 ∷ upTo 2048 ∷ goal ∷ upTo 1000 ∷ oneUpTo 3000 ∷ []) o,
   (any, (any, (λ vs ns o. method-means o, (any, (any, (any, (any, (any, (any, (any, (any, (any, (any, (any, tt)))))))))))))),
 )
   where

@@ -11,12 +11,13 @@ use lib.ListN.{length}
 use borrow.Author.Tests.{leb-true, ltb-true, eqb-false, not-true}
 use Rattle.rules.specs.declared.Header.{Header}
 use Rattle.rules.specs.declared.Answer.the-variants.{Unreadable}
-use Rattle.rules.specs.State.{State, Action, wordCount, noPropositions, insertAll}
+use Rattle.rules.specs.State.{State, Action, wordCount, propositionMost, noPropositions, insertAll}
 use Rattle.rules.specs.Table.{Value, header, initial, action, method, constraint, plan, node, table, roleNumber, isCompound, inRange}
 use Rattle.rules.specs.Result.{Result, found, refused, _>>_}
 use Rattle.rules.specs.Case.{Constraint, O, B, F, W, Method, NodeLine, D, E, L, Case, scalarAt, membersAt, setAt, headerOf, initialOf, actionOf, constraintOf, asConstraint, planOf, nodeOf, asNode, oneLine, many, oneMethod, noSurplus, readBody, noHeader, readFrom, readCase}
 use Rattle.rules.specs.Fields.{propositionsOf}
 pub use Rattle.rules.specs.Ranges.{GoodHeader, GoodConstraint, GoodMethod, GoodNode, IsSet, GoodAction, Sound}
+use Rattle.rules.proofs.Members.{propositions-fit}
 use Rattle.rules.proofs.Fields.{Ascends, set-back}
 use Rattle.rules.proofs.Worded.{Worded, all-worded}
 use Rattle.rules.proofs.Judgement.Each.{Each, each-nil, each-tail, each-weaken, both-true}
@@ -89,12 +90,11 @@ node-good h = (
 )
 
 -- The members of a set ascend, below as many propositions as a state has bits.
-pub ascends : (top low : ℕ) (vs : List ℕ) → top ≤ 256 → Each (λ v. ltb v top ≡ true) vs → Rises true low vs → Ascends low (64 * wordCount) vs
-unfolding wordCount
+pub ascends : (top low : ℕ) (vs : List ℕ) → top ≤ propositionMost → Each (λ v. ltb v top ≡ true) vs → Rises true low vs → Ascends low (64 * wordCount) vs
 ascends top low [] few hs r = tt
 ascends top low (v ∷ vs) few hs r =
     let below : v < top = ltb-true v top (hs v (here refl)) in
-    (leb-true low v (r .0), omega arith, ascends top (v + 1) vs few (each-tail (λ v. ltb v top ≡ true) v vs hs) (r .1))
+    (leb-true low v (r .0), omega (arith, propositions-fit), ascends top (v + 1) vs few (each-tail (λ v. ltb v top ≡ true) v vs hs) (r .1))
 
 set-good : (h : Header) (vs : List ℕ) → GoodHeader h → Each (λ v. ltb v (h .propositions) ≡ true) vs → Rises true 0 vs → IsSet (insertAll noPropositions vs)
 set-good h vs good hs r = set-back vs (ascends (h .propositions) 0 vs (good .few-propositions) hs r)

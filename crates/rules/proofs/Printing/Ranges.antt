@@ -11,7 +11,7 @@ use lib.ListN.{length}
 use borrow.Author.Tests.{le-leb, lt-ltb, ne-eqb}
 use Rattle.rules.specs.declared.Header.{Header}
 use Rattle.rules.specs.declared.Sign.the-variants.{Positive, Negative}
-use Rattle.rules.specs.State.{State, Action, wordCount, member}
+use Rattle.rules.specs.State.{State, Action, wordCount, propositionMost, member}
 use Rattle.rules.specs.Table.{header, initial, action, method, constraint, plan, node, set, table, rowOf, roleNumber, isCompound, inRange, scalar, listed}
 use Rattle.rules.specs.Case.{Constraint, O, B, F, W, Method, NodeLine, D, E, L, Valued, noHeader}
 use Rattle.rules.specs.Fields.{propositionsFrom, propositionsOf, setValue, headerLine, initialLine, actionLine, constraintLine, cuesLine, nodeLine}
@@ -21,6 +21,11 @@ use Rattle.rules.proofs.Fields.{Ascends}
 use Rattle.rules.proofs.Judgement.Each.{Each, each-tail}
 use Rattle.rules.proofs.Printing.Numbers.{Plain}
 use Rattle.rules.proofs.Printing.Tests.{OkMembers, OkItem, OkLine}
+
+-- A count of propositions is a plain number.
+most-plain : Plain propositionMost
+unfolding propositionMost
+most-plain = omega arith
 
 -- ---- Lists
 
@@ -60,7 +65,7 @@ set-ok h n before s good f =
     let few = good .few-propositions in
     let a = from-ascends s (h .propositions) (64 * wordCount) 0 0 (omega arith) f in
     let l : length (propositionsFrom s (64 * wordCount) 0) ≤ h .propositions = omega (arith, ascends-length (h .propositions) 0 (propositionsOf s) a) in
-    (le-leb (length (propositionsOf s)) (h .propositions) l, omega arith, ascends-ok (h .propositions) 0 (propositionsOf s) (omega arith) a)
+    (le-leb (length (propositionsOf s)) (h .propositions) l, omega (arith, most-plain), ascends-ok (h .propositions) 0 (propositionsOf s) (omega (arith, most-plain)) a)
 
 -- ---- Lines
 
@@ -76,7 +81,7 @@ x then y = (x, y)
 pub header-ok : (h : Header) → GoodHeader h → OkLine noHeader 0 header (headerLine h)
 unfolding OkLine headerLine rowOf table roleNumber inRange isCompound
 header-ok h g =
-    refl then (le-leb (h .propositions) 256 (g .few-propositions), omega arith) then (le-leb (h .actions) 1024 (g .few-actions), omega arith)
+    refl then (le-leb (h .propositions) propositionMost (g .few-propositions), omega (arith, most-plain)) then (le-leb (h .actions) 1024 (g .few-actions), omega arith)
     then (le-leb (h .compounds) 1024 (g .few-compounds), omega arith) then (le-leb (h .methods) 2048 (g .few-methods), omega arith)
     then (and-both (le-leb (h .actions) (h .goal) (g .goal-least)) (lt-ltb (h .goal) (h .actions + h .compounds) (g .goal-below)), omega arith)
     then (le-leb (h .cues) 1000 (g .few-cues), omega arith)
@@ -106,7 +111,7 @@ module _ (h : Header) (good : GoodHeader h) where
       then (le-leb (length (m .constraints)) 64 (g .few-constraints), omega arith) then tt
 
   proposition-ok : (p : ℕ) → p < h .propositions → (ltb p (h .propositions) ≡ true) × Plain p
-  proposition-ok p b = (lt-ltb p (h .propositions) b, omega arith)
+  proposition-ok p b = (lt-ltb p (h .propositions) b, omega (arith, most-plain))
 
   -- A set of subtasks is a plain number, as a method has at most 32 subtasks.
   subtasks-ok : (count : ℕ) → count ≤ 32 → (u : ℕ) → u < 2 ^ count → (ltb u (2 ^ count) ≡ true) × Plain u

@@ -73,7 +73,8 @@ zero64 = (refl, omega arith)
 zero32 : Is u32 0 (vint w32 0 ∷ [])
 zero32 = (refl, omega arith)
 
-room64 : Room u64 4004
+room64 : Room u64 stateNeed
+unfolding stateNeed wordCount
 room64 = (omega arith, omega arith)
 
 roomNode : Room T.the-row 3000
@@ -91,9 +92,9 @@ long-enough s n w x text =
     ∙ ap (λ (m : ℕ). answerOf (checked (checkLists s n m) text)) (length-replicate w 0)
 
 enough : (x : Node) (text : List ℕ)
-    → answerOf (checked (checkLists (length (replicate {A = ℕ} 4004 0)) (length (replicate 3000 x)) (length (replicate {A = ℕ} 16384 0))) text) ≡ answerOf (checked asAsked text)
+    → answerOf (checked (checkLists (length (replicate {A = ℕ} stateNeed 0)) (length (replicate 3000 x)) (length (replicate {A = ℕ} 16384 0))) text) ≡ answerOf (checked asAsked text)
 unfolding asAsked stateNeed nodeNeed workNeed wordCount
-enough x text = long-enough 4004 3000 16384 x text
+enough x text = long-enough stateNeed 3000 16384 x text
 
 module _ {M : Type 1} (𝓤 : URA M) (H : Heap 𝓤) (A : Atoms 𝓤) (W : Given 𝓤 H A) (mem : Memory → SProp 𝓤) (run : Routine → Fun 𝓤) (κ : Lft) (q : Share) (t : RefT (List ℕ)) where
   abbrev vt : Val
@@ -114,7 +115,7 @@ module _ {M : Type 1} (𝓤 : URA M) (H : Heap 𝓤) (A : Atoms 𝓤) (W : Given
 
   -- the lists that are lent
   abbrev states : ℕ → GName → RefT (List ℕ)
-  states l γ = record { ptr = (l, 0); name = γ; now = replicate 4004 0 }
+  states l γ = record { ptr = (l, 0); name = γ; now = replicate stateNeed 0 }
 
   abbrev nodes : ℕ → GName → RefT (List Node)
   nodes l γ = record { ptr = (l, 0); name = γ; now = replicate 3000 zeroNode }
@@ -124,12 +125,13 @@ module _ {M : Type 1} (𝓤 : URA M) (H : Heap 𝓤) (A : Atoms 𝓤) (W : Given
 
   module _ (C : Calls 𝓤 H) (Λ : Loops 𝓤 H) (fm : FmC 𝓤 H (W .laws) C) (known : Triple 𝓤 (C #verdict·check) (Check 𝓤 H A mem run)) where
     walk : Is (ShrSlice (named 0) κ u8) t (vt ∷ []) → ent 𝓤 (onEntry 𝓤 H A text.signature (κ, tt) (q, tt) (t, tt) (vt ∷ [], tt)) (WpFn 𝓤 H C Λ code.function (vt ∷ []) Post)
+    unfolding stateNeed wordCount
     walk t-is =
         qed W ((‵ (flft κ q) ⊛ ‵ ftrue) ∷ ‵ (owns (ShrSlice (named 0) κ u8 ∷ []) (t, tt) (vt ∷ [], tt)) ∷ []) ∵ enter ! C Λ code.function (vt ∷ []) _ $
         alloc1 ! (λ l₀. alloc1 ! (λ l₁. alloc1 ! (λ l₂. alloc1 ! (λ l₃. alloc1 ! (λ l₄. alloc1 ! (λ l₅. alloc1 ! (λ l₆. alloc1 ! (λ l₇. alloc1 ! (λ l₈. alloc1 ! (λ l₉. alloc1 ! (λ l₁₀. alloc1 ! (λ l₁₁. alloc0 ! $ params1 ! $
         pass1 ! (init ! 20 refl (shr-slice-lawful 𝓤 H A W (named 0) κ u8 .typed t (vt ∷ []) t-is .0)) $ pass0 ! $
         -- [_11; …; _10; …; …; room for _0; …; the token; what text owns]
-        assigns ! (rep ! 4004 (lit ! tt)) (from ! (stop !)) (init-filled ! 18 u64 4004 0 (vint w64 0) zero64 (uint-lawful 𝓤 H A W w64) refl) $
+        assigns ! (rep ! stateNeed (lit ! tt)) (from ! (stop !)) (init-filled ! 18 u64 stateNeed 0 (vint w64 0) zero64 (uint-lawful 𝓤 H A W w64) refl) $
         assigns ! (agg ! (and-then ! (lit ! tt) (and-then ! (lit ! tt) (and-then ! (lit ! tt) (and-then ! (lit ! tt) (and-then ! (lit ! tt) (no-more !))))))) (from ! (stop !)) (init ! 12 refl (LL.lawful T.the-type T′.the-laws 𝓤 H A W .typed zeroNode _ none .0)) $
         assigns ! (rep ! 3000 (load ! (from ! (stop !)) (look ! 12 refl))) (from ! (stop !)) (init-filled ! 16 T.the-row 3000 zeroNode (T′.lowered zeroNode) none (LL.lawful T.the-type T′.the-laws 𝓤 H A W) refl) $
         assigns ! (rep ! 16384 (lit ! tt)) (from ! (stop !)) (init-filled ! 14 u32 16384 0 (vint w32 0) zero32 (uint-lawful 𝓤 H A W w32) refl) $
@@ -144,27 +146,27 @@ module _ {M : Type 1} (𝓤 : URA M) (H : Heap 𝓤) (A : Atoms 𝓤) (W : Given
         use1 W (‵ OwnT ⊛ ‵ OwnT) (shr-slice-copy 𝓤 H A W (named 0) κ u8 .twice t (vt ∷ [])) $ split ! $
         -- each array is lent for a lifetime of its own
         lft-new ! tt (λ α. move ! (22 ∷ []) $
-        use1 W (later (some (λ (γ : GName). ‵ (MutSlice (named 1) (α ∷ []) u64 .own (states l₂ γ) (sliceVal (l₂, 0) 4004 ∷ [])) ⊛ ‵ (flent (α ∷ []) (Held u64 4004 l₂ 0 γ))))) (lends-local u64 4004 0 (vint w64 0) zero64 𝓤 H A W tt (uint-copy 𝓤 H A W w64) (uint-makes 𝓤 H A W w64) room64 (named 1) (α ∷ []) l₂) $ await ! tt $ pick ! (λ γs. split ! $
+        use1 W (later (some (λ (γ : GName). ‵ (MutSlice (named 1) (α ∷ []) u64 .own (states l₂ γ) (sliceVal (l₂, 0) stateNeed ∷ [])) ⊛ ‵ (flent (α ∷ []) (Held u64 stateNeed l₂ 0 γ))))) (lends-local u64 stateNeed 0 (vint w64 0) zero64 𝓤 H A W tt (uint-copy 𝓤 H A W w64) (uint-makes 𝓤 H A W w64) room64 (named 1) (α ∷ []) l₂) $ await ! tt $ pick ! (λ γs. split ! $
         lft-new ! tt (λ β. move ! (23 ∷ []) $
         use1 W (later (some (λ (γ : GName). ‵ (MutSlice (named 2) (β ∷ []) T.the-row .own (nodes l₃ γ) (sliceVal (l₃, 0) 3000 ∷ [])) ⊛ ‵ (flent (β ∷ []) (Held T.the-row 3000 l₃ 0 γ))))) (lends-local T.the-row 3000 zeroNode (T′.lowered zeroNode) none 𝓤 H A W tt (LL.copy T.the-type T′.the-copy 𝓤 H A W) (LL.makes T.the-type T′.the-plain 𝓤 H A) roomNode (named 2) (β ∷ []) l₃) $ await ! tt $ pick ! (λ γn. split ! $
         lft-new ! tt (λ ζ. move ! (24 ∷ []) $
         use1 W (later (some (λ (γ : GName). ‵ (MutSlice (named 3) (ζ ∷ []) u32 .own (work l₄ γ) (sliceVal (l₄, 0) 16384 ∷ [])) ⊛ ‵ (flent (ζ ∷ []) (Held u32 16384 l₄ 0 γ))))) (lends-local u32 16384 0 (vint w32 0) zero32 𝓤 H A W tt (uint-copy 𝓤 H A W w32) (uint-makes 𝓤 H A W w32) room32 (named 3) (ζ ∷ []) l₄) $ await ! tt $ pick ! (λ γw. split ! $
         -- [work; its lender's part; ζ's; nodes; its lender's part; β's; states; its lender's part; α's; text; text; κ's; _11; …; _5; …; and what frees _4, _3, _2; _1; …; room for _0; …]
         move ! (11 ∷ 8 ∷ 5 ∷ 2 ∷ 9 ∷ 6 ∷ 3 ∷ 0 ∷ []) $ group ! 8 $
-        use1 W (raw (Check 𝓤 H A mem run .pre (to-check 𝓤 H A W mem run κ (α ∷ []) (β ∷ []) (ζ ∷ []) q fullShare fullShare fullShare (t, (states l₂ γs, (nodes l₃ γn, (work l₄ γw, tt)))) vt (sliceVal (l₂, 0) 4004) (sliceVal (l₃, 0) 3000) (sliceVal (l₄, 0) 16384))))
-        (goes-check 𝓤 H A W mem run κ (α ∷ []) (β ∷ []) (ζ ∷ []) q fullShare fullShare fullShare (t, (states l₂ γs, (nodes l₃ γn, (work l₄ γw, tt)))) vt (sliceVal (l₂, 0) 4004) (sliceVal (l₃, 0) 3000) (sliceVal (l₄, 0) 16384)) $
+        use1 W (raw (Check 𝓤 H A mem run .pre (to-check 𝓤 H A W mem run κ (α ∷ []) (β ∷ []) (ζ ∷ []) q fullShare fullShare fullShare (t, (states l₂ γs, (nodes l₃ γn, (work l₄ γw, tt)))) vt (sliceVal (l₂, 0) stateNeed) (sliceVal (l₃, 0) 3000) (sliceVal (l₄, 0) 16384))))
+        (goes-check 𝓤 H A W mem run κ (α ∷ []) (β ∷ []) (ζ ∷ []) q fullShare fullShare fullShare (t, (states l₂ γs, (nodes l₃ γn, (work l₄ γw, tt)))) vt (sliceVal (l₂, 0) stateNeed) (sliceVal (l₃, 0) 3000) (sliceVal (l₄, 0) 16384)) $
         -- [what `check` asks; the lenders' parts of work, nodes and states; text; the locals from 5]
-        calls-at ! fm (Check 𝓤 H A mem run) known (to-check 𝓤 H A W mem run κ (α ∷ []) (β ∷ []) (ζ ∷ []) q fullShare fullShare fullShare (t, (states l₂ γs, (nodes l₃ γn, (work l₄ γw, tt)))) vt (sliceVal (l₂, 0) 4004) (sliceVal (l₃, 0) 3000) (sliceVal (l₄, 0) 16384))
+        calls-at ! fm (Check 𝓤 H A mem run) known (to-check 𝓤 H A W mem run κ (α ∷ []) (β ∷ []) (ζ ∷ []) q fullShare fullShare fullShare (t, (states l₂ γs, (nodes l₃ γn, (work l₄ γw, tt)))) vt (sliceVal (l₂, 0) stateNeed) (sliceVal (l₃, 0) 3000) (sliceVal (l₄, 0) 16384))
         (and-then ! (load ! (from ! (stop !)) (look ! 22 refl)) (and-then ! (load ! (from ! (stop !)) (look ! 13 refl)) (and-then ! (load ! (from ! (stop !)) (look ! 9 refl)) (and-then ! (load ! (from ! (stop !)) (look ! 5 refl)) (no-more !))))) (λ v.
-        use1 W (later (Gave 𝓤 H A W mem run κ (α ∷ []) (β ∷ []) (ζ ∷ []) q fullShare fullShare fullShare (t, (states l₂ γs, (nodes l₃ γn, (work l₄ γw, tt)))) vt (sliceVal (l₂, 0) 4004) (sliceVal (l₃, 0) 3000) (sliceVal (l₄, 0) 16384) v))
-        (check-gives 𝓤 H A W mem run κ (α ∷ []) (β ∷ []) (ζ ∷ []) q fullShare fullShare fullShare (t, (states l₂ γs, (nodes l₃ γn, (work l₄ γw, tt)))) vt (sliceVal (l₂, 0) 4004) (sliceVal (l₃, 0) 3000) (sliceVal (l₄, 0) 16384) v) $ await ! tt $ learn ! (λ _.
+        use1 W (later (Gave 𝓤 H A W mem run κ (α ∷ []) (β ∷ []) (ζ ∷ []) q fullShare fullShare fullShare (t, (states l₂ γs, (nodes l₃ γn, (work l₄ γw, tt)))) vt (sliceVal (l₂, 0) stateNeed) (sliceVal (l₃, 0) 3000) (sliceVal (l₄, 0) 16384) v))
+        (check-gives 𝓤 H A W mem run κ (α ∷ []) (β ∷ []) (ζ ∷ []) q fullShare fullShare fullShare (t, (states l₂ γs, (nodes l₃ γn, (work l₄ γw, tt)))) vt (sliceVal (l₂, 0) stateNeed) (sliceVal (l₃, 0) 3000) (sliceVal (l₄, 0) 16384) v) $ await ! tt $ learn ! (λ _.
         split ! $ move ! (1 ∷ []) $ split ! $ move ! (1 ∷ []) $ split ! $ move ! (1 ∷ []) $ split ! $ move ! (1 ∷ []) $ split ! $ move ! (1 ∷ []) $ split ! $ move ! (1 ∷ []) $ split ! $ move ! (1 ∷ []) $
         -- [the answer; work's last list; nodes's; states's; ζ's; β's; α's; κ's; the lenders' parts of work, nodes and states; text; the locals from 12]
         peeks ! S.the-row (Is S.the-row) (shows 𝓤 H A S.the-row) (ans (t, (states l₂ γs, (nodes l₃ γn, (work l₄ γw, tt))))) (v ∷ []) (λ is. land ! (from ! (stop !)) (init ! 31 refl (EL.lawful S.the-type S′.the-laws 𝓤 H A W tt .typed (ans (t, (states l₂ γs, (nodes l₃ γn, (work l₄ γw, tt))))) _ is .0)) $
         -- the lifetimes end, and the arrays' room is back
         move ! (4 ∷ []) $ lft-end ! tt $ move ! (0 ∷ 8 ∷ 2 ∷ []) $ use3 W (later (‵ (froom (tyArray (tyInt w32) 16384) l₄ 0))) (local-back u32 16384 𝓤 H A W (ζ ∷ []) l₄ γw _) $ await ! tt $
         move ! (4 ∷ []) $ lft-end ! tt $ move ! (0 ∷ 7 ∷ 3 ∷ []) $ use3 W (later (‵ (froom (tyArray T′.mir 3000) l₃ 0))) (local-back T.the-row 3000 𝓤 H A W (β ∷ []) l₃ γn _) $ await ! tt $
-        move ! (4 ∷ []) $ lft-end ! tt $ move ! (0 ∷ 6 ∷ 4 ∷ []) $ use3 W (later (‵ (froom (tyArray (tyInt w64) 4004) l₂ 0))) (local-back u64 4004 𝓤 H A W (α ∷ []) l₂ γs _) $ await ! tt $
+        move ! (4 ∷ []) $ lft-end ! tt $ move ! (0 ∷ 6 ∷ 4 ∷ []) $ use3 W (later (‵ (froom (tyArray (tyInt w64) stateNeed) l₂ 0))) (local-back u64 stateNeed 𝓤 H A W (α ∷ []) l₂ γs _) $ await ! tt $
         -- [room for _2; for _3; for _4; the answer; κ's; text; the locals from 6]
         returns ! (look ! 25 refl) $ forget ! 6 refl $ forget ! 8 refl $ forget ! 10 refl $ forget ! 12 refl $ forget ! 14 refl $ forget ! 16 refl $ forget ! 18 refl $ forget ! 23 refl $ forget ! 25 refl $
         move ! (25 ∷ 26 ∷ []) $ free1 ! $ move ! (23 ∷ 24 ∷ []) $ free1 ! $ move ! (0 ∷ 22 ∷ []) $ free1 ! $ move ! (0 ∷ 20 ∷ []) $ free1 ! $ move ! (0 ∷ 18 ∷ []) $ free1 ! $

@@ -1,5 +1,6 @@
 -- `known`: each pair of numbers is the range of the kind at its place. Assumes nothing.
 use Rattle.lines.proofs.Ranges.{below-most}
+use Rattle.rules.specs.State.{propositionMost}
 use Rattle.lines.specs.Ranges.{boundsOf, knownOf}
 use native.Mathlib.Omega.{arith}
 use borrow.Author.Needs.{needs}
@@ -39,7 +40,7 @@ add-t9 c =
     omega (arith, most .1, s .pre)
 
 returns : tie.Need-returns
-unfolding boundsOf knownOf
+unfolding boundsOf knownOf propositionMost
 returns c =
     let action = c .before .before .before .before in
     let method = action .before in

@@ -25,7 +25,7 @@ replay-requires c κs = search needs
 
 returns : tie.Need-returns
 unfolding stateNeed wordCount workNeed
-returns c = c .before .before .replay .ensures .answer ∙ as-long 4004 16384 (c .before .before .before .before .before .before .args .text .now)
+returns c = c .before .before .replay .ensures .answer ∙ as-long stateNeed workNeed (c .before .before .before .before .before .before .args .text .now)
 
 pub replay-text-spec : {M : Type 1} → statement M
 replay-text-spec =

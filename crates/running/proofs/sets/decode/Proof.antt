@@ -6,7 +6,7 @@ use Rattle.rules.specs.State.{wordCount, noPropositions, insertAll}
 use Rattle.running.proofs.SetFields.{placeOf, action-inside, action-is}
 use Rattle.running.proofs.sets.decode.Statement.{statement}
 use Rattle.running.proofs.sets.decode.Tie as tie
-use Rattle.running.specs.Sets.{membersAt, past, actionSize}
+use Rattle.running.specs.Sets.{membersAt, past, setCount, actionSize}
 use borrow.Author.Needs.{needs}
 use lib.ListN.{length, length-replicate}
 use mathlib.Core.List.{List}
@@ -20,10 +20,10 @@ IsSetOf fields at j s = s ≡ insertAll noPropositions (membersAt fields (placeO
 
 abbrev Inv-loop : tie.InvT-loop
 Inv-loop fields at words₀ place₀ i₀ words place i =
-    (place ≡ placeOf fields (at + 1) i) × Filling wordCount 4 actionSize (IsSetOf fields at) words i
+    (place ≡ placeOf fields (at + 1) i) × Filling wordCount setCount actionSize (IsSetOf fields at) words i
 
 abbrev μ-loop : tie.MeasureT-loop
-μ-loop fields at words₀ place₀ i₀ words place i = 4 - i
+μ-loop fields at words₀ place₀ i₀ words place i = setCount - i
 
 add-place : tie.Need-add-place Inv-loop μ-loop
 unfolding past
@@ -74,9 +74,9 @@ loop-again c =
     let l = c .before .before .before .before .before .loop in
     let more = c .before .before .before .before .loop-test .taken in
     let put = c .before .before .put-members in
-    let blank = filling-blank (l .inv .1) more (4 * l .i) refl in (
+    let blank = filling-blank (l .inv .1) more (wordCount * l .i) refl in (
       put .ensures .0 ∙ ap (past (a .fields .now)) (l .inv .0) ∙ ap (placeOf (a .fields .now) (a .at + 1)) (sym (add-one (l .i))),
-      filling-next (l .inv .1) more (4 * l .i) refl (put .kept .1 .1 .0) (put .ensures .1 ∙ ap₂ insertAll blank (ap (membersAt (a .fields .now)) (l .inv .0))),
+      filling-next (l .inv .1) more (wordCount * l .i) refl (put .kept .1 .1 .0) (put .ensures .1 ∙ ap₂ insertAll blank (ap (membersAt (a .fields .now)) (l .inv .0))),
     )
 
 same-length : tie.Need-same-length Inv-loop μ-loop

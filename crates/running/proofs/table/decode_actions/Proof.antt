@@ -60,7 +60,7 @@ unfolding wordCount
 decode-requires c κs =
     let l = c .before .before .before .loop in
     let more = c .before .before .loop-test .taken in
-    (c .before .before .before .before .before .before .before .pre .1 .0 (l .a) more, filling-blank (l .inv) more (16 * l .a) refl)
+    (c .before .before .before .before .before .before .before .pre .1 .0 (l .a) more, filling-blank (l .inv) more (actionSize * l .a) refl)
 
 add-a : tie.Need-add-a Inv-loop μ-loop
 add-a c = search needs
@@ -73,7 +73,7 @@ unfolding wordCount
 loop-again c =
     let l = c .before .before .before .before .before .before .loop in
     let part = c .before .before .decode in
-    filling-next (l .inv) (c .before .before .before .before .before .loop-test .taken) (16 * l .a) refl (part .kept .1 .1 .0) (part .ensures)
+    filling-next (l .inv) (c .before .before .before .before .before .loop-test .taken) (actionSize * l .a) refl (part .kept .1 .1 .0) (part .ensures)
 
 same-length : tie.Need-same-length Inv-loop μ-loop
 same-length c = c .before .loop .inv .long

@@ -41,7 +41,7 @@ returns c =
     let s = c .before .before .before .before .before .before in
     let a = s .args in
     λ act good here.
-    c .sets-in .ensures ∙ ap actionIn (part-at actionSize (a .table .now) (a .action) (16 * a .action) refl) ∙ s .pre .1 .1 .right (a .action) (c .before .before .if1 .taken) act good here
+    c .sets-in .ensures ∙ ap actionIn (part-at actionSize (a .table .now) (a .action) (actionSize * a .action) refl) ∙ s .pre .1 .1 .right (a .action) (c .before .before .if1 .taken) act good here
 
 mul-at : tie.Need-mul-at
 mul-at c = search needs
