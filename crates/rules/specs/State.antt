@@ -9,11 +9,11 @@ use lib.ListN.{getD, set}
 
 -- "A state is the set of those that are true, held as four 64-bit words": how many words.
 unfoldable pub wordCount : ℕ
-wordCount = 4
+wordCount = 8
 
 -- "propositions (0 to 256)": as many as a state has bits.
 unfoldable pub propositionMost : ℕ
-propositionMost = 256
+propositionMost = 512
 
 abbrev pub State : Type 0
 State = List ℕ

@@ -11,7 +11,7 @@ pub const WORK: usize = 16384;
 pub const TEXT: usize = 65535;
 
 // How many propositions a model may have: the definitions' propositionMost.
-pub const PROPOSITIONS: u32 = 256;
+pub const PROPOSITIONS: u32 = 512;
 
 // The header line's numbers.
 pub struct Header {

@@ -6,7 +6,7 @@ ghost use Rattle.rules.specs.State.{wordCount, noPropositions, member, insert, 
 ghost use Rattle.state.specs.Action.{actionOf};
 
 // How many words a state has: the definitions' wordCount.
-pub const WORDS: usize = 4;
+pub const WORDS: usize = 8;
 
 // A state, or a set of propositions.
 pub struct State {
