@@ -9,8 +9,11 @@
 extern "C" {
 #endif
 
+/* How many words a set of propositions has: proposition p is bit p % 64 of word p / 64. A state is such a set. */
+#define CUECHECK_WORDS 8
+
 /* The least lengths, in elements, not bytes. A shorter list is refused with number 1, a longer one is filled to its end. */
-#define CUECHECK_STATES 4004 /* states 0 to 1,000, four words each */
+#define CUECHECK_STATES 8008 /* states 0 to 1,000, eight words each */
 #define CUECHECK_NODES 3000
 #define CUECHECK_WORK 16384
 
@@ -40,14 +43,13 @@ typedef struct cuecheck_node {
 } cuecheck_node;
 
 /* Judges a case. The lists may hold anything, but must not overlap. Accepted, states has states 0 to k and nodes a record for each node, in the
-   tree's order, and zero after; refused, both are zero. work is zero after each call. It needs 211 KiB of stack for the deepest tree
-   (64 levels; measured). */
+   tree's order, and zero after; refused, both are zero. work is zero after each call. It needs 266 KiB of stack (measured). */
 cuecheck_reply cuecheck_check(const uint8_t *text, size_t text_len,
                               uint64_t *states, size_t states_len,
                               cuecheck_node *nodes, size_t nodes_len,
                               uint32_t *work, size_t work_len);
 
-/* Reads a case and runs its plan (numbers 1 to 5), without judging the tree or the constraints. The lists as for cuecheck_check. It needs 194
+/* Reads a case and runs its plan (numbers 1 to 5), without judging the tree or the constraints. The lists as for cuecheck_check. It needs 193
    KiB of stack. */
 cuecheck_reply cuecheck_replay(const uint8_t *text, size_t text_len,
                                uint64_t *states, size_t states_len,
@@ -56,19 +58,17 @@ cuecheck_reply cuecheck_replay(const uint8_t *text, size_t text_len,
 /* Judges a case and, accepted, puts it out with each method's constraints in order (O, B, b, F, f, W, w, then by their fields as numbers), lines
    that repeat another of the same method left out, and the method's count of them following; all else stays as it is. The text is never longer
    than the one that came, and output is zero after it. The lists as for cuecheck_check. Refused, output is zero too. An output that is too short
-   is the last thing refused: number 14, item the bytes needed. It has no least length. The call needs 213 KiB of stack for the deepest tree
-   (measured). */
+   is the last thing refused: number 14, item the bytes needed. It has no least length. The call needs 267 KiB of stack (measured). */
 cuecheck_written cuecheck_write(const uint8_t *text, size_t text_len,
                                 uint64_t *states, size_t states_len,
                                 cuecheck_node *nodes, size_t nodes_len,
                                 uint32_t *work, size_t work_len,
                                 uint8_t *output, size_t output_len);
 
-/* Applies one action; proposition p is bit p % 64 of word p / 64. 1: the next state is written in place of state; 0: state is as it came.
-   state must not overlap the other four. */
-uint32_t cuecheck_step(uint64_t state[4],
-                       const uint64_t needed[4], const uint64_t forbidden[4],
-                       const uint64_t added[4], const uint64_t deleted[4]);
+/* Applies one action. 1: the next state is written in place of state; 0: state is as it came. state must not overlap the other four. */
+uint32_t cuecheck_step(uint64_t state[CUECHECK_WORDS],
+                       const uint64_t needed[CUECHECK_WORDS], const uint64_t forbidden[CUECHECK_WORDS],
+                       const uint64_t added[CUECHECK_WORDS], const uint64_t deleted[CUECHECK_WORDS]);
 
 #ifdef __cplusplus
 }

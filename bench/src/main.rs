@@ -1,11 +1,13 @@
 //! Median times of the two plain renderings' calls, the clear one's (plain) and the fast one's, and, with the feature
 //! linked (see compare_check.rs for the command), of the linked ones in the same run. First the check and replay calls, then
-//! the write call, beside the check call of the last rendering on the same input.
+//! the write call, beside the check call of the last rendering on the same input, and last the step call.
 //!
 //! bench [ROUNDS [CASE]]
 
+use harness::compare::StepCall;
+use harness::gen::steps::{self, Step};
 use harness::gen::tangles::{self, Standing};
-use harness::gen::{extremes, Weave};
+use harness::gen::{extremes, Rng, Weave};
 use harness::lists::{Lengths, Lists};
 use harness::{fast, plain};
 use std::hint::black_box;
@@ -53,6 +55,27 @@ const CALLS: [&[Call]; 2] = [&[call!(plain check), call!(fast check)], &[call!(p
 #[cfg(not(feature = "linked"))]
 const WRITES: &[Call] = &[call!(plain write), call!(fast write), call!(fast check)];
 
+const PLAIN_STEP: StepCall = |state, &[needed, forbidden, added, deleted]| {
+    let applies;
+    (applies, *state) = plain::step(*state, needed, forbidden, added, deleted);
+    applies
+};
+#[cfg(feature = "linked")]
+const STEP_CALLS: &[StepCall] = &[PLAIN_STEP, fast::step, |state, [needed, forbidden, added, deleted]| {
+    cuecheck::step(state, needed, forbidden, added, deleted)
+}];
+#[cfg(not(feature = "linked"))]
+const STEP_CALLS: &[StepCall] = &[PLAIN_STEP, fast::step];
+
+/// How many step calls are timed together.
+const STEPS: usize = 1_000;
+
+const STEP_CASES: [(&str, fn(&mut Rng) -> Step); 3] = [
+    ("step that applies, dense sets", steps::dense),
+    ("step that applies, one word in use", steps::one_word),
+    ("step that is refused in the last word", steps::refused_at_the_end),
+];
+
 const LINKED: bool = cfg!(feature = "linked");
 const RATIO: &str = "; ratio is linked / the faster of plain and fast";
 
@@ -61,36 +84,47 @@ fn main() {
     let wanted = std::env::args().nth(2).unwrap_or_default();
     println!("medians of {rounds} rounds in microseconds{}", if LINKED { RATIO } else { "" });
     let columns = columns(RENDERINGS.iter().map(|name| name.to_string()), "ratio".into());
-    println!("{:<20}{:>6} {:>6} | {:<width$} | replay", "", "", "", "check", width = columns.len());
-    println!("{:<20}{:>6} {:>6} | {columns} | {columns}", "case", "bytes", "answer");
-    for (name, text) in cases().into_iter().filter(|(name, _)| name.starts_with(&wanted)) {
-        let answer = CALLS[0][0](&text, &mut Lists::default());
-        let [checks, replays] = CALLS.map(|calls| row(&medians(&text, calls, rounds)));
-        println!("{name:<20}{:>6} {answer:>6} | {checks} | {replays}", text.len());
-    }
+    show_judging(&columns, rounds, &wanted);
     println!();
-    println!(
-        "{:<28}{:>6} {:>6} | {:<width$} | check, and what writing is of it",
-        "",
-        "",
-        "",
-        "write",
-        width = columns.len()
-    );
-    println!(
-        "{:<28}{:>6} {:>6} | {columns} | {:>9}{:>7}",
-        "case",
-        "bytes",
-        "answer",
-        RENDERINGS[RENDERINGS.len() - 1],
-        "ratio"
-    );
-    for (name, text) in cases_to_write().into_iter().filter(|(name, _)| name.starts_with(&wanted)) {
+    show_writing(&columns, rounds, &wanted);
+    println!();
+    show_steps(&columns, rounds, &wanted);
+}
+
+/// The check and replay calls.
+fn show_judging(columns: &str, rounds: usize, wanted: &str) {
+    println!("{:<26}{:>6} {:>6} | {:<width$} | replay", "", "", "", "check", width = columns.len());
+    println!("{:<26}{:>6} {:>6} | {columns} | {columns}", "case", "bytes", "answer");
+    for (name, text) in cases().into_iter().filter(|(name, _)| name.starts_with(wanted)) {
+        let answer = CALLS[0][0](&text, &mut Lists::default());
+        let [checks, replays] = CALLS.map(|calls| row(&medians_of_text(&text, calls, rounds)));
+        println!("{name:<26}{:>6} {answer:>6} | {checks} | {replays}", text.len());
+    }
+}
+
+/// The write call, and the check call of the last rendering.
+fn show_writing(columns: &str, rounds: usize, wanted: &str) {
+    let of_it = "check, and what writing is of it";
+    println!("{:<28}{:>6} {:>6} | {:<width$} | {of_it}", "", "", "", "write", width = columns.len());
+    let last = RENDERINGS[RENDERINGS.len() - 1];
+    println!("{:<28}{:>6} {:>6} | {columns} | {last:>9}{:>7}", "case", "bytes", "answer", "ratio");
+    for (name, text) in cases_to_write().into_iter().filter(|(name, _)| name.starts_with(wanted)) {
         let answer = WRITES[0](&text, &mut Lists::with_output());
-        let times = medians(&text, WRITES, rounds);
+        let times = medians_of_text(&text, WRITES, rounds);
         let [writes @ .., check] = &times[..] else { unreachable!("a time for each call") };
         let ratio = writes[writes.len() - 1] / check;
         println!("{name:<28}{:>6} {answer:>6} | {} | {check:>9.1}{ratio:>7.2}", text.len(), row(writes));
+    }
+}
+
+/// The step call, a thousand times on a hundred inputs in turn.
+fn show_steps(columns: &str, rounds: usize, wanted: &str) {
+    println!("{:<40} | {columns}", format!("step, {STEPS} calls"));
+    for (name, draw) in STEP_CASES.into_iter().filter(|(name, _)| name.starts_with(wanted)) {
+        let rng = &mut Rng::new(STEPS as u64);
+        let inputs: Vec<Step> = (0..100).map(|_| draw(rng)).collect();
+        let times = medians(STEP_CALLS, rounds, |call| time_steps(&inputs, *call));
+        println!("{name:<40} | {}", row(&times));
     }
 }
 
@@ -116,12 +150,15 @@ fn cases() -> Vec<(&'static str, Vec<u8>)> {
         ("1000 cues, mixed", extremes::mixed(1_000).text()),
         ("betweens", extremes::betweens().text()),
         ("signed betweens", extremes::signed_betweens().text()),
+        ("wide betweens", extremes::wide_betweens().text()),
         ("long betweens", extremes::long_betweens().text()),
         ("befores and afters", extremes::befores_afters().text()),
         ("sets of 32", extremes::sets_of_32().text()),
         ("64 levels", extremes::levels_64().text()),
         ("32000 fields", extremes::fields_32000().text()),
         ("900 actions", extremes::actions_900().text()),
+        ("sets of 256 propositions", extremes::large_sets(256).text()),
+        ("sets of 512 propositions", extremes::large_sets(512).text()),
     ]
 }
 
@@ -140,21 +177,32 @@ fn row(medians: &[f64]) -> String {
     columns(medians.iter().map(|median| format!("{median:.1}")), format!("{ratio:.2}"))
 }
 
-/// The median of each side. Rounds alternate, so that all sides meet the same weather.
-fn medians(text: &[u8], calls: &[Call], rounds: usize) -> Vec<f64> {
+fn medians_of_text(text: &[u8], calls: &[Call], rounds: usize) -> Vec<f64> {
     let mut lists = Lists::with_output();
+    medians(calls, rounds, |call| {
+        let begin = Instant::now();
+        black_box(call(black_box(text), &mut lists));
+        begin.elapsed()
+    })
+}
+
+/// The median of each side. Rounds alternate, so that all sides meet the same weather.
+fn medians<C>(calls: &[C], rounds: usize, mut time: impl FnMut(&C) -> Duration) -> Vec<f64> {
     let mut taken = vec![Vec::new(); calls.len()];
     for _ in 0..rounds {
         for (call, times) in calls.iter().zip(&mut taken) {
-            times.push(time(text, *call, &mut lists));
+            times.push(time(call));
         }
     }
     taken.iter_mut().map(|times| median(times)).collect()
 }
 
-fn time(text: &[u8], call: Call, lists: &mut Lists) -> Duration {
+fn time_steps(inputs: &[Step], call: StepCall) -> Duration {
     let begin = Instant::now();
-    black_box(call(black_box(text), lists));
+    for step in inputs.iter().cycle().take(STEPS) {
+        let mut state = step.state;
+        black_box(call(black_box(&mut state), black_box(&step.sets)));
+    }
     begin.elapsed()
 }
 

@@ -15,10 +15,10 @@ build_mock() {
 # compare: links the programs with the archive that lies there now, and runs them
 compare() {
     # Cargo doesn't watch the archive; touching the programs makes it link them anew.
-    touch src/bin/compare_replay.rs src/bin/compare_check.rs src/bin/compare_write.rs src/bin/properties.rs
+    touch src/bin/compare_*.rs src/bin/properties.rs
     RUSTFLAGS="-L native=$PWD/target/staticlib" cargo build --quiet --release --offline -p harness \
         --target-dir target/linked --features linked
-    for call in replay check write; do
+    for call in replay check write step; do
         printf '%s: ' "$call"
         target/linked/release/compare_$call "$count" "$seed" | cut -c1-200 || true
     done

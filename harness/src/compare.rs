@@ -1,8 +1,9 @@
 //! Compares two renderings of a call on generated inputs: answers and every element lent.
 
-use crate::gen::Inputs;
+use crate::gen::steps::{self, Step};
+use crate::gen::{Inputs, FORMER, PROPOSITIONS};
 use crate::lists::{draw_output, Dirt, Lengths, Lists, OUTPUT};
-use crate::plain::{self, Reply, Written};
+use crate::plain::{self, Reply, Set, Written};
 use std::collections::BTreeMap;
 
 /// One side: a call on a text and the lists lent in these lengths.
@@ -25,6 +26,44 @@ pub const PLAIN_WRITE: WriteCall = |text, lists, lengths, output| {
     let (states, nodes, work, output) = lists.lend_all(lengths, output);
     plain::write(text, states, nodes, work, output)
 };
+
+/// One side of the step call: a state, and the sets needed, forbidden, added and deleted.
+pub type StepCall = fn(&mut Set, &[Set; 4]) -> bool;
+
+/// How many inputs were accepted with lists as long as asked; and of them all, and of those accepted, how many have
+/// more propositions than four words hold.
+#[derive(Default)]
+struct Tally {
+    accepted: u64,
+    wide: u64,
+    wide_accepted: u64,
+}
+
+impl Tally {
+    fn count(&mut self, text: &[u8], number: u32) {
+        let wide = propositions(text).is_some_and(|count| (FORMER + 1..=PROPOSITIONS).contains(&count));
+        self.accepted += u64::from(number == 0);
+        self.wide += u64::from(wide);
+        self.wide_accepted += u64::from(wide && number == 0);
+    }
+
+    /// Ends a comparison without a difference.
+    fn show(&self, asked: &Asked) {
+        let Tally { accepted, wide, wide_accepted } = self;
+        println!(
+            "{accepted} inputs accepted; {wide} inputs with {} to {PROPOSITIONS} propositions, {wide_accepted} of them accepted",
+            FORMER + 1
+        );
+        println!("{} inputs, 0 differences", asked.count);
+    }
+}
+
+/// The count of propositions that the header has, if it can be read.
+fn propositions(text: &[u8]) -> Option<u32> {
+    let field = text.strip_prefix(b"N,")?.split(|byte| matches!(byte, b',' | b'\n')).next()?;
+    let plain = field.iter().all(u8::is_ascii_digit) && (field.len() == 1 || !field.starts_with(b"0"));
+    std::str::from_utf8(field).ok().filter(|_| plain)?.parse().ok()
+}
 
 /// What the arguments ask for: count, seed, and perhaps `trace`, which prints the number of each
 /// input first, to find one that brings the program down.
@@ -72,15 +111,21 @@ pub fn run(plain: Call, other: Call, name: &str) -> BTreeMap<u32, u64> {
     let inputs = Inputs::new(asked.seed);
     let mut sides = (Lists::default(), Lists::default());
     let mut answers = BTreeMap::new();
+    let mut tally = Tally::default();
     for number in asked.numbers() {
         let mut rng = inputs.rng(number);
         let text = inputs.text(&mut rng);
         // Once with lists of the length asked for, once with any.
-        for lengths in [Lengths::EXACT, Lengths::draw(&mut rng)] {
+        for (turn, lengths) in [Lengths::EXACT, Lengths::draw(&mut rng)].into_iter().enumerate() {
             let dirt = Dirt::draw(&mut rng);
             match compare(|lists| plain(&text, lists, lengths), |lists| other(&text, lists, lengths), dirt, &mut sides)
             {
-                Ok(answer) => *answers.entry(answer.number).or_default() += 1,
+                Ok(answer) => {
+                    *answers.entry(answer.number).or_default() += 1;
+                    if turn == 0 {
+                        tally.count(&text, answer.number);
+                    }
+                }
                 Err(difference) => {
                     let lent = format!("{lengths:?}, lists full of {dirt:?}");
                     end(&asked, number, &text, lent, name, difference)
@@ -88,7 +133,7 @@ pub fn run(plain: Call, other: Call, name: &str) -> BTreeMap<u32, u64> {
             }
         }
     }
-    println!("{} inputs, 0 differences", asked.count);
+    tally.show(&asked);
     answers
 }
 
@@ -99,7 +144,7 @@ pub fn run_write(plain: WriteCall, other: WriteCall, name: &str) -> BTreeMap<u32
     let inputs = Inputs::new(asked.seed);
     let mut sides = (Lists::with_output(), Lists::with_output());
     let mut answers = BTreeMap::new();
-    let (mut accepted, mut tidy) = (0, 0);
+    let (mut tally, mut tidy) = (Tally::default(), 0);
     for number in asked.numbers() {
         let mut rng = inputs.rng(number);
         let text = inputs.text_to_write(&mut rng);
@@ -113,9 +158,11 @@ pub fn run_write(plain: WriteCall, other: WriteCall, name: &str) -> BTreeMap<u32
             match compare(plain, other, dirt, &mut sides) {
                 Ok(answer) => {
                     *answers.entry(answer.number).or_default() += 1;
+                    if turn == 0 {
+                        tally.count(&text, answer.number);
+                    }
                     if turn == 0 && answer.number == 0 {
                         needed = answer.length as usize;
-                        accepted += 1;
                         tidy += u64::from(sides.0.output()[..needed] == text);
                     }
                 }
@@ -126,10 +173,45 @@ pub fn run_write(plain: WriteCall, other: WriteCall, name: &str) -> BTreeMap<u32
             }
         }
     }
-    println!("{} inputs, 0 differences", asked.count);
     let short = answers.get(&14).copied().unwrap_or(0);
-    println!("{accepted} inputs accepted, {tidy} of them tidy; {short} of {} outputs too short", 3 * asked.count);
+    println!("{tidy} accepted inputs tidy already; {short} of {} outputs too short", 3 * asked.count);
+    tally.show(&asked);
     answers
+}
+
+/// The same for the step call: the answer, the state, and that the other sets stay, and what lies around them.
+pub fn run_step(other: StepCall, name: &str) {
+    let asked = Asked::by_arguments();
+    let inputs = Inputs::new(asked.seed);
+    let mut applied = 0;
+    for number in asked.numbers() {
+        let mut rng = inputs.rng(number);
+        let step = steps::any(&mut rng);
+        let margin = step.state.map(|_| rng.word());
+        let [needed, forbidden, added, deleted] = step.sets;
+        let (applies, next) = plain::step(step.state, needed, forbidden, added, deleted);
+        let mut lent = Lent { margin, step, end: margin };
+        let answer = other(&mut lent.step.state, &lent.step.sets);
+        let due = Lent { margin, step: Step { state: next, ..step }, end: margin };
+        if (answer, lent) != (applies, due) {
+            println!("seed {}, input {number}: {step:x?}", asked.seed);
+            println!("first plain, then {name}: {applies}, {due:x?}; {answer}, {lent:x?}");
+            println!("{} inputs, 1 difference", number + 1);
+            std::process::exit(1);
+        }
+        applied += u64::from(applies);
+    }
+    println!("{applied} inputs apply");
+    println!("{} inputs, 0 differences", asked.count);
+}
+
+/// What a step call sees, in one piece, and what lies before and behind it.
+#[derive(Clone, Copy, Debug, PartialEq)]
+#[repr(C)]
+struct Lent {
+    margin: Set,
+    step: Step,
+    end: Set,
 }
 
 /// The answer of both sides, or where they differ.

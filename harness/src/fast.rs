@@ -1,9 +1,9 @@
-//! Document 01, with Cards 1 and 2 of document 02, once more, written for speed: the replay, check and write calls.
+//! Document 01, with Cards 1 to 3 of document 02, once more, written for speed: the step, replay, check and write calls.
 //!
 //! One pass over the text fills tables on the stack and, for the check call, the lent records (`reading`); the plan is
 //! run into the lent states (`run`); the walk goes over the records once (`walking`), the constraints a second time
-//! (`constraints`); the write call copies what is in order and sorts the rest (`writing`). Spans of subtasks and columns of bits are kept in the lent work space. Nothing is allocated, and
-//! nothing is cleared but the lent lists. A call needs 400 KiB of stack, or 96 KiB for a text of at most 4,096 bytes.
+//! (`constraints`); the write call copies what is in order and sorts the rest (`writing`). Spans of subtasks are kept in the lent work space. Nothing is allocated, and
+//! nothing is cleared but the lent lists. A call needs 600 KiB of stack, or 224 KiB for a text of at most 4,096 bytes.
 
 mod case;
 mod constraints;
@@ -11,14 +11,24 @@ mod reading;
 mod walking;
 mod writing;
 
-use crate::plain::{NODES_ASKED, STATES_ASKED, TEXT_LIMIT, WORK_ASKED};
-use case::{with_tables, Case};
-use constraints::{first_broken, COLUMNS};
+use case::{with_tables, Action, Case};
+use constraints::first_broken;
 use cuecheck::{Accepted, Tidied};
 pub use cuecheck::{Node, Refusal, Reply, Set, Written};
 use reading::read;
 use walking::walk;
 use writing::put_out;
+
+/// The words of a state, and its bits: one for each proposition.
+const WORDS: usize = 8;
+const PROPOSITIONS: usize = 64 * WORDS;
+const CUES: usize = 1_000;
+
+/// What is asked of the lent lists, and the longest text.
+const STATES: usize = WORDS * (CUES + 1);
+const NODES: usize = 3_000;
+const WORK: usize = 16_384;
+const TEXT: usize = 65_535;
 
 type Checked<T> = Result<T, Refusal>;
 
@@ -27,9 +37,30 @@ fn refuse<T>(number: u32, line: usize, item: usize) -> Checked<T> {
     Err(Refusal { number, line: line as u32, item: item as u32 })
 }
 
+/// The step call: yes, and the state becomes the next one, or no, and it stays.
+pub fn step(state: &mut Set, action: &Action) -> bool {
+    let (next, obstacles) = next(state, action);
+    if obstacles == 0 {
+        *state = next;
+    }
+    obstacles == 0
+}
+
+/// The state that follows, and the bits that stand against it: none if the action applies.
+#[inline(always)]
+fn next(state: &Set, [needed, forbidden, added, deleted]: &Action) -> (Set, u64) {
+    let mut next = *state;
+    let mut obstacles = 0;
+    for w in 0..WORDS {
+        obstacles |= (needed[w] & !state[w]) | (forbidden[w] & state[w]);
+        next[w] = (state[w] & !deleted[w]) | added[w];
+    }
+    (next, obstacles)
+}
+
 /// The check call: reads, runs, walks, and tries every constraint.
 pub fn check(text: &[u8], states: &mut [u64], nodes: &mut [Node], work: &mut [u32]) -> Reply {
-    let short = [states.len() < STATES_ASKED, nodes.len() < NODES_ASKED, work.len() < WORK_ASKED];
+    let short = [states.len() < STATES, nodes.len() < NODES, work.len() < WORK];
     let checked = within_limits(text, short)
         .and_then(|()| with_tables(text.len(), |case| check_with(text, case, states, nodes, work)));
     clear(checked.ok(), states, nodes, work);
@@ -38,7 +69,7 @@ pub fn check(text: &[u8], states: &mut [u64], nodes: &mut [Node], work: &mut [u3
 
 /// The write call: the check call's part, then the tidy text, or number 14.
 pub fn write(text: &[u8], states: &mut [u64], nodes: &mut [Node], work: &mut [u32], output: &mut [u8]) -> Written {
-    let short = [states.len() < STATES_ASKED, nodes.len() < NODES_ASKED, work.len() < WORK_ASKED];
+    let short = [states.len() < STATES, nodes.len() < NODES, work.len() < WORK];
     let written = within_limits(text, short).and_then(|()| {
         with_tables(text.len(), |case| {
             let Accepted { cues, nodes } = check_with(text, case, states, nodes, work)?;
@@ -66,23 +97,22 @@ fn check_with(
     let accepted = read(text, case, nodes)?;
     let rows = run(case, states)?;
     let nodes = &mut nodes[..accepted.nodes as usize];
-    let (columns, spans) = work.split_at_mut(COLUMNS);
-    walk(case, nodes, spans)?;
-    first_broken(case, rows, nodes, spans, columns)?;
+    walk(case, nodes, work)?;
+    first_broken(case, rows, nodes, work)?;
     Ok(accepted)
 }
 
 /// Clears what an acceptance, or a refusal, doesn't fill.
 fn clear(accepted: Option<Accepted>, states: &mut [u64], nodes: &mut [Node], work: &mut [u32]) {
     let (rows, records) = accepted.map_or((0, 0), |it| (it.cues as usize + 1, it.nodes as usize));
-    states[4 * rows..].fill(0);
+    states[WORDS * rows..].fill(0);
     nodes[records..].fill(Node::default());
     work.fill(0);
 }
 
 /// The replay call: reads and runs only.
 pub fn replay(text: &[u8], states: &mut [u64], work: &mut [u32]) -> Reply {
-    let short = [states.len() < STATES_ASKED, false, work.len() < WORK_ASKED];
+    let short = [states.len() < STATES, false, work.len() < WORK];
     let checked = within_limits(text, short).and_then(|()| {
         with_tables(text.len(), |case| {
             let accepted = read(text, case, &mut [])?;
@@ -91,7 +121,7 @@ pub fn replay(text: &[u8], states: &mut [u64], work: &mut [u32]) -> Reply {
         })
     });
     let rows = checked.map_or(0, |it| it.cues as usize + 1);
-    states[4 * rows..].fill(0);
+    states[WORDS * rows..].fill(0);
     work.fill(0);
     reply(checked)
 }
@@ -108,7 +138,7 @@ fn within_limits(text: &[u8], short: [bool; 3]) -> Checked<()> {
     if let Some(before) = short.iter().position(|&short| short) {
         return refuse(1, 0, before + 1);
     }
-    if text.len() > TEXT_LIMIT {
+    if text.len() > TEXT {
         return refuse(2, 0, 0);
     }
     Ok(())
@@ -116,19 +146,15 @@ fn within_limits(text: &[u8], short: [bool; 3]) -> Checked<()> {
 
 /// Writes states 0 to k, or refuses the first cue that doesn't apply: number 5.
 fn run<'a>(case: &Case, states: &'a mut [u64]) -> Checked<&'a [Set]> {
-    let rows = &mut states.as_chunks_mut::<4>().0[..case.plan.len() + 1];
+    let rows = &mut states.as_chunks_mut::<WORDS>().0[..case.plan.len() + 1];
     let mut state = case.initial;
     rows[0] = state;
     for (before, (&cue, row)) in case.plan.iter().zip(&mut rows[1..]).enumerate() {
-        let [needed, forbidden, added, deleted] = &case.actions[cue as usize];
-        let mut obstacles = 0;
-        for w in 0..4 {
-            obstacles |= (needed[w] & !state[w]) | (forbidden[w] & state[w]);
-            state[w] = (state[w] & !deleted[w]) | added[w];
-        }
+        let (next, obstacles) = next(&state, &case.actions[cue as usize]);
         if obstacles != 0 {
             return refuse(5, case.plan_line(), before + 1);
         }
+        state = next;
         *row = state;
     }
     Ok(rows)

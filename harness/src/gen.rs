@@ -6,11 +6,12 @@
 //! one that doesn't), above all those that a slightly wrong reading of 01 would take otherwise.
 //! Then the draft or its text may be damaged (`damage`). Long stretches for betweens (`dents`) and
 //! texts at the size limits (`extremes`) are built by hand. For the write call constraints are put
-//! out of order and repeated (`tangles`).
+//! out of order and repeated (`tangles`). The step call has inputs of its own (`steps`).
 
 pub mod damage;
 mod dents;
 pub mod extremes;
+pub mod steps;
 pub mod tangles;
 
 use std::io::Write;
@@ -99,6 +100,18 @@ pub enum Constraint {
     Before(Signed, u32),
     After(Signed, u32),
     Between(u32, Signed, u32),
+}
+
+impl Constraint {
+    /// What a condition asks; an order asks nothing.
+    fn asked(&mut self) -> Option<&mut Signed> {
+        match self {
+            Constraint::Order(..) => None,
+            Constraint::Before(asked, _) | Constraint::After(asked, _) | Constraint::Between(_, asked, _) => {
+                Some(asked)
+            }
+        }
+    }
 }
 
 #[derive(Clone, Debug)]
@@ -557,7 +570,8 @@ fn draw_mask(rng: &mut Rng, subtasks: usize) -> u32 {
 
 /// How big a random model may be.
 struct Size {
-    propositions: usize,
+    /// How many propositions come up in sets and constraints.
+    members: usize,
     actions: usize,
     compound: usize,
     more_methods: usize,
@@ -570,9 +584,9 @@ struct Size {
 fn draw_size(rng: &mut Rng) -> Size {
     let broken = if rng.percent(50) { 20 } else { 0 };
     let negative = *rng.pick(&[0, 50, 50, 80]);
-    match rng.below(20) {
-        0..=10 => Size {
-            propositions: rng.below(5),
+    match rng.below(40) {
+        0..=21 => Size {
+            members: rng.below(5),
             actions: rng.below(4),
             compound: rng.between(1, 3),
             more_methods: rng.below(4),
@@ -580,8 +594,8 @@ fn draw_size(rng: &mut Rng) -> Size {
             nodes: rng.between(1, 12),
             strictness: Strictness { most: 3, tries: 6, broken, negative },
         },
-        11..=18 => Size {
-            propositions: rng.below(20),
+        22..=36 => Size {
+            members: rng.below(20),
             actions: rng.between(1, 8),
             compound: rng.between(1, 6),
             more_methods: rng.below(8),
@@ -589,8 +603,9 @@ fn draw_size(rng: &mut Rng) -> Size {
             nodes: rng.between(4, 50),
             strictness: Strictness { most: 5, tries: 8, broken: broken / 3, negative },
         },
+        37 => full_size(rng, Strictness { most: 5, tries: 8, broken: broken / 3, negative }),
         _ => Size {
-            propositions: rng.between(0, 256),
+            members: rng.between(0, 256),
             actions: rng.between(1, 40),
             compound: rng.between(1, 20),
             more_methods: rng.below(40),
@@ -598,6 +613,19 @@ fn draw_size(rng: &mut Rng) -> Size {
             nodes: rng.between(30, 300),
             strictness: Strictness { most: 8, tries: 12, broken: broken / 10, negative },
         },
+    }
+}
+
+/// Few tasks, and sets of hundreds of members.
+fn full_size(rng: &mut Rng, strictness: Strictness) -> Size {
+    Size {
+        members: rng.between(200, PROPOSITIONS as usize),
+        actions: rng.between(1, 3),
+        compound: rng.between(1, 2),
+        more_methods: rng.below(4),
+        subtasks: 4,
+        nodes: rng.between(1, 12),
+        strictness,
     }
 }
 
@@ -639,7 +667,7 @@ fn draw_methods(rng: &mut Rng, size: &Size) -> Draft {
         let count = rng.between(0, size.subtasks);
         methods.push(draw_method(rng, task, count, tasks));
     }
-    let (propositions, palette) = draw_palette(rng, size.propositions);
+    let (propositions, palette) = draw_palette(rng, size.members);
     Draft {
         propositions,
         palette,
@@ -651,21 +679,42 @@ fn draw_methods(rng: &mut Rng, size: &Size) -> Draft {
     }
 }
 
-/// Propositions at the edges of the four words.
-const EDGES: [u32; 10] = [0, 1, 63, 64, 127, 128, 191, 192, 254, 255];
+/// The most propositions that a model may have, and the most while a state had four words.
+pub const PROPOSITIONS: u32 = 512;
+pub const FORMER: u32 = 256;
 
-/// So many propositions: all that the model has, some of more, or some at the edges of words.
-fn draw_palette(rng: &mut Rng, count: usize) -> (u32, Vec<u32>) {
-    let more = rng.between(count, 256);
-    let propositions = *rng.pick(&[count, count, more, 256]);
-    let mut palette: Vec<u32> = (0..propositions as u32).collect();
-    if propositions == 256 && count < EDGES.len() {
-        palette = EDGES.to_vec();
+/// Propositions at the edges of words and of the limits.
+const EDGES: [u32; 22] =
+    [0, 1, 63, 64, 65, 127, 128, 191, 192, 254, 255, 256, 257, 258, 319, 320, 383, 384, 447, 448, 510, 511];
+
+/// The propositions of a model, and so many of them that its sets draw from: any, or some at the edges of words; often the last one.
+fn draw_palette(rng: &mut Rng, members: usize) -> (u32, Vec<u32>) {
+    let propositions = draw_count(rng, members as u32);
+    let mut palette: Vec<u32> = (0..propositions).collect();
+    if members < EDGES.len() && rng.percent(80) {
+        palette.retain(|&p| EDGES.contains(&p) || p + 1 == propositions);
     }
     rng.shuffle(&mut palette);
-    palette.truncate(count);
+    if let Some(last) = palette.iter().position(|&p| p + 1 == propositions).filter(|_| rng.percent(50)) {
+        palette.swap(0, last);
+    }
+    palette.truncate(members);
     palette.sort();
-    (propositions as u32, palette)
+    (propositions, palette)
+}
+
+/// How many propositions a model has whose sets draw from so many: just these, some more, about as many as whole words hold,
+/// more than there once could be, or one too many.
+fn draw_count(rng: &mut Rng, members: u32) -> u32 {
+    let more = rng.between(members.min(FORMER) as usize, FORMER as usize) as u32;
+    let many = rng.between(FORMER as usize + 1, PROPOSITIONS as usize) as u32;
+    match rng.below(100) {
+        0..=22 => members,
+        23..=32 => more,
+        33..=51 => *rng.pick(&[0, 1, 63, 64, 65, 127, 128, FORMER - 1, FORMER]),
+        52..=98 => *rng.pick(&[FORMER + 1, 320, many, PROPOSITIONS - 1, PROPOSITIONS, PROPOSITIONS]),
+        _ => PROPOSITIONS + 1,
+    }
 }
 
 fn draw_method(rng: &mut Rng, task: usize, subtasks: usize, below: usize) -> Method {

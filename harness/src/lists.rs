@@ -3,6 +3,9 @@
 use crate::gen::Rng;
 use crate::plain::{Node, NODES_ASKED, STATES_ASKED, TEXT_LIMIT, WORK_ASKED};
 
+/// What was asked of the state list while a state had four words.
+const FORMER_STATES: usize = 4_004;
+
 /// How long the lent lists are.
 #[derive(Clone, Copy, Debug)]
 pub struct Lengths {
@@ -14,7 +17,8 @@ pub struct Lengths {
 impl Lengths {
     pub const EXACT: Lengths = Lengths { states: STATES_ASKED, nodes: NODES_ASKED, work: WORK_ASKED };
 
-    /// Each list exact, long by some, short by one, or of no length; mostly long enough.
+    /// Each list exact, long by some, short by one, or of no length; mostly long enough. A short state list is often
+    /// about as long as was once enough.
     pub fn draw(rng: &mut Rng) -> Lengths {
         let mut length = |asked: usize| match rng.below(12) {
             0 => asked - 1,
@@ -23,7 +27,13 @@ impl Lengths {
             3..=6 => asked + rng.between(1, MARGIN / 2),
             _ => asked,
         };
-        Lengths { states: length(STATES_ASKED), nodes: length(NODES_ASKED), work: length(WORK_ASKED) }
+        let mut lengths =
+            Lengths { states: length(STATES_ASKED), nodes: length(NODES_ASKED), work: length(WORK_ASKED) };
+        if lengths.states < STATES_ASKED && rng.percent(50) {
+            let more = rng.between(FORMER_STATES + 1, STATES_ASKED - 2);
+            lengths.states = *rng.pick(&[FORMER_STATES - 1, FORMER_STATES, more]);
+        }
+        lengths
     }
 }
 

@@ -1,4 +1,4 @@
-//! Document 01, with Cards 1 and 2 of document 02, as a plain Rust program: the step, replay, check and write calls.
+//! Document 01, with Cards 1 to 3 of document 02, as a plain Rust program: the step, replay, check and write calls.
 //!
 //! The text is read once into vectors (`read`), the plan is run into the lent state list
 //! (`run`), the claimed tree is walked (`Walk`), and the constraints are tried node by node
@@ -9,7 +9,13 @@
 pub use cuecheck::{Node, Refusal, Reply, Set, Written};
 use std::ops::{Range, RangeBounds};
 
-pub const STATES_ASKED: usize = 4_004;
+/// The words of a state.
+const WORDS: usize = 8;
+/// As many as a state has bits.
+const PROPOSITIONS: u32 = u64::BITS * WORDS as u32;
+const CUES: u32 = 1_000;
+/// Room for states 0 to k.
+pub const STATES_ASKED: usize = WORDS * (CUES as usize + 1);
 pub const NODES_ASKED: usize = 3_000;
 pub const WORK_ASKED: usize = 16_384;
 pub const TEXT_LIMIT: usize = 65_535;
@@ -24,7 +30,7 @@ fn refuse<T>(number: u32, line: u32, item: u32) -> Checked<T> {
 /// Applies an action: yes with the next state, or no with the state as it came.
 pub fn step(state: Set, needed: Set, forbidden: Set, added: Set, deleted: Set) -> (bool, Set) {
     // One OR over all words instead of a test per word: the common case has no early way out.
-    let obstacles = (0..4).fold(0, |bits, w| bits | (needed[w] & !state[w]) | (forbidden[w] & state[w]));
+    let obstacles = (0..WORDS).fold(0, |bits, w| bits | (needed[w] & !state[w]) | (forbidden[w] & state[w]));
     if obstacles != 0 {
         return (false, state);
     }
@@ -37,7 +43,7 @@ pub fn check(text: &[u8], states: &mut [u64], nodes: &mut [Node], work: &mut [u3
     work.fill(0);
     match check_with(text, &asked, states, nodes) {
         Ok(case) => {
-            states[4 * (case.plan.len() + 1)..].fill(0);
+            states[WORDS * (case.plan.len() + 1)..].fill(0);
             nodes[case.claims.len()..].fill(Node::default());
             case.accepted()
         }
@@ -55,7 +61,7 @@ pub fn replay(text: &[u8], states: &mut [u64], work: &mut [u32]) -> Reply {
     work.fill(0);
     match replay_with(text, &asked, states) {
         Ok(case) => {
-            states[4 * (case.plan.len() + 1)..].fill(0);
+            states[WORDS * (case.plan.len() + 1)..].fill(0);
             case.accepted()
         }
         Err(refusal) => {
@@ -303,7 +309,7 @@ impl<'a> Reader<'a> {
     /// Reads a set of propositions: its count, then strictly ascending members.
     fn set(&mut self, propositions: u32) -> Checked<Set> {
         let count = self.number_in(..=propositions)?;
-        let mut set = [0; 4];
+        let mut set = [0; WORDS];
         let mut least = 0; // the least member still allowed
         for _ in 0..count {
             let member = self.number_in(least..propositions)?;
@@ -368,7 +374,7 @@ fn read(text: &[u8]) -> Checked<Case> {
 
 fn read_header(reader: &mut Reader) -> Checked<Header> {
     reader.letter(b"N")?;
-    let propositions = reader.number_in(..=256)?;
+    let propositions = reader.number_in(..=PROPOSITIONS)?;
     let actions = reader.number_in(..=1_024)?;
     let compound = reader.number_in(..=1_024)?;
     let tasks = actions + compound;
@@ -378,7 +384,7 @@ fn read_header(reader: &mut Reader) -> Checked<Header> {
         tasks,
         methods: reader.number_in(..=2_048)?,
         goal: reader.number_in(actions..tasks)?,
-        cues: reader.number_in(..=1_000)?,
+        cues: reader.number_in(..=CUES)?,
         nodes: reader.number_in(1..=3_000)?,
     };
     reader.end_line()?;
@@ -473,7 +479,7 @@ fn read_claim(reader: &mut Reader, header: &Header) -> Checked<Claim> {
 
 /// Writes states 0 to k, or refuses the first cue that doesn't apply: number 5.
 fn run(case: &Case, states: &mut [u64]) -> Checked<()> {
-    let (rows, _) = states.as_chunks_mut::<4>();
+    let (rows, _) = states.as_chunks_mut::<WORDS>();
     let mut state = case.initial;
     rows[0] = state;
     for (before, &cue) in case.plan.iter().enumerate() {
@@ -618,7 +624,7 @@ struct Scene<'a> {
 
 /// Tries every node's constraints in order: numbers 10 to 13.
 fn first_broken(case: &Case, states: &[u64], nodes: &[Node], subtask_spans: &SubtaskSpans) -> Checked<()> {
-    let (rows, _) = states.as_chunks::<4>();
+    let (rows, _) = states.as_chunks::<WORDS>();
     for (at, &claim) in case.claims.iter().enumerate() {
         let (Claim::Decomposed { method } | Claim::Empty { method, .. }) = claim else {
             continue;

@@ -30,7 +30,7 @@ fn columns_at_their_edges() {
         for length in [1, 2, 16, 17, 18, 33, 65, 930] {
             for from in [state - length, state - length + 1, state, state + 1] {
                 let (from, to) = (from.clamp(0, 930), (from + length - 1).clamp(0, 930));
-                for asked in [is(0), not(0)] {
+                for asked in [is(0), not(0), is(256), not(511)] {
                     try_dent(state, from, to, asked);
                 }
             }
@@ -48,18 +48,20 @@ fn try_dent(state: i32, from: i32, to: i32, asked: Signed) {
     assert_eq!(answer, plain::check(&text, states, nodes, work));
 }
 
-/// 930 cues; proposition 0 is not as asked in one state, and asked for from gap to gap.
+/// 930 cues; a proposition is not as asked in one state, and asked for from gap to gap.
 fn one_dent(state: usize, from: u32, to: u32, asked: Signed) -> Draft {
     let (g, y, z) = (3, 4, 5);
     let (away, back) = if asked.positive { (1, 2) } else { (2, 1) };
-    let mut draft = Draft { propositions: 1, compound: 3, goal: g, plan: vec![0; 930], ..Draft::default() };
-    draft.actions = vec![Default::default(), [vec![], vec![], vec![], vec![0]], [vec![], vec![], vec![0], vec![]]];
+    let p = vec![asked.proposition];
+    let propositions = asked.proposition + 1;
+    let mut draft = Draft { propositions, compound: 3, goal: g, plan: vec![0; 930], ..Draft::default() };
+    draft.actions = vec![Default::default(), [vec![], vec![], vec![], p.clone()], [vec![], vec![], p.clone(), vec![]]];
     draft.plan[state] = back;
     if state > 0 {
         draft.plan[state - 1] = away;
     }
     if asked.positive == (state > 0) {
-        draft.initial = vec![0];
+        draft.initial = p;
     }
     let constraints = vec![Constraint::Between(1, asked, 2)];
     draft.methods.push(Method { task: g, subtasks: [vec![z; 2], vec![y; 30]].concat(), constraints });
@@ -114,6 +116,9 @@ fn dear_cases() {
     assert_eq!(with_64(&draft, |it| matches!(it, Constraint::Between(..))), 648);
     let negative = |it: &&Constraint| matches!(it, Constraint::Between(_, Signed { positive: false, .. }, _));
     assert_eq!(draft.methods[6].constraints.iter().filter(negative).count(), 32);
+    let draft = extremes::wide_betweens();
+    assert_accepted(&draft);
+    assert_eq!(with_64(&draft, |it| matches!(it, Constraint::Between(..))), 648);
 }
 
 #[test]
@@ -131,5 +136,18 @@ fn mixed_order() {
         assert_eq!((draft.plan.len(), draft.methods.len()), (cues, 200));
         assert!(methods(&draft).windows(2).all(|pair| pair[0] != pair[1]));
         assert!(draft.methods.iter().all(|method| method.constraints.len() >= 3));
+    }
+}
+
+/// Of texts that are mostly sets, one has no more propositions than four words hold, and both use their last one.
+#[test]
+fn large_sets() {
+    for propositions in [256, 512] {
+        let draft = extremes::large_sets(propositions);
+        assert_accepted(&draft);
+        assert!((60_000..=65_535).contains(&draft.text().len()));
+        for set in 0..4 {
+            assert!(draft.actions.iter().any(|sets| sets[set].contains(&(propositions - 1))));
+        }
     }
 }

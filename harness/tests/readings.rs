@@ -1,4 +1,4 @@
-//! The panel cases of document 01 and the settled readings, of Card 1 of document 02 too, each as a text and its answer.
+//! The panel cases of document 01 and the settled readings, of Cards 1 and 3 of document 02 too, each as a text and its answer.
 
 use harness::fast;
 use harness::lists::{Dirt, Lengths, Lists};
@@ -61,17 +61,86 @@ fn spans_of_case_a() {
     check(CASE_A.as_bytes(), states, nodes, work);
     let records: Vec<[u32; 5]> = nodes[..5].iter().map(|n| [n.letter, n.label, n.place, n.start, n.end]).collect();
     assert_eq!(records, [[1, 0, 0, 1, 4], [2, 2, 0, 1, 1], [3, 1, 1, 2, 2], [3, 2, 2, 4, 4], [0; 5]]);
-    assert_eq!(states[..16], [1, 0, 0, 0, 3, 0, 0, 0, 5, 0, 0, 0, 0, 0, 0, 0]);
-    assert!(states[12..].iter().all(|&word| word == 0) && work.iter().all(|&number| number == 0));
+    let (rows, _) = states.as_chunks::<8>();
+    assert_eq!(rows[..3], [word(0, 1), word(0, 3), word(0, 5)]);
+    assert!(states[24..].iter().all(|&word| word == 0) && work.iter().all(|&number| number == 0));
+}
+
+/// A set with members in one word.
+fn word(number: usize, bits: u64) -> [u64; 8] {
+    let mut set = [0; 8];
+    set[number] = bits;
+    set
+}
+
+/// The state list of a text that both renderings accept.
+#[track_caller]
+fn states_of(text: &str) -> Vec<u64> {
+    let mut lists = [Lists::default(), Lists::default()];
+    let calls = [check, fast::check];
+    for (lists, call) in lists.iter_mut().zip(calls) {
+        lists.soil(Dirt::Counting);
+        let (states, nodes, work) = lists.lend(Lengths::EXACT);
+        assert_eq!(call(text.as_bytes(), states, nodes, work).number, 0);
+    }
+    assert_eq!(lists[0].first_difference(&lists[1]), None);
+    lists[0].lend(Lengths::EXACT).0.to_vec()
+}
+
+/// Case a with so many propositions, and other lines replaced.
+#[track_caller]
+fn expect_of(propositions: u32, changes: &[(usize, &str)], answer: &str) {
+    let header = format!("N,{propositions},3,2,3,3,2,4");
+    expect(&[&[(1, &header[..])], changes].concat(), answer);
+}
+
+#[test]
+fn propositions() {
+    for propositions in [3, 4, 63, 64, 65, 255, 256, 257, 511, 512] {
+        let last = propositions - 1;
+        expect_of(propositions, &[], "Y,2,4");
+        expect_of(propositions, &[(2, &format!("I,2,0,{last}")), (12, &format!("B,{last},0"))], "Y,2,4");
+        // Sets, their members and conditions go by the model's own count.
+        expect_of(propositions, &[(2, &format!("I,2,0,{propositions}"))], "R,4,2,4");
+        expect_of(propositions, &[(2, &format!("I,{},0", propositions + 1))], "R,4,2,2");
+        expect_of(propositions, &[(3, &format!("A,0,1,{propositions},0,0"))], "R,4,3,4");
+        for letter in ["B", "b", "F", "f"] {
+            expect_of(propositions, &[(8, &format!("{letter},{propositions},2"))], "R,4,8,2");
+        }
+        for letter in ["W", "w"] {
+            expect_of(propositions, &[(8, &format!("{letter},1,{propositions},4"))], "R,4,8,3");
+        }
+    }
+    expect_of(513, &[], "R,4,1,2");
+    expect_of(4_294_967_295, &[], "R,4,1,2");
+}
+
+#[test]
+fn eight_words() {
+    for p in [0, 63, 64, 255, 256, 257, 319, 320, 447, 448, 511] {
+        let text =
+            case_a(&[(1, "N,512,3,2,3,3,2,4"), (2, &format!("I,1,{p}")), (9, &format!("W,1,{p},4")), (12, "b,3,0")]);
+        let states = states_of(&text);
+        let mut start = word(p / 64, 1 << (p % 64));
+        assert_eq!(states[..8], start, "{p}");
+        start[0] |= 2;
+        assert_eq!(states[8..16], start, "{p}");
+        assert!(states[24..].iter().all(|&word| word == 0));
+    }
+    let all: String = (0..512).map(|p| format!(",{p}")).collect();
+    let text = format!("N,512,1,1,1,1,1,2\nI,512{all}\nA,512{all},0,512{all},512{all}\nM,1,1,0,0\nP,0\nD,0\nL,0,1\n");
+    let states = states_of(&text);
+    assert!(states[..16].iter().all(|&word| word == u64::MAX) && states[16..].iter().all(|&word| word == 0));
 }
 
 #[test]
 fn lines() {
     assert_eq!(checked(b""), "R,3,1,0");
     assert_eq!(checked(b"\n"), "R,3,1,1");
-    assert_eq!(checked(b"N,257,x"), "R,3,1,0");
-    assert_eq!(checked(b"N,257,x\n"), "R,4,1,2");
-    assert_eq!(checked(b"N,257x\n"), "R,3,1,2");
+    assert_eq!(checked(b"N,513,x"), "R,3,1,0");
+    assert_eq!(checked(b"N,513,x\n"), "R,4,1,2");
+    assert_eq!(checked(b"N,513x\n"), "R,3,1,2");
+    assert_eq!(checked(b"N,512,x\n"), "R,3,1,3");
     assert_eq!(checked(b"N\n"), "R,3,1,2");
     assert_eq!(checked(b"n,1\n"), "R,3,1,1");
     assert_eq!(checked(b"NN,1\n"), "R,3,1,1");
@@ -169,15 +238,25 @@ fn lists_are_tested_before_the_text() {
     let mut lists = Lists::default();
     let mut answer = |text: &[u8], states, nodes, work| {
         let (states, nodes, work) = lists.lend(Lengths { states, nodes, work });
-        (printed(check(text, states, nodes, work)), printed(replay(text, states, work)))
+        let (checked, replayed) = (check(text, states, nodes, work), replay(text, states, work));
+        assert_eq!(checked, fast::check(text, states, nodes, work));
+        assert_eq!(replayed, fast::replay(text, states, work));
+        (printed(checked), printed(replayed))
     };
     let both = |check: &str, replay: &str| (check.to_string(), replay.to_string());
-    assert_eq!(answer(&long, 4_003, 2_999, 16_383), both("R,1,0,1", "R,1,0,1"));
-    assert_eq!(answer(&long, 4_004, 2_999, 16_383), both("R,1,0,2", "R,1,0,3"));
-    assert_eq!(answer(&long, 4_004, 2_999, 16_384), both("R,1,0,2", "R,2,0,0"));
-    assert_eq!(answer(&long, 4_004, 3_000, 0), both("R,1,0,3", "R,1,0,3"));
-    assert_eq!(answer(&long, 4_004, 3_000, 16_384), both("R,2,0,0", "R,2,0,0"));
-    assert_eq!(answer(&long[..65_535], 4_004, 3_000, 16_384), both("R,3,1,0", "R,3,1,0"));
+    // A state list is as long for a plan without cues.
+    let without_cues = b"N,0,0,1,1,0,0,1\nI,0\nM,0,0,0\nP\nE,0,0\n";
+    for states in [0, 4_003, 4_004, 4_005, 8_007] {
+        for text in [&long[..], without_cues, CASE_A.as_bytes()] {
+            assert_eq!(answer(text, states, 2_999, 16_383), both("R,1,0,1", "R,1,0,1"));
+        }
+    }
+    assert_eq!(answer(without_cues, 8_008, 3_000, 16_384), both("Y,0,1", "Y,0,1"));
+    assert_eq!(answer(&long, 8_008, 2_999, 16_383), both("R,1,0,2", "R,1,0,3"));
+    assert_eq!(answer(&long, 8_008, 2_999, 16_384), both("R,1,0,2", "R,2,0,0"));
+    assert_eq!(answer(&long, 8_008, 3_000, 0), both("R,1,0,3", "R,1,0,3"));
+    assert_eq!(answer(&long, 8_008, 3_000, 16_384), both("R,2,0,0", "R,2,0,0"));
+    assert_eq!(answer(&long[..65_535], 8_008, 3_000, 16_384), both("R,3,1,0", "R,3,1,0"));
 }
 
 #[test]
@@ -189,14 +268,28 @@ fn replay_reads_the_tree_but_does_not_walk_it() {
     assert_eq!(printed(replay(case_a(&[(13, "P,2,1")]).as_bytes(), states, work)), "R,5,13,1");
 }
 
+/// The answer of both renderings, and the state that they leave.
+fn stepped(state: [u64; 8], sets: [[u64; 8]; 4]) -> (bool, [u64; 8]) {
+    let [needed, forbidden, added, deleted] = sets;
+    let answer = step(state, needed, forbidden, added, deleted);
+    let mut fast_state = state;
+    assert_eq!((fast::step(&mut fast_state, &sets), fast_state), answer);
+    answer
+}
+
 #[test]
 fn step_deletes_then_adds() {
-    let none = [0; 4];
-    assert_eq!(
-        step([5, 0, 0, 1 << 63], [1, 0, 0, 1 << 63], [2, 0, 0, 0], [8, 0, 0, 0], [12, 0, 0, 1 << 63]),
-        (true, [9, 0, 0, 0])
-    );
-    assert_eq!(step([5, 0, 0, 0], [2, 0, 0, 0], none, [8, 0, 0, 0], none), (false, [5, 0, 0, 0]));
-    assert_eq!(step([5, 0, 7, 0], none, [0, 0, 4, 0], [8, 0, 0, 0], none), (false, [5, 0, 7, 0]));
-    assert_eq!(step(none, none, none, [u64::MAX; 4], [u64::MAX; 4]), (true, [u64::MAX; 4]));
+    let (none, all) = ([0; 8], [u64::MAX; 8]);
+    let (five, top) = (word(0, 5), word(7, 1 << 63));
+    let state = [5, 0, 0, 0, 0, 0, 0, 1 << 63];
+    let deleted = [12, 0, 0, 0, 0, 0, 0, 1 << 63];
+    assert_eq!(stepped(state, [state, word(0, 2), word(0, 8), deleted]), (true, word(0, 9)));
+    assert_eq!(stepped(five, [word(0, 2), none, word(0, 8), none]), (false, five));
+    assert_eq!(stepped(five, [none, word(0, 4), word(0, 8), none]), (false, five));
+    assert_eq!(stepped(none, [none, none, all, all]), (true, all));
+    assert_eq!(stepped(all, [all, none, none, all]), (true, none));
+    // One bit of the last word stands against it.
+    assert_eq!(stepped(none, [top, none, all, none]), (false, none));
+    assert_eq!(stepped(top, [none, top, all, none]), (false, top));
+    assert_eq!(stepped(top, [top, none, top, top]), (true, top));
 }

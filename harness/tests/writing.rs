@@ -98,7 +98,8 @@ fn other_refusals_come_first() {
         assert_eq!(written(&broken, Lengths::EXACT, output).0, refused(10, 13, 1));
         assert_eq!(written("N\n", Lengths::EXACT, output).0, refused(3, 1, 2));
         for (item, lengths) in [
-            (1, Lengths { states: 4_003, ..Lengths::EXACT }),
+            (1, Lengths { states: 8_007, ..Lengths::EXACT }),
+            (1, Lengths { states: 4_004, ..Lengths::EXACT }),
             (2, Lengths { nodes: 2_999, ..Lengths::EXACT }),
             (3, Lengths { work: 16_383, ..Lengths::EXACT }),
         ] {

@@ -1,5 +1,5 @@
 #!/usr/bin/env python3
-"""Document 01, with Cards 1 and 2 of document 02, rendered a second time, as naively as it can be
+"""Document 01, with Cards 1 to 3 of document 02, rendered a second time, as naively as it can be
 said, to cross-check plain.rs.
 
 Sets of ints, fractions for half indexes, the text cut at line feeds and commas, a tree of
@@ -7,7 +7,7 @@ objects. It shares no code and no data layout with the Rust rendering.
 
     naive.py cases FOLDER     every .case of the folder against its .expect
     naive.py cards FOLDER     the folders of a card's cases (call, case, expect, expect.output):
-                              those that call check or write
+                              those that call check, replay or write and hold now
     naive.py stored FOLDER    the stored cases of the write call (args, data, stdout)
     naive.py dump FILE        every record that the program `dump` wrote (texts with the plain
                               rendering's answers and lists)
@@ -21,6 +21,16 @@ from fractions import Fraction
 from pathlib import Path
 
 PLAIN = re.compile(rb"0|[1-9][0-9]*")
+
+# How many cards have landed; a state's words and the most propositions; the most cues; what is asked
+# of the lent lists.
+LANDED = 3
+WORDS = 8
+PROPOSITIONS = 64 * WORDS
+CUES = 1000
+STATES = WORDS * (CUES + 1)
+NODES = 3000
+WORK = 16384
 
 
 class Refused(Exception):
@@ -111,15 +121,15 @@ def read(text):
     case = Case()
     f = lines.due()
     f.letter(b"N")
-    case.propositions = f.number(lambda n: n <= 256)
+    case.propositions = f.number(lambda n: n <= PROPOSITIONS)
     case.action_count = f.number(lambda n: n <= 1024)
     compound = f.number(lambda n: n <= 1024)
     case.tasks = case.action_count + compound
     case.is_compound = lambda t: case.action_count <= t < case.tasks
     method_count = f.number(lambda n: n <= 2048)
     case.goal = f.number(case.is_compound)
-    case.k = f.number(lambda n: n <= 1000)
-    case.n = f.number(lambda n: 1 <= n <= 3000)
+    case.k = f.number(lambda n: n <= CUES)
+    case.n = f.number(lambda n: 1 <= n <= NODES)
     f.end()
     f = lines.due()
     f.letter(b"I")
@@ -297,7 +307,7 @@ def try_constraints(case, root, states):
 
 
 def words(state):
-    return [sum(1 << (p % 64) for p in state if p // 64 == w) for w in range(4)]
+    return [sum(1 << (p % 64) for p in state if p // 64 == w) for w in range(WORDS)]
 
 
 def record(tree):
@@ -307,11 +317,11 @@ def record(tree):
 def call(text, states_len, nodes_len, work_len, whole):
     """The check call, or without `whole` the replay call: answer, states and nodes, flat."""
     try:
-        if states_len < 4004:
+        if states_len < STATES:
             raise Refused(1, 0, 1)
-        if whole and nodes_len < 3000:
+        if whole and nodes_len < NODES:
             raise Refused(1, 0, 2)
-        if work_len < 16384:
+        if work_len < WORK:
             raise Refused(1, 0, 3)
         if len(text) > 65535:
             raise Refused(2, 0, 0)
@@ -380,7 +390,7 @@ def compare_cases(folder):
     cases = sorted(Path(folder).glob("*.case"))
     differing = 0
     for case in cases:
-        answer = printed(call(case.read_bytes(), 4004, 3000, 16384, True)[0])
+        answer = printed(call(case.read_bytes(), STATES, NODES, WORK, True)[0])
         expected = case.with_suffix(".expect").read_text()
         if answer != expected:
             differing += 1
@@ -394,17 +404,18 @@ def compare_cards(folder):
     count = differing = 0
     for case in sorted(Path(folder).glob("*/call")):
         words = dict(line.split(" ", 1) for line in case.read_text().splitlines() if line[0] != "#")
-        lengths = [int(words.get(name, asked)) for name, asked in (("states", 4004), ("nodes", 3000), ("work", 16384))]
+        since, until = words["holds"].split("-")
+        if words["call"] not in ("check", "replay", "write") or not int(since) <= LANDED <= int(until):
+            continue
+        lengths = [int(words.get(name, asked)) for name, asked in (("states", STATES), ("nodes", NODES), ("work", WORK))]
         text = case.with_name("case").read_bytes()
         if words["call"] == "write":
             answer, states, records, output = write(text, *lengths, int(words["output"]))
-        elif words["call"] == "check":
-            (answer, states, records), output = call(text, *lengths, True), b""
         else:
-            continue
+            (answer, states, records), output = call(text, *lengths, words["call"] == "check"), b""
         count += 1
         told = printed(answer)
-        for name, numbers, size in (("S", states, 4), ("T", records, 5)):
+        for name, numbers, size in (("S", states, WORDS), ("T", records, 5)):
             for i in range(0, len(numbers), size):
                 told += ",".join([name, str(i // size)] + [str(n) for n in trimmed(numbers[i : i + size])]) + "\n"
         put_out = case.with_name("expect.output")

@@ -1,15 +1,18 @@
 //! The calls of libcapi.a behind safe functions, and what passes to and fro. `include/cuecheck.h` has the same declarations for C.
 
 /// The least lengths of the lent lists. A shorter list is refused with number 1, a longer one is filled to its end.
-pub const STATES: usize = 4_004;
+pub const STATES: usize = 8_008;
 pub const NODES: usize = 3_000;
 pub const WORK: usize = 16_384;
 
 /// The greatest length of a text.
 pub const TEXT: usize = 65_535;
 
+/// How many words a set has.
+pub const WORDS: usize = 8;
+
 /// A set of propositions: p is bit p % 64 of word p / 64.
-pub type Set = [u64; 4];
+pub type Set = [u64; WORDS];
 
 /// A node of the tree. Start and end are doubled, so that a gap has a whole number: 2 * gap + 1, 2 * position.
 #[repr(C)]

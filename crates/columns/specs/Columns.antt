@@ -4,7 +4,7 @@ use mathlib.Core.Path.{_≡_}
 use mathlib.Core.Bool.{Bool, true, not}
 use mathlib.Core.List.{List}
 use Prim.Native.Nat.{ℕ, _+_, _*_, _≤_, _<_}
-use lib.ListN.{length}
+use lib.ListN.{length, replicate}
 use Rattle.rules.specs.declared.Sign.{Sign}
 use Rattle.rules.specs.declared.Sign.the-variants.{Positive, Negative}
 use Rattle.rules.specs.State.{wordCount, member, every}
@@ -24,9 +24,9 @@ sumAt Negative = 17
 unfoldable pub columnWords : ℕ
 columnWords = 18
 
--- How many columns there are: one for each proposition that a state has a bit for.
-unfoldable pub columnCount : ℕ
-columnCount = 64 * wordCount
+-- How many columns there are: one for each proposition that the set of those built has a bit for.
+unfoldable pub columnCount : List ℕ → ℕ
+columnCount built = 64 * length built
 
 -- The column of proposition p.
 unfoldable pub columnAt : List ℕ → ℕ → List ℕ
@@ -53,6 +53,12 @@ pub record Column (states : List ℕ) (p n : ℕ) (column : List ℕ) : Type 0 w
 pub record Columns (states : List ℕ) (n : ℕ) (columns built : List ℕ) : Type 0 where
   pub fits : n ≤ 64 * stateWords
   pub there : wordCount * n ≤ length states
-  pub room : length columns ≡ columnCount * columnWords
-  pub flags : length built ≡ wordCount
+  pub few : length built ≤ wordCount
+  pub room : length columns ≡ columnCount built * columnWords
   pub right : (p : ℕ) → member built p ≡ true → Column states p n (columnAt columns p)
+
+-- What a caller lends at first: a set with no member, of at most as many words as a state has, and room for its columns, whatever stands there.
+pub record Blank (columns built : List ℕ) : Type 0 where
+  pub few : length built ≤ wordCount
+  pub room : length columns ≡ columnCount built * columnWords
+  pub none : built ≡ replicate (length built) 0

@@ -11,7 +11,7 @@ ghost use Rattle.rules.specs.declared.Sign.the-variants.{Positive};
 ghost use Rattle.rules.specs.Constraint.{signed, holdsFrom};
 ghost use Rattle.index.specs.Spans.{stateOf};
 ghost use Rattle.rows.specs.Rows.{inRow};
-ghost use Rattle.columns.specs.Columns.{stateWords, sumAt, columnWords, columnCount, columnAt, asked, Summed, Column, Columns};
+ghost use Rattle.columns.specs.Columns.{stateWords, sumAt, columnWords, columnAt, asked, Summed, Column, Columns};
 use index::StateNumber;
 use rules::Sign;
 use state::WORDS;
@@ -21,10 +21,9 @@ const STATE_WORDS: usize = 16;
 
 const COLUMN: usize = STATE_WORDS + 2;
 
-// What a caller lends: numbers for the columns of all propositions, and for the set of those whose column is built.
-pub const COLUMNS: usize = 64 * WORDS * COLUMN;
-
-pub const BUILT: usize = WORDS;
+// What a caller lends: the set of the propositions whose column is built, and so many numbers for the columns of those in each of its words. A
+// proposition past its words has no column.
+pub const PER_WORD: usize = 64 * COLUMN;
 
 // Fewer states than this do not pay for a column.
 const FEW: usize = 16;
@@ -160,7 +159,7 @@ fn column_start(p: u32) -> usize
 // Builds the column of p.
 fn fill(columns: &mut [u64], built: &mut [u64], states: &[u64], n: usize, p: u32)
     requires { ⌜ Columns (now states) n (now columns) (now built) ⌝ }
-    requires { ⌜ p / 64 < wordCount ⌝ }
+    requires { ⌜ p / 64 < length (now built) ⌝ }
     ensures { λ _. ⌜ Columns (now (states .entry)) n (now (columns .exit)) (now (built .exit)) ⌝ }
     ensures { λ _. ⌜ member (now (built .exit)) p ≡ true ⌝ }
 {
@@ -172,8 +171,7 @@ fn fill(columns: &mut [u64], built: &mut [u64], states: &[u64], n: usize, p: u32
 
 // The test by the column of p.
 fn by_column(columns: &[u64], sign: Sign, p: u32, first: StateNumber, past: StateNumber) -> bool
-    requires { ⌜ p / 64 < wordCount ⌝ }
-    requires { ⌜ length (now columns) ≡ columnCount * columnWords ⌝ }
+    requires { ⌜ columnWords * p + columnWords ≤ length (now columns) ⌝ }
     requires { ⌜ (stateOf first < stateOf past) × (stateOf past ≤ 64 * stateWords) ⌝ }
     requires { ⌜ Summed (columnAt (now columns) p) (stateOf past) ⌝ }
     ensures { λ r. ⌜ r ≡ every (stateOf past - stateOf first) (stateOf first) (asked sign (columnAt (now (columns .entry)) p)) ⌝ }
@@ -203,11 +201,11 @@ fn by_states(states: &[u64], sign: Sign, p: u32, first: StateNumber, past: State
     true
 }
 
-// Whether a column pays: for many states, and a proposition that has one.
-fn pays(p: u32, first: StateNumber, past: StateNumber) -> bool
-    ensures { λ r. ⌜ (r ≡ true → p / 64 < wordCount) ⌝ }
+// Whether a column pays, of the propositions of so many words: for many states, and a proposition that has one.
+fn pays(words: usize, p: u32, first: StateNumber, past: StateNumber) -> bool
+    ensures { λ r. ⌜ (r ≡ true → p / 64 < words) ⌝ }
 {
-    if (p / 64) as usize >= WORDS {
+    if (p / 64) as usize >= words {
         return false;
     }
     first.number() as usize + FEW <= past.number() as usize
@@ -238,7 +236,7 @@ pub fn test(
     if state::holds(built, p) {
         return by_column(columns, sign, p, first, past);
     }
-    if !pays(p, first, past) {
+    if !pays(built.len(), p, first, past) {
         return by_states(states, sign, p, first, past);
     }
     fill(columns, built, states, n, p);

@@ -6,7 +6,7 @@ use mathlib.Core.List.{List, [], _∷_, _++_, map, map-append, flatten, List·Me
 use mathlib.Core.List.{List·Memᴰ as Mem, List·Memᴰ·head as here, List·Memᴰ·tail as there}
 use Prim.Native.Nat.{ℕ, _+_, _-_, _*_, _≤_, _<_}
 use native.Mathlib.Omega.{arith}
-use lib.ListN.{length, getD, take, drop, replicate, length-map, List·getD-append}
+use lib.ListN.{length, getD, take, drop, length-map, List·getD-append}
 use lib.Seq.{sets, getD-take, getD-drop}
 use Rattle.rules.specs.declared.Header.{Header}
 use Rattle.rules.specs.State.{wordCount}
@@ -23,7 +23,7 @@ use Rattle.rules.proofs.Judgement.Walk.{walk-shows}
 use Rattle.tree.proofs.Directory.{finds-kept}
 use Rattle.tree.specs.Layout.{subtasksPast, rowsFrom, rowsPast, subtasksFrom, size, rows, rowsIn}
 use Rattle.rows.specs.Rows.{inRow}
-use Rattle.columns.specs.Columns.{stateWords, columnWords, columnCount, Columns}
+use Rattle.columns.specs.Columns.{stateWords, Columns, Blank}
 use Rattle.columns.proofs.Kept.{columns-none}
 use Rattle.parts.specs.Spans.{rowSpan, RowInside, siblings, nodesIn, spansIn}
 use Rattle.constraints.specs.Ready.{Ready, Leaves, namesMethod, Labels, nodeOfTree}
@@ -102,17 +102,15 @@ module _ {k : Case} {t : Tree} {fields : List ℕ} {header : Header} {planLine n
       (let e = is-sound .plan-length in omega arith)
 
   -- No column is built yet.
-  pub columns-start : (columns built : List ℕ) → length columns ≡ columnCount * columnWords → built ≡ replicate wordCount 0
-      → Columns states (header .cues + 1) columns built
+  pub columns-start : (columns built : List ℕ) → Blank columns built → Columns states (header .cues + 1) columns built
   unfolding stateWords wordCount stateNeed
-  columns-start columns built room none =
+  columns-start columns built blank =
       let few = is-sound .head-good .few-cues in
       let cues : header .cues ≡ k .head .cues = ap (λ (h : Header). h .cues) (r .head) in
       let long = r .stateRoom in
       let all = filled-size (r .stateSize) (flatten (statesOf k)) in
       let same = ap length (r .statesHeld) in
-      subst (Columns states (header .cues + 1) columns) (sym none)
-      (columns-none states (header .cues + 1) columns (omega arith) (omega arith) room)
+      columns-none states (header .cues + 1) columns built (omega arith) (omega arith) blank
 
 -- ---- a node with a method
 

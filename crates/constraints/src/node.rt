@@ -1,12 +1,11 @@
 // The constraints of the claimed tree's nodes, "nodes in order".
 ghost use mathlib.Core.Path.{_≡_};
-ghost use Prim.Native.Nat.{_+_, _*_, _<_};
-ghost use lib.ListN.{length, getD, replicate};
-ghost use Rattle.rules.specs.State.{wordCount};
+ghost use Prim.Native.Nat.{_+_, _<_};
+ghost use lib.ListN.{length, getD};
 ghost use Rattle.rules.specs.Case.{Case};
 ghost use Rattle.rules.specs.Tree.{Tree};
 ghost use Rattle.fields.specs.Directory.{methodsFrom};
-ghost use Rattle.columns.specs.Columns.{columnWords, columnCount, Columns};
+ghost use Rattle.columns.specs.Columns.{Columns, Blank};
 ghost use Rattle.constraints.specs.Methods.{keptAs};
 ghost use Rattle.constraints.specs.Ready.{Ready, Leaves, namesMethod, NodeReady, brokenOfNode, brokenOfTree};
 use crate::method::Kept;
@@ -114,7 +113,7 @@ pub fn first_broken(
     built: &mut [u64],
 ) -> Kept
     requires { ⌜ ((k : Case) × (t : Tree) × Ready k t (now fields) header «plan_line» nodes (now states) (now work)) ⌝ }
-    requires { ⌜ (length (now columns) ≡ columnCount * columnWords) × (now built ≡ replicate wordCount 0) ⌝ }
+    requires { ⌜ Blank (now columns) (now built) ⌝ }
     ensures { λ r. ⌜ ((k : Case) (t : Tree) → Ready k t (now (fields .entry)) header «plan_line» nodes (now (states .entry)) (now (work .entry)) → r ≡ keptAs (brokenOfTree k t)) ⌝ }
     ensures { λ _. ⌜ Leaves (now (work .entry)) (now (work .exit)) ⌝ }
 {

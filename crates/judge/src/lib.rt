@@ -8,9 +8,9 @@ ghost use Rattle.rules.specs.Verdict.{check, checkLists, answerOf, statesAfter}
 ghost use Rattle.rules.proofs.Judgement.Rows.{fromText, fromRun, fromTree};
 ghost use Rattle.records.specs.Records.{RecordsHeld};
 ghost use Rattle.fields.specs.Directory.{Roomy};
+ghost use Rattle.columns.specs.Columns.{Blank};
 ghost use Rattle.judge.specs.Phases.{Answers, FieldsHeld, Cleared, Admits, HasRead, Ran as HasRun, Walked, Claimed};
-use columns::BUILT;
-use columns::COLUMNS;
+use columns::PER_WORD;
 use constraints::Kept;
 use fields::FIELDS;
 use reading::CaseRead;
@@ -47,26 +47,23 @@ fn refuse(states: &mut [u64], answer: Answer) -> Answer
     answer
 }
 
-// Rows 10 to 13, of a tree whose positions are all claimed; then the records.
-fn judge_constraints(fields: &[u32], o: Opened, states: &mut [u64], work: &mut [u32]) -> Answer
+// Rows 10 to 13, of a tree whose positions are all claimed, with columns of which none is built; then the records.
+fn judge_with(
+    fields: &[u32],
+    o: Opened,
+    states: &mut [u64],
+    work: &mut [u32],
+    columns: &mut [u64],
+    built: &mut [u64],
+) -> Answer
     requires { ⌜ ((k : Case) × Claimed k (now fields) o (now states) (now work)) ⌝ }
+    requires { ⌜ Blank (now columns) (now built) ⌝ }
     ensures { λ r. ⌜ ((k : Case) → Claimed k (now (fields .entry)) o (now (states .entry)) (now (work .entry)) → Answers (fromTree k) (length (now (states .entry))) r (now (states .exit)) (now (work .exit))) ⌝ }
 {
     let header = o.header;
     let line = o.plan_line;
     let nodes = o.nodes;
-    let mut columns = [0u64; COLUMNS];
-    let mut built = [0u64; BUILT];
-    let kept = constraints::first_broken(
-        fields,
-        header,
-        line,
-        nodes,
-        states,
-        work,
-        &mut columns,
-        &mut built,
-    );
+    let kept = constraints::first_broken(fields, header, line, nodes, states, work, columns, built);
     match kept {
         Kept::All => {
             records::write_records(fields, header, nodes, work);
@@ -76,6 +73,43 @@ fn judge_constraints(fields: &[u32], o: Opened, states: &mut [u64], work: &mut [
             }
         }
         Kept::Broken { answer } => refuse(states, answer),
+    }
+}
+
+// How many words of propositions have columns in a small model: to clear those of more would cost more than its tests.
+const FEW_WORDS: usize = 1;
+
+// The rows of a small model.
+fn judge_few(fields: &[u32], o: Opened, states: &mut [u64], work: &mut [u32]) -> Answer
+    requires { ⌜ ((k : Case) × Claimed k (now fields) o (now states) (now work)) ⌝ }
+    ensures { λ r. ⌜ ((k : Case) → Claimed k (now (fields .entry)) o (now (states .entry)) (now (work .entry)) → Answers (fromTree k) (length (now (states .entry))) r (now (states .exit)) (now (work .exit))) ⌝ }
+{
+    let mut columns = [0u64; FEW_WORDS * PER_WORD];
+    let mut built = [0u64; FEW_WORDS];
+    judge_with(fields, o, states, work, &mut columns, &mut built)
+}
+
+// The rows of any other model.
+fn judge_many(fields: &[u32], o: Opened, states: &mut [u64], work: &mut [u32]) -> Answer
+    requires { ⌜ ((k : Case) × Claimed k (now fields) o (now states) (now work)) ⌝ }
+    ensures { λ r. ⌜ ((k : Case) → Claimed k (now (fields .entry)) o (now (states .entry)) (now (work .entry)) → Answers (fromTree k) (length (now (states .entry))) r (now (states .exit)) (now (work .exit))) ⌝ }
+{
+    let mut columns = [0u64; WORDS * PER_WORD];
+    let mut built = [0u64; WORDS];
+    judge_with(fields, o, states, work, &mut columns, &mut built)
+}
+
+// Rows 10 to 13, of a tree whose positions are all claimed; then the records.
+fn judge_constraints(fields: &[u32], o: Opened, states: &mut [u64], work: &mut [u32]) -> Answer
+    requires { ⌜ ((k : Case) × Claimed k (now fields) o (now states) (now work)) ⌝ }
+    ensures { λ r. ⌜ ((k : Case) → Claimed k (now (fields .entry)) o (now (states .entry)) (now (work .entry)) → Answers (fromTree k) (length (now (states .entry))) r (now (states .exit)) (now (work .exit))) ⌝ }
+{
+    let header = o.header;
+    let propositions = header.propositions as usize;
+    if propositions <= 64 * FEW_WORDS {
+        judge_few(fields, o, states, work)
+    } else {
+        judge_many(fields, o, states, work)
     }
 }
 

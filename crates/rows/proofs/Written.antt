@@ -175,7 +175,7 @@ drop-zeros zero size = let all : size ≡ size - 0 = omega arith in ap (λ (m : 
 drop-zeros (suc n) zero = let none : 0 ≡ 0 - suc n = omega arith in ap (λ (m : ℕ). replicate m 0) none
 drop-zeros (suc n) (suc size) = let less : size - n ≡ suc size - suc n = omega arith in drop-zeros n size ∙ ap (λ (m : ℕ). replicate m 0) less
 
--- "the state list holds states 0 to k, each written to its own stretch of four numbers [..] the rest is zero"
+-- "the state list holds states 0 to k, each written to its own stretch [..] the rest is zero"
 pub rows-fill : (size : ℕ) (ss : List State) → Each Worded ss → putRows (replicate size 0) 0 ss ≡ filled size 0 (flatten ss)
 unfolding filled
 rows-fill size ss f =

@@ -13,7 +13,7 @@ stretchAt n l i = take n (drop (n * i) l)
 unfoldable pub putStretch : ℕ → List ℕ → ℕ → List ℕ → List ℕ
 putStretch n l i s = take (n * i) l ++ (s ++ drop (n * i + n) l)
 
--- "each written to its own stretch of four numbers": the list with the words of a state as state i.
+-- "each written to its own stretch": the list with the words of a state as state i.
 unfoldable pub putRow : List ℕ → ℕ → State → List ℕ
 putRow l i s = putStretch wordCount l i s
 

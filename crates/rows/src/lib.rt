@@ -1,4 +1,4 @@
-// The lent lists (01, "The check and replay calls"): "the state list holds states 0 to k, each written to its own stretch of four numbers";
+// The lent lists (01, "The check and replay calls"): "the state list holds states 0 to k, each written to its own stretch";
 // "the rest is zero"; "Work space is zero after each call."
 ghost use mathlib.Core.Path.{_≡_};
 ghost use Prim.Native.Nat.{_+_, _*_, _≤_};
@@ -6,7 +6,7 @@ ghost use lib.ListN.{length, replicate};
 ghost use Rattle.rules.specs.State.{wordCount};
 ghost use Rattle.rules.specs.Constraint.{signed};
 ghost use Rattle.index.specs.Spans.{stateOf};
-ghost use Rattle.rows.specs.Rows.{putRow, rowAt, inRow};
+ghost use Rattle.rows.specs.Rows.{putRow, inRow};
 use index::StateNumber;
 use rules::Sign;
 use state::State;
@@ -24,7 +24,7 @@ fn put_words(row: &mut [u64], s: State)
     }
 }
 
-// Where the row of state l starts: "each written to its own stretch of four numbers".
+// Where the row of state l starts: "each written to its own stretch".
 fn row_start(l: StateNumber) -> usize
     ensures { λ r. ⌜ r ≡ wordCount * stateOf l ⌝ }
 {
@@ -59,21 +59,6 @@ pub fn holds_at(states: &[u64], sign: Sign, p: u32, l: StateNumber) -> bool
     let from = row_start(l);
     let to = from + WORDS;
     with_sign(sign, state::holds(&states[from..to], p))
-}
-
-// Set i of a list of sets, each in a stretch of its own as a state is.
-pub fn set_at(list: &[u64], i: usize) -> State
-    requires { ⌜ wordCount * i + wordCount ≤ length (now list) ⌝ }
-    ensures { λ r. ⌜ r .words ≡ rowAt (now (list .entry)) i ⌝ }
-{
-    let from = WORDS * i;
-    let mut words = [0u64; WORDS];
-    let mut j: usize = 0;
-    while j < WORDS {
-        words[j] = list[from + j];
-        j += 1;
-    }
-    State { words }
 }
 
 // The state list, zero throughout.

@@ -43,8 +43,9 @@ member-all : (s : State) (vs : List ℕ) (q low : ℕ) → length s ≡ wordCoun
 unfolding has
 member-all s [] q low e a = refl
 member-all s (v ∷ vs) q low e a =
+    let below = a .1 in
     member-all (insert s v) vs q (v + 1) (length-insert s v ∙ e) (a .2)
-    ∙ ap (λ (b : Bool). has q vs || b) (member-insert s v q e (a .1)) ∙ or-turn (has q vs) (eqb q v) (member s q)
+    ∙ ap (λ (b : Bool). has q vs || b) (member-insert s v q (omega arith)) ∙ or-turn (has q vs) (eqb q v) (member s q)
 
 has-below : (vs : List ℕ) (q low top : ℕ) → q < low → Ascends low top vs → has q vs ≡ false
 unfolding has

@@ -14,6 +14,8 @@ pub mod Reports
 pub mod Faults
 -- Demand 2: the verdict against the declarative rules.
 pub mod Judgement
+-- The state list, number by number.
+pub mod StateList
 -- Card 2: a case as text and the text as a case, each from the other.
 pub mod Printing
 -- Demand 3: the rules against the rewritings of the goal task.

@@ -92,9 +92,9 @@ unfolding insert
 length-insert s p = length-set s (p / 64) (bitOr (word s (p / 64)) (2 ^ (p % 64)))
 
 -- q is in the set with p exactly if it is p, or was there.
-pub member-insert : (s : State) (p q : ℕ) → length s ≡ wordCount → p < 64 * wordCount → member (insert s p) q ≡ eqb q p || member s q
+pub member-insert : (s : State) (p q : ℕ) → p / 64 < length s → member (insert s p) q ≡ eqb q p || member s q
 unfolding member insert
-member-insert s p q e h = go (ℕ-discrete (q / 64) (p / 64))
+member-insert s p q h = go (ℕ-discrete (q / 64) (p / 64))
   where
     joined : ℕ
     joined = bitOr (word s (p / 64)) (2 ^ (p % 64))
@@ -105,7 +105,7 @@ member-insert s p q e h = go (ℕ-discrete (q / 64) (p / 64))
 
     go : Dec (q / 64 ≡ p / 64) → member (insert s p) q ≡ eqb q p || member s q
     go (yes w) =
-        ap (λ (n : ℕ). bit n (q % 64)) (ap (λ (n : ℕ). getD (insert s p) n 0) w ∙ getD-set-same s (p / 64) joined 0 (omega arith))
+        ap (λ (n : ℕ). bit n (q % 64)) (ap (λ (n : ℕ). getD (insert s p) n 0) w ∙ getD-set-same s (p / 64) joined 0 h)
         ∙ bit-or (word s (p / 64)) (2 ^ (p % 64)) (q % 64)
         ∙ or-swap (bit (word s (p / 64)) (q % 64)) (bit (2 ^ (p % 64)) (q % 64))
         ∙ ap₂ (λ (x y : Bool). x || y) (bit-pow (p % 64) (q % 64) ∙ same w (ℕ-discrete q p)) (ap (λ (n : ℕ). bit (word s n) (q % 64)) (sym w))

@@ -13,7 +13,7 @@ use Rattle.rules.proofs.Judgement.Each.{Each, each-nil, each-cons}
 abbrev pub Worded : State → Type 0
 Worded s = length s ≡ wordCount
 
-insert-all : (s : State) (ps : List ℕ) → length (insertAll s ps) ≡ length s
+pub insert-all : (s : State) (ps : List ℕ) → length (insertAll s ps) ≡ length s
 insert-all s [] = refl
 insert-all s (p ∷ ps) = insert-all (insert s p) ps ∙ length-insert s p
 

@@ -22,7 +22,7 @@ use Rattle.rules.specs.Line as Li
 use Rattle.rules.specs.Index.{Span}
 use Rattle.rules.specs.Tree.{Tree, preorder, span}
 use Rattle.rules.specs.Result.{found as seen, refused}
-use Rattle.rules.specs.Verdict.{Found, check, answerOf}
+use Rattle.rules.specs.Verdict.{Found, stateNeed, nodeNeed, workNeed, check, checkLists, answerOf}
 use Rattle.rules.specs.Demands.{asAsked}
 use Rattle.rules.specs.Writing.{written, write}
 use Rattle.rules.specs.Line.{printedAnswer}
@@ -127,7 +127,30 @@ writtenTable =
     ∷ writes (panelOf "M,3,3,4,1,2,2" ("W,1,1,4" ∷ "O,2,0" ∷ [])) 0 "R,13,13,0" []
     ∷ []
 
--- With lists as long as 01 asks.
+-- Card 3: "Counts of 257 to 512 are now judged like any other." Panel case a in models of other counts, with conditions on the last
+-- proposition, which is true throughout, and on those beside it, which are not; "513 is outside its range" and a member goes by the model's
+-- own count.
+abbrev wideWith : String → String → List String → String → Panel
+wideWith header initial conditions answer = record {
+  lines =
+      header ∷ initial ∷ "A,0,1,0,1,0,0" ∷ "A,0,0,1,1,0" ∷ "A,1,1,0,1,2,1,1" ∷ "M,3,3,4,1,2,5" ∷ "O,0,2" ∷ "O,1,2" ∷ "W,1,0,4"
+      ∷ conditions ++ ("M,4,1,0,0" ∷ "M,4,0,1" ∷ "B,0,0" ∷ "P,1,2" ∷ "D,0" ∷ "E,2,0" ∷ "L,1,1" ∷ "L,2,2" ∷ []);
+  answer = answer;
+}
+
+abbrev pub wideTable : List Panel
+wideTable =
+    panel "N,257,3,2,3,3,2,4" "I,1,0" "P,1,2" ("D,0" ∷ "E,2,0" ∷ "L,1,1" ∷ "L,2,2" ∷ []) "Y,2,4"
+    ∷ wideWith "N,512,3,2,3,3,2,4" "I,2,0,511" ("B,511,0" ∷ "W,1,511,4" ∷ []) "Y,2,4"
+    ∷ wideWith "N,512,3,2,3,3,2,4" "I,2,0,511" ("b,255,0" ∷ "w,1,510,4" ∷ []) "Y,2,4"
+    ∷ wideWith "N,512,3,2,3,3,2,4" "I,2,0,255" ("b,255,0" ∷ "B,511,0" ∷ []) "R,11,16,3"
+    ∷ wideWith "N,512,3,2,3,3,2,4" "I,2,0,256" ("B,256,0" ∷ "F,511,0" ∷ []) "R,12,16,4"
+    ∷ panel "N,512,3,2,3,3,2,4" "I,2,0,512" "P,1,2" ("D,0" ∷ "E,2,0" ∷ "L,1,1" ∷ "L,2,2" ∷ []) "R,4,2,4"
+    ∷ panel "N,300,3,2,3,3,2,4" "I,301,0" "P,1,2" ("D,0" ∷ "E,2,0" ∷ "L,1,1" ∷ "L,2,2" ∷ []) "R,4,2,2"
+    ∷ panel "N,513,3,2,3,3,2,4" "I,1,0" "P,1,2" ("D,0" ∷ "E,2,0" ∷ "L,1,1" ∷ "L,2,2" ∷ []) "R,4,1,2"
+    ∷ []
+
+-- With lists as long as is asked.
 abbrev checked : Panel → Found Tree
 checked p = check asAsked (textOf (p .lines))
 
@@ -155,7 +178,15 @@ Puts cases =
     (map (λ w. printedAnswer (answerOf (wrote w))) cases ≡ map (λ w. textOf (w .answer ∷ [])) cases)
     × (map (λ w. putOut (wrote w)) cases ≡ map (λ w. textOf (w .tidy)) cases)
 
--- Each case is answered as 01 prints it; "a. [..] doubled spans 1-4, 1-1, 2-2, 4-4"; and as Cards 1 and 2 have it.
-pub answers : Answered table × (spansOf (checked caseA) ≡ doubled 1 4 ∷ doubled 1 1 ∷ doubled 2 2 ∷ doubled 4 4 ∷ []) × Answered signedTable × Puts writtenTable
+-- What is answered for a case with so many numbers in the state list.
+abbrev withStates : ℕ → Panel → List ℕ
+withStates n p = printedAnswer (answerOf (check (checkLists n nodeNeed workNeed) (textOf (p .lines))))
+
+-- "the state list needs 8,008 numbers"
+abbrev NeedsStates : Type 0
+NeedsStates = (stateNeed ≡ 8008) × (withStates 8007 caseA ≡ textOf ("R,1,0,1" ∷ [])) × (withStates 8008 caseA ≡ textOf ("Y,2,4" ∷ []))
+
+-- Each case is answered as 01 prints it; "a. [..] doubled spans 1-4, 1-1, 2-2, 4-4"; and as Cards 1 to 3 have it.
+pub answers : Answered table × (spansOf (checked caseA) ≡ doubled 1 4 ∷ doubled 1 1 ∷ doubled 2 2 ∷ doubled 4 4 ∷ []) × Answered signedTable × Puts writtenTable × Answered wideTable × NeedsStates
 unfolding St.wordCount St.propositionMost St.bit St.member St.noPropositions St.insert St.without St.appliesWord St.applies St.nextWord St.next St.noAction St.actionAt St.states St.stateAt St.firstStop Ix.ofCue Ix.ofGap Ix.at Ix.least Ix.greatest Ix.hull Ix.partOf Ix.only Ix.pick Ix.spanOfPart Ix.roundedUp Ix.roundedDown Ix.c Ix.f Ix.isBefore Tx.isFeed Tx.isComma Tx.isDigit Tx.endsField Tx.isPlain Tx.numberAt Tx.letterAt Tx.endingAt Tx.feedFollows Tb.table Tb.rowOf Tb.roleNumber Tb.isCompound Tb.inRange Tb.readList Tb.readItem Tb.readLine Ca.noMethod Ca.methodAt Ca.scalarAt Ca.membersAt Ca.setAt Ca.headerOf Ca.initialOf Ca.actionOf Ca.signOf Ca.constraintOf Ca.asConstraint Ca.planOf Ca.nodeOf Ca.asNode Ca.oneLine Ca.oneMethod Ca.noSurplus Ca.readBody Ca.noHeader Ca.readFrom Ca.readCase Tr.preorder Tr.preorders Tr.rootLine Tr.span Tr.spans Tr.subtaskSpans Tr.noSubtasks Tr.isMethodOf Tr.fits Tr.isIn Tr.mayClaim Tr.walkNode Tr.levelCount Tr.walkTree Co.signed Co.holdsIn Co.holdsFrom Co.keeps Co.constraintsOf Co.partsOf Co.brokenAt Co.firstBroken Ve.reported De.asAsked Ve.stateNeed Ve.nodeNeed Ve.workNeed Ve.checkLists Ve.statesOf Ve.planRuns Ve.allClaimed Ve.noneBroken Ve.textMost Ve.check Tx.decimal Li.printedAnswer Fi.lineFields Fi.propositionsOf Fi.headerLine Fi.initialLine Fi.actionLine Fi.constraintLine Fi.methodLines Fi.cuesLine Fi.nodeLine Fi.linesOf Fi.planLineOf Pr.lineText Pr.printed Wr.rank Wr.sortKey Wr.precedes Wr.sorted Wr.tidiedMethod Wr.tidied Wr.written Wr.outputLong Wr.write flatten
-answers = (refl, refl, refl, (refl, refl))
+answers = (refl, refl, refl, (refl, refl), refl, (refl, refl, refl))

@@ -11,8 +11,8 @@ use Rattle.rules.specs.Case.{Constraint, O, B, F, W, Method, NodeLine, D
 use Rattle.rules.specs.Fields.{propositionsOf, planLineOf}
 use Rattle.rules.specs.Refusals.{Each}
 
--- "propositions (0 to 256), actions (0 to 1,024), compound tasks (0 to 1,024), methods (0 to 2,048), goal, k (0 to 1,000), nodes (1 to
--- 3,000) [..] the goal is compound."
+-- "actions (0 to 1,024), compound tasks (0 to 1,024), methods (0 to 2,048), goal, k (0 to 1,000), nodes (1 to 3,000) [..] the goal is
+-- compound."
 pub record GoodHeader (h : Header) : Type 0 where
   pub few-propositions : h .propositions ≤ propositionMost
   pub few-actions : h .actions ≤ 1024

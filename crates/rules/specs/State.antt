@@ -7,11 +7,11 @@ use lib.Bits.{bitAnd, bitOr, bitXor}
 use lib.Dec.{eqb}
 use lib.ListN.{getD, set}
 
--- "A state is the set of those that are true, held as four 64-bit words": how many words.
+-- "A state is the set of those that are true, held as" 64-bit words: "a state eight words" (02, Card 3).
 unfoldable pub wordCount : ℕ
 wordCount = 8
 
--- "propositions (0 to 256)": as many as a state has bits.
+-- How many propositions a model may have: "The limit becomes 512" (02, Card 3).
 unfoldable pub propositionMost : ℕ
 propositionMost = 512
 

@@ -1,14 +1,15 @@
 -- The check and replay calls: what each answers, and what it leaves in the lent lists (01, "The check and replay calls"). Assumes nothing.
+use mathlib.Core.Path.{_≡_}
 use mathlib.Core.Bool.{Bool, true, false, _&&_, not}
 use mathlib.Core.List.{List, [], _∷_, _++_, map, flatten}
 use mathlib.Core.Option.{Option, none, some}
-use Prim.Native.Nat.{ℕ, _+_, _-_, _*_}
+use Prim.Native.Nat.{ℕ, _+_, _-_, _*_, _/_, _%_, _<_}
 use lib.Dec.{eqb, ltb}
-use lib.ListN.{length, replicate}
+use lib.ListN.{length, getD, replicate}
 use Rattle.rules.specs.declared.Answer.{Answer}
 use Rattle.rules.specs.declared.Answer.the-variants.{Accepted, ShortList, LongText, Unreadable, OutOfRange, Inapplicable, WrongNode, TooDeep, WrongClaim, Unclaimed, OrderBroken, BeforeBroken, AfterBroken, BetweenBroken, ShortOutput}
 use Rattle.rules.specs.declared.Node.{Node}
-use Rattle.rules.specs.State.{State, wordCount, states, firstStop}
+use Rattle.rules.specs.State.{State, wordCount, bit, member, states, stateAt, firstStop}
 use Rattle.rules.specs.Index.{Span}
 use Rattle.rules.specs.Result.{Result, found, refused, _>>=_, _>>_}
 use Rattle.rules.specs.Case.{NodeLine, D, E, L, Case, readCase}
@@ -61,7 +62,7 @@ lent i s n = record { item = i; size = s; need = n }
 abbrev pub stateMost : ℕ
 stateMost = 1001
 
--- "a state list of at least 4,004 64-bit numbers, a list of at least 3,000 node records, and work space of at least 16,384 32-bit numbers"
+-- "the state list needs 8,008 numbers" (02, Card 3); "a list of at least 3,000 node records, and work space of at least 16,384 32-bit numbers"
 unfoldable pub stateNeed : ℕ
 stateNeed = stateMost * wordCount
 
@@ -147,10 +148,14 @@ answerOf (refused r) = r
 unfoldable pub filled : {A : Type 0} → ℕ → A → List A → List A
 filled size zeroed l = l ++ replicate (size - length l) zeroed
 
--- "the state list holds states 0 to k, each written to its own stretch of four numbers". "Refused: both lists are zero throughout."
+-- "the state list holds states 0 to k, each written to its own stretch". "Refused: both lists are zero throughout."
 unfoldable pub statesAfter : {A : Type 0} → ℕ → Found A → List ℕ
 statesAfter size (found (k, a)) = filled size 0 (flatten (statesOf k))
 statesAfter size (refused r) = replicate size 0
+
+-- The same, number by number: state i has the numbers from `wordCount * i` on, and "proposition p is bit (p mod 64) of word (p div 64)".
+abbrev pub Laid : List State → List ℕ → Type 0
+Laid ss l = (i p : ℕ) → i < length ss → p < 64 * wordCount → bit (getD l (wordCount * i + p / 64) 0) (p % 64) ≡ member (stateAt ss i) p
 
 -- "letter code (D 1, E 2, L 3), method or action, place (0 for D), doubled start and doubled end"
 unfoldable pub nodeRecord : NodeLine → Span → Node

@@ -1,3 +1,4 @@
+pub mod Front
 pub mod SetFields
 pub mod Reached
 pub mod Outcome

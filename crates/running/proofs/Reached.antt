@@ -3,20 +3,20 @@ use mathlib.Core.Path.{_≡_, refl, sym, ap, ap₂, subst, _∙_}
 use mathlib.Core.Bool.{Bool, true, false, false≢true}
 use mathlib.Core.List.{List, [], _∷_, _++_, append-nil}
 use mathlib.Core.Option.{Option, none, some}
-use Prim.Native.Nat.{ℕ, _+_, _≤_, _<_}
+use Prim.Native.Nat.{ℕ, _+_, _*_, _≤_, _<_}
 use native.Mathlib.Numerals.{add-one}
 use native.Mathlib.Omega.{arith}
 use lib.ListN.{length, getD, take, drop, take-append-drop, drop-of-length-le}
 use lib.Seq.{drop-cons, drop-drop}
 use Rattle.rules.specs.declared.Header.{Header}
-use Rattle.rules.specs.State.{Action, applies, next, step, noAction, actionAt, states, firstStop}
+use Rattle.rules.specs.State.{propositionMost, Action, applies, next, step, noAction, actionAt, states, firstStop}
 use Rattle.rules.specs.Case.{Case}
-use Rattle.rules.specs.Fields.{lineFields, actionLine, cuesLine}
+use Rattle.rules.specs.Fields.{propositionsOf, lineFields, actionLine, cuesLine}
+use Rattle.rules.specs.Ranges.{SetBelow, ActionBelow, InRanges}
 use Rattle.rules.specs.Verdict.{statesOf}
-use Rattle.rules.proofs.Judgement.Each.{each-at}
+use Rattle.rules.proofs.Judgement.Each.{Each, each-at, each-nil, each-cons, each-weaken}
 use Rattle.rules.proofs.Judgement.Sound.{GoodAction, Sound, sound}
-use Rattle.state.specs.declared.State.{State}
-use Rattle.state.specs.declared.Stepped.{Stepped}
+use Rattle.rules.proofs.Printing.{read-in-ranges}
 use Rattle.fields.specs.Standing.{Stands}
 use Rattle.fields.specs.Directory.{directorySize}
 use Rattle.fields.proofs.Standing.{stands-at, stands-inside, stands-as}
@@ -25,13 +25,24 @@ use Rattle.rows.specs.Rows.{putRow, putRows}
 use Rattle.rows.proofs.Written.{put-next}
 use Rattle.running.specs.declared.Ran.the-variants.{All, Stopped}
 use Rattle.running.specs.Running.{Left, ranOf, stopOf, reached, RanAs}
-use Rattle.running.specs.Sets.{IsStep}
+use Rattle.running.specs.Sets.{Fits, setsOf}
 
 -- ---- What reading left
 
 module _ {k : Case} {fields directory : List ℕ} {h : Header} {initial plan : ℕ} (left : Left k fields directory h initial plan) where
   pub left-sound : Sound k
   left-sound = sound (left .read .text) k (left .read .reads)
+
+  left-ranges : InRanges k
+  left-ranges = read-in-ranges (left .read .text) k (left .read .reads)
+
+  set-fits : (n : ℕ) → h .propositions ≤ 64 * n → (s : List ℕ) → SetBelow (k .head) s → Fits n s
+  set-fits n enough s =
+      let all : k .head .propositions ≤ 64 * n = subst (λ (x : Header). x .propositions ≤ 64 * n) (left .head) enough in
+      each-weaken (λ p. p < k .head .propositions) (λ p. p < 64 * n) (propositionsOf s) (λ p b. omega arith)
+
+  pub few-propositions : h .propositions ≤ propositionMost
+  few-propositions = subst (λ (x : Header). x .propositions ≤ propositionMost) (sym (left .head)) (left-sound .head-good .few-propositions)
 
   plan-long : length (k .plan) ≡ h .cues
   plan-long = left-sound .plan-length ∙ ap (λ (x : Header). x .cues) (sym (left .head))
@@ -61,6 +72,17 @@ module _ {k : Case} {fields directory : List ℕ} {h : Header} {initial plan : �
         let count = left-sound .actions-length in
         each-at GoodAction (k .actions) a noAction (left-sound .actions-good) (omega arith)
 
+    -- Its sets lie in as many words as the model's propositions take.
+    pub action-fits : (n : ℕ) → h .propositions ≤ 64 * n → Each (Fits n) (setsOf (actionAt (k .actions) a))
+    unfolding actionAt
+    action-fits n enough =
+        let known = known-here in
+        let count = left-sound .actions-length in
+        let b = each-at (ActionBelow (k .head)) (k .actions) a noAction (left-ranges .actions-below) (omega arith) in
+        let fits = set-fits n enough in
+        each-cons (Fits n) _ _ (fits _ (b .needed-below)) (each-cons (Fits n) _ _ (fits _ (b .forbidden-below))
+        (each-cons (Fits n) _ _ (fits _ (b .added-below)) (each-cons (Fits n) _ _ (fits _ (b .deleted-below)) (each-nil (Fits n)))))
+
   -- The action of cue n, after i cues.
   module _ (i n : ℕ) (more : i < h .cues) (e : n ≡ i + 1) where
     pub cue-inside : plan + n < length fields
@@ -86,22 +108,22 @@ few-cues k fields directory h initial plan left = subst (λ (x : Header). x .cue
 
 -- ---- One step
 
-step-yes : (s : List ℕ) (a : Action) (x : Stepped) → (x .ok, x .state .words) ≡ step s a → x .ok ≡ true → (applies s a ≡ true) × (x .state .words ≡ next s a)
+step-yes : (s : List ℕ) (a : Action) (ok : Bool) (t : List ℕ) → (ok, t) ≡ step s a → ok ≡ true → (applies s a ≡ true) × (t ≡ next s a)
 unfolding step
-step-yes s a x e ok = go (applies s a) refl e
+step-yes s a ok t e good = go (applies s a) refl e
   where
-    go : (b : Bool) → applies s a ≡ b → _≡_ {A = Bool × List ℕ} (x .ok, x .state .words) (elim b as (λ t. Bool × List ℕ) [ true ↦ (true, next s a) | false ↦ (false, s) ])
-        → (applies s a ≡ true) × (x .state .words ≡ next s a)
+    go : (b : Bool) → applies s a ≡ b → _≡_ {A = Bool × List ℕ} (ok, t) (elim b as (λ x. Bool × List ℕ) [ true ↦ (true, next s a) | false ↦ (false, s) ])
+        → (applies s a ≡ true) × (t ≡ next s a)
     go true q e = (q, ap (λ (p : Bool × List ℕ). p .1) e)
-    go false q e = absurd (false≢true (sym (ap (λ (p : Bool × List ℕ). p .0) e) ∙ ok))
+    go false q e = absurd (false≢true (sym (ap (λ (p : Bool × List ℕ). p .0) e) ∙ good))
 
-step-no : (s : List ℕ) (a : Action) (x : Stepped) → (x .ok, x .state .words) ≡ step s a → x .ok ≡ false → applies s a ≡ false
+step-no : (s : List ℕ) (a : Action) (ok : Bool) (t : List ℕ) → (ok, t) ≡ step s a → ok ≡ false → applies s a ≡ false
 unfolding step
-step-no s a x e ok = go (applies s a) refl e
+step-no s a ok t e bad = go (applies s a) refl e
   where
-    go : (b : Bool) → applies s a ≡ b → _≡_ {A = Bool × List ℕ} (x .ok, x .state .words) (elim b as (λ t. Bool × List ℕ) [ true ↦ (true, next s a) | false ↦ (false, s) ])
+    go : (b : Bool) → applies s a ≡ b → _≡_ {A = Bool × List ℕ} (ok, t) (elim b as (λ x. Bool × List ℕ) [ true ↦ (true, next s a) | false ↦ (false, s) ])
         → applies s a ≡ false
-    go true q e = absurd (false≢true (sym ok ∙ ap (λ (p : Bool × List ℕ). p .0) e))
+    go true q e = absurd (false≢true (sym bad ∙ ap (λ (p : Bool × List ℕ). p .0) e))
     go false q e = q
 
 stop-next : (actions : List Action) (a : ℕ) (rest : List ℕ) (s t : List ℕ) (i : ℕ) → applies s (actionAt actions a) ≡ true → t ≡ next s (actionAt actions a)
@@ -127,12 +149,12 @@ take-whole ss n e = sym (append-nil (take n ss)) ∙ ap (λ (x : List (List ℕ)
 -- ---- The run so far
 
 -- i cues are taken: s is state i, and the states before it are written.
-pub record Reached (k : Case) (before : List ℕ) (s : State) (l : List ℕ) (i : ℕ) : Type 0 where
-  pub stop : stopOf k ≡ firstStop (k .actions) (drop i (k .plan)) (s .words) (i + 1)
-  pub later : drop i (statesOf k) ≡ states (k .actions) (drop i (k .plan)) (s .words)
+pub record Reached (k : Case) (before s l : List ℕ) (i : ℕ) : Type 0 where
+  pub stop : stopOf k ≡ firstStop (k .actions) (drop i (k .plan)) s (i + 1)
+  pub later : drop i (statesOf k) ≡ states (k .actions) (drop i (k .plan)) s
   pub rows : l ≡ putRows before 0 (take i (statesOf k))
 
-pub reached-none : (k : Case) (l : List ℕ) (s : State) → s .words ≡ k .initial → Reached k l s l 0
+pub reached-none : (k : Case) (l s : List ℕ) → s ≡ k .initial → Reached k l s l 0
 unfolding statesOf
 reached-none k l s q = record {
   stop = ap (λ (x : List ℕ). firstStop (k .actions) (k .plan) x 1) (sym q);
@@ -142,20 +164,20 @@ reached-none k l s q = record {
 
 -- One turn more: state i is written, which makes m of the list l.
 module _ {k : Case} {fields directory : List ℕ} {h : Header} {initial plan : ℕ} (left : Left k fields directory h initial plan)
-    {before : List ℕ} {s : State} {l : List ℕ} {i : ℕ} (w : Reached k before s l i) {m : List ℕ} (row : m ≡ putRow l i (s .words)) where
-  written : (rest : List (List ℕ)) → drop i (statesOf k) ≡ s .words ∷ rest → m ≡ putRows before 0 (take (i + 1) (statesOf k))
+    {before s l : List ℕ} {i : ℕ} (w : Reached k before s l i) {m : List ℕ} (row : m ≡ putRow l i s) where
+  written : (rest : List (List ℕ)) → drop i (statesOf k) ≡ s ∷ rest → m ≡ putRows before 0 (take (i + 1) (statesOf k))
   written rest here =
       let none : i ≡ 0 + i = omega arith in
-      row ∙ ap₂ (λ (x : List ℕ) (n : ℕ). putRow x n (s .words)) (w .rows) none ∙ put-next (statesOf k) i (s .words) rest before 0 here
+      row ∙ ap₂ (λ (x : List ℕ) (n : ℕ). putRow x n s) (w .rows) none ∙ put-next (statesOf k) i s rest before 0 here
       ∙ ap (λ (n : ℕ). putRows before 0 (take n (statesOf k))) (sym (add-one i))
 
-  -- Cue n is due, and x is its step.
-  module _ (n : ℕ) (more : i < h .cues) (e : n ≡ i + 1) (x : Stepped)
-      (is : IsStep fields (getD directory (getD fields (plan + n) 0) 0) (s .words) x) where
+  -- Cue n is due, and its step is known.
+  module _ (n : ℕ) (more : i < h .cues) (e : n ≡ i + 1) (ok : Bool) (t : List ℕ)
+      (is : (x : Action) → GoodAction x → Stands fields (getD directory (getD fields (plan + n) 0) 0) (lineFields (actionLine x)) → (ok, t) ≡ step s x) where
     a : ℕ
     a = getD fields (plan + n) 0
 
-    steps : (x .ok, x .state .words) ≡ step (s .words) (actionAt (k .actions) a)
+    steps : (ok, t) ≡ step s (actionAt (k .actions) a)
     unfolding a
     steps =
         let known = cue-known left i n more e in
@@ -169,26 +191,26 @@ module _ {k : Case} {fields directory : List ℕ} {h : Header} {initial plan : �
         drop-cons (k .plan) i 0 (omega arith) ∙ ap₂ (λ (y m : ℕ). y ∷ drop m (k .plan)) (sym (cue-is left i n more e)) (sym (add-one i))
 
     -- State i and those after it.
-    due-states : drop i (statesOf k) ≡ s .words ∷ states (k .actions) (drop (i + 1) (k .plan)) (next (s .words) (actionAt (k .actions) a))
+    due-states : drop i (statesOf k) ≡ s ∷ states (k .actions) (drop (i + 1) (k .plan)) (next s (actionAt (k .actions) a))
     unfolding states
-    due-states = w .later ∙ ap (λ (plan : List ℕ). states (k .actions) plan (s .words)) due
+    due-states = w .later ∙ ap (λ (plan : List ℕ). states (k .actions) plan s) due
 
-    pub reached-next : x .ok ≡ true → Reached k before (x .state) m (i + 1)
-    reached-next ok =
-        let y = step-yes (s .words) (actionAt (k .actions) a) x steps ok in
+    pub reached-next : ok ≡ true → Reached k before t m (i + 1)
+    reached-next good =
+        let y = step-yes s (actionAt (k .actions) a) ok t steps good in
         record {
-          stop = w .stop ∙ ap (λ (plan : List ℕ). firstStop (k .actions) plan (s .words) (i + 1)) due
-              ∙ stop-next (k .actions) a (drop (i + 1) (k .plan)) (s .words) (x .state .words) (i + 1) (y .0) (y .1);
-          later = drop-next (statesOf k) i (s .words) _ due-states ∙ ap (states (k .actions) (drop (i + 1) (k .plan))) (sym (y .1));
+          stop = w .stop ∙ ap (λ (plan : List ℕ). firstStop (k .actions) plan s (i + 1)) due
+              ∙ stop-next (k .actions) a (drop (i + 1) (k .plan)) s (t) (i + 1) (y .0) (y .1);
+          later = drop-next (statesOf k) i s _ due-states ∙ ap (states (k .actions) (drop (i + 1) (k .plan))) (sym (y .1));
           rows = written _ due-states;
         }
 
-    pub reached-stop : x .ok ≡ false → RanAs k (Stopped (i + 1)) before m
+    pub reached-stop : ok ≡ false → RanAs k (Stopped (i + 1)) before m
     reached-stop fails =
         let stops : stopOf k ≡ some (i + 1) =
-        w .stop ∙ ap (λ (plan : List ℕ). firstStop (k .actions) plan (s .words) (i + 1)) due
-        ∙ stop-here (k .actions) a (drop (i + 1) (k .plan)) (s .words) (i + 1)
-        (step-no (s .words) (actionAt (k .actions) a) x steps fails) in
+        w .stop ∙ ap (λ (plan : List ℕ). firstStop (k .actions) plan s (i + 1)) due
+        ∙ stop-here (k .actions) a (drop (i + 1) (k .plan)) s (i + 1)
+        (step-no s (actionAt (k .actions) a) ok t steps fails) in
         record {
           answer = sym (ap ranOf stops);
           written = written _ due-states ∙ sym (ap (λ (o : Option ℕ). putRows before 0 (reached o (statesOf k))) stops);
@@ -200,9 +222,9 @@ module _ {k : Case} {fields directory : List ℕ} {h : Header} {initial plan : �
   reached-all over =
       let long = plan-long left in
       let none-left : drop i (k .plan) ≡ [] = drop-of-length-le (k .plan) {i = i} (omega arith) in
-      let runs : stopOf k ≡ none = w .stop ∙ ap (λ (plan : List ℕ). firstStop (k .actions) plan (s .words) (i + 1)) none-left in
-      let last : drop i (statesOf k) ≡ s .words ∷ [] = w .later ∙ ap (λ (plan : List ℕ). states (k .actions) plan (s .words)) none-left in
-      let whole : take (i + 1) (statesOf k) ≡ statesOf k = take-whole (statesOf k) (i + 1) (drop-next (statesOf k) i (s .words) [] last) in
+      let runs : stopOf k ≡ none = w .stop ∙ ap (λ (plan : List ℕ). firstStop (k .actions) plan s (i + 1)) none-left in
+      let last : drop i (statesOf k) ≡ s ∷ [] = w .later ∙ ap (λ (plan : List ℕ). states (k .actions) plan s) none-left in
+      let whole : take (i + 1) (statesOf k) ≡ statesOf k = take-whole (statesOf k) (i + 1) (drop-next (statesOf k) i s [] last) in
       record {
         answer = sym (ap ranOf runs);
         written = written [] last ∙ ap (putRows before 0) whole ∙ sym (ap (λ (o : Option ℕ). putRows before 0 (reached o (statesOf k))) runs);

@@ -2,19 +2,22 @@
 -- action's line, one after the other. Assumes nothing.
 use mathlib.Core.Path.{_≡_, sym, ap, ap₂, subst, _∙_}
 use mathlib.Core.List.{List, [], _∷_, _++_, append-nil}
-use Prim.Native.Nat.{ℕ, zero, suc, _+_, _-_, _≤_, _<_}
+use Prim.Native.Nat.{ℕ, zero, suc, _+_, _-_, _*_, _≤_, _<_}
 use native.Mathlib.Numerals.{add-one}
 use native.Mathlib.Omega.{arith}
-use lib.ListN.{length, getD, take, drop}
+use lib.ListN.{length, getD, take, drop, replicate}
 use lib.Seq.{drop-cons, take-append-seam}
-use Rattle.rules.specs.State.{State, Action, noPropositions, insert, insertAll}
+use Rattle.rules.specs.State.{State, Action, wordCount, noPropositions, insert, insertAll}
 use Rattle.rules.specs.Fields.{propositionsOf, lineFields, initialLine, actionLine}
+use Rattle.rules.proofs.Judgement.Each.{Each, each-at}
 use Rattle.rules.proofs.Judgement.Sound.{IsSet, GoodAction}
+use Rattle.state.specs.Words.{widened}
+use Rattle.state.proofs.Words.{widened-all}
 use Rattle.fields.specs.Standing.{Stands}
 use Rattle.fields.proofs.Standing.{stands-left, stands-right, stands-rest, stands-first, stands-inside, stands-as}
 use Rattle.fields.proofs.Lines.{setFields, initial-fields, action-fields}
-use Rattle.rows.specs.Rows.{rowAt}
-use Rattle.running.specs.Sets.{membersAt, past, setCount, actionIn}
+use Rattle.rows.specs.Rows.{stretchAt}
+use Rattle.running.specs.Sets.{membersAt, past, Fits, setsOf, setCount, actionIn}
 
 -- ---- The loop over a set's members: those from i to the end
 
@@ -44,12 +47,19 @@ module _ (fields : List ℕ) (at : ℕ) (s : State) (rest : List ℕ) (here : St
       let all = stands-inside fields at (setFields s) (stands-left fields at (setFields s) rest here) (omega arith) in
       omega (arith, count-is)
 
-  set-is : IsSet s → insertAll noPropositions (membersAt fields at) ≡ s
+  members-are : membersAt fields at ≡ propositionsOf s
   unfolding membersAt
-  set-is kept =
+  members-are =
       let members = stands-rest fields at (length (propositionsOf s)) (propositionsOf s ++ rest) here in
       let split = stands-left fields (at + 1) (propositionsOf s) rest members in
-      ap (insertAll noPropositions) (ap₂ take count-is (split .here) ∙ take-append-seam (propositionsOf s) (split .rest)) ∙ kept
+      ap₂ take count-is (split .here) ∙ take-append-seam (propositionsOf s) (split .rest)
+
+  -- In n words, as many as its propositions take, it is the set.
+  set-put : (n : ℕ) → n ≤ wordCount → Fits n s → widened (insertAll (replicate n 0) (membersAt fields at)) ≡ insertAll noPropositions (membersAt fields at)
+  set-put n few fits = widened-all n (membersAt fields at) few (subst (Each (λ p. p < 64 * n)) (sym members-are) fits)
+
+  set-is : IsSet s → insertAll noPropositions (membersAt fields at) ≡ s
+  set-is kept = ap (insertAll noPropositions) members-are ∙ kept
 
   -- What follows it stands at the place past it.
   set-next : Stands fields (past fields at) rest
@@ -96,9 +106,6 @@ module _ (fields : List ℕ) (at : ℕ) (s : State) (here : Stands fields at (li
   pub initial-is : IsSet s → insertAll noPropositions (membersAt fields (at + 1)) ≡ s
   initial-is = set-is fields (at + 1) s [] initial-here
 
-abbrev setsOf : Action → List State
-setsOf a = a .needed ∷ a .forbidden ∷ a .added ∷ a .deleted ∷ []
-
 module _ (fields : List ℕ) (at : ℕ) (a : Action) (here : Stands fields at (lineFields (actionLine a))) where
   -- The four sets of an A line stand after its letter, one after the other.
   set-here : (i : ℕ) → i < setCount → Stands fields (placeOf fields (at + 1) i) (fromSet (setsOf a) i)
@@ -114,11 +121,18 @@ module _ (fields : List ℕ) (at : ℕ) (a : Action) (here : Stands fields at (l
   action-inside i h =
       set-inside fields (placeOf fields (at + 1) i) (getD (setsOf a) i noPropositions) (allFields (drop (suc i) (setsOf a))) (set-here i h)
 
-  pub action-is : (words : List ℕ)
-      → ((i : ℕ) → i < setCount → rowAt words i ≡ insertAll noPropositions (membersAt fields (placeOf fields (at + 1) i))) → GoodAction a → actionIn words ≡ a
+  pub action-put : (n : ℕ) → n ≤ wordCount → Each (Fits n) (setsOf a) → (i : ℕ) → i < setCount
+      → widened (insertAll (replicate n 0) (membersAt fields (placeOf fields (at + 1) i))) ≡ insertAll noPropositions (membersAt fields (placeOf fields (at + 1) i))
+  action-put n few fits i h =
+      set-put fields (placeOf fields (at + 1) i) (getD (setsOf a) i noPropositions) (allFields (drop (suc i) (setsOf a))) (set-here i h) n few
+      (each-at (Fits n) (setsOf a) i noPropositions fits h)
+
+  pub action-is : (n : ℕ) (words : List ℕ)
+      → ((i : ℕ) → i < setCount → widened (stretchAt n words i) ≡ insertAll noPropositions (membersAt fields (placeOf fields (at + 1) i))) → GoodAction a
+      → actionIn n words ≡ a
   unfolding actionIn
-  action-is words rows good =
-      let set : (i : ℕ) → i < setCount → IsSet (getD (setsOf a) i noPropositions) → rowAt words i ≡ getD (setsOf a) i noPropositions =
+  action-is n words rows good =
+      let set : (i : ℕ) → i < setCount → IsSet (getD (setsOf a) i noPropositions) → widened (stretchAt n words i) ≡ getD (setsOf a) i noPropositions =
       λ i h kept. rows i h
       ∙ set-is fields (placeOf fields (at + 1) i) (getD (setsOf a) i noPropositions) (allFields (drop (suc i) (setsOf a))) (set-here i h) kept in
       let needed = set 0 (omega arith) (good .needed-set) in

@@ -1,29 +1,31 @@
-// The sets that stand among the fields: of the initial line, and of an action's line, which become words of a table.
+// The sets that stand among the fields: of the initial line, and of an action's line, which become words of a table. An action's sets are
+// decoded into as many words as the model's propositions take: the words past them are zero.
 ghost use mathlib.Core.Path.{_≡_};
-ghost use Prim.Native.Nat.{_≤_};
+ghost use Prim.Native.Nat.{_*_, _≤_};
 ghost use lib.ListN.{length, replicate};
-ghost use Rattle.rules.specs.State.{State as Words, insertAll};
+ghost use Rattle.rules.specs.State.{State as Words, wordCount, propositionMost, insertAll};
 ghost use Rattle.rules.specs.Fields.{lineFields, initialLine};
 ghost use Rattle.rules.proofs.Judgement.Sound.{IsSet};
-ghost use Rattle.state.specs.Action.{actionOf};
+ghost use Rattle.state.specs.Words.{Steps};
 ghost use Rattle.fields.specs.Standing.{Stands};
-ghost use Rattle.running.specs.Sets.{membersAt, past, HasAction, IsAction, actionSize, actionIn};
+ghost use Rattle.running.specs.Sets.{membersAt, past, HasAction, IsAction, setCount, actionIn};
 use state::State;
 use state::WORDS;
 
-// "An action has four sets: needed, forbidden, added, deleted."
-pub struct Sets {
-    pub needed: State,
-    pub forbidden: State,
-    pub added: State,
-    pub deleted: State,
-}
-
 // How many sets an action has.
-const SET_COUNT: usize = 4;
+pub const SET_COUNT: usize = 4;
 
-// How many words an action's sets take.
-pub const ACTION: usize = SET_COUNT * WORDS;
+// How many words so many propositions take; at least one, so that an action's sets have a place of their own.
+pub fn words_of(propositions: u32) -> usize
+    requires { ⌜ propositions ≤ propositionMost ⌝ }
+    ensures { λ r. ⌜ (1 ≤ r) × (r ≤ wordCount) × (propositions ≤ 64 * r) ⌝ }
+{
+    if propositions == 0 {
+        1
+    } else {
+        (propositions as usize - 1) / 64 + 1
+    }
+}
 
 // The members of the list at `at` go into a set's words, each as it is loaded. Answers the place after the list.
 fn put_members(fields: &[u32], at: usize, words: &mut [u64]) -> usize
@@ -42,47 +44,41 @@ fn put_members(fields: &[u32], at: usize, words: &mut [u64]) -> usize
     end
 }
 
-// The four sets of the A line at `at`, in their order, into words that are zero: each into its own row, so that no words are copied.
-pub fn decode(fields: &[u32], at: usize, words: &mut [u64])
-    requires here { ⌜ HasAction (now fields) at ⌝ }
-    requires zero { ⌜ now words ≡ replicate actionSize 0 ⌝ }
-    ensures { λ _. ⌜ IsAction (now (fields .entry)) at (actionIn (now (words .exit))) ⌝ }
+// The four sets of the A line at `at`, in their order, into words that are zero: each into its own stretch of `size`, so that no words are
+// copied.
+pub fn decode(fields: &[u32], at: usize, size: usize, words: &mut [u64])
+    requires few { ⌜ size ≤ wordCount ⌝ }
+    requires here { ⌜ HasAction size (now fields) at ⌝ }
+    requires zero { ⌜ now words ≡ replicate (setCount * size) 0 ⌝ }
+    ensures { λ _. ⌜ IsAction (now (fields .entry)) at (actionIn size (now (words .exit))) ⌝ }
 {
     let mut place = at + 1;
     let mut i: usize = 0;
     while i < SET_COUNT {
-        let from = WORDS * i;
-        let to = from + WORDS;
+        let from = size * i;
+        let to = from + size;
         place = put_members(fields, place, &mut words[from..to]);
         i += 1;
     }
 }
 
-// The four sets that an action's words are.
-pub fn sets_in(words: &[u64]) -> Sets
-    requires { ⌜ length (now words) ≡ actionSize ⌝ }
-    ensures { λ r. ⌜ actionOf (r .needed) (r .forbidden) (r .added) (r .deleted) ≡ actionIn (now (words .entry)) ⌝ }
+// The step of the action whose sets these words are, in the first words of a state.
+pub fn step_with(sets: &[u64], s: &mut [u64]) -> bool
+    requires few { ⌜ length (now s) ≤ wordCount ⌝ }
+    requires four { ⌜ length (now sets) ≡ setCount * length (now s) ⌝ }
+    ensures { λ r. ⌜ Steps (now (s .entry)) (actionIn (length (now (s .entry))) (now (sets .entry))) r (now (s .exit)) ⌝ }
 {
-    let needed = rows::set_at(words, 0);
-    let forbidden = rows::set_at(words, 1);
-    let added = rows::set_at(words, 2);
-    let deleted = rows::set_at(words, 3);
-    Sets {
-        needed,
-        forbidden,
-        added,
-        deleted,
-    }
-}
-
-// The sets of the A line at a place, over words of its own.
-pub fn read_action(fields: &[u32], at: usize) -> Sets
-    requires { ⌜ HasAction (now fields) at ⌝ }
-    ensures { λ r. ⌜ IsAction (now (fields .entry)) at (actionOf (r .needed) (r .forbidden) (r .added) (r .deleted)) ⌝ }
-{
-    let mut own = [0u64; ACTION];
-    decode(fields, at, &mut own);
-    sets_in(&own)
+    let size = s.len();
+    let forbidden = size + size;
+    let added = forbidden + size;
+    let deleted = added + size;
+    state::step_words(
+        s,
+        &sets[0..size],
+        &sets[size..forbidden],
+        &sets[forbidden..added],
+        &sets[added..deleted],
+    )
 }
 
 // The set of the I line at a place.

@@ -1,9 +1,11 @@
-// States and the step of an action (01, "States and cues"): "A state is the set of those that are true, held as four 64-bit words:
-// proposition p is bit (p mod 64) of word (p div 64)".
+// States and the step of an action (01, "States and cues"): "A state is the set of those that are true", as words: "proposition p is bit
+// (p mod 64) of word (p div 64)".
 ghost use mathlib.Core.Path.{_≡_};
-ghost use Prim.Native.Nat.{_<_};
-ghost use Rattle.rules.specs.State.{wordCount, noPropositions, member, insert, word, without, appliesWord, nextWord, every, tabulate, step};
+ghost use lib.Dec.{eqb};
+ghost use lib.ListN.{length};
+ghost use Rattle.rules.specs.State.{member, insert, word, without, appliesWord, nextWord, every, tabulate, step};
 ghost use Rattle.state.specs.Action.{actionOf};
+ghost use Rattle.state.specs.Words.{widenedAction, Steps};
 
 // How many words a state has: the definitions' wordCount.
 pub const WORDS: usize = 8;
@@ -17,17 +19,6 @@ pub struct State {
 pub struct Stepped {
     pub ok: bool,
     pub state: State,
-}
-
-impl State {
-    // The empty set.
-    pub fn new() -> State
-        ensures { λ r. ⌜ r .words ≡ noPropositions ⌝ }
-    {
-        State {
-            words: [0u64; WORDS],
-        }
-    }
 }
 
 // Whether proposition p is in a set's words, wherever they lie: no for a p past the last word.
@@ -59,70 +50,80 @@ fn word_without(a: u64, b: u64) -> u64
     a ^ (a & b)
 }
 
-// In word i every needed proposition is true and no forbidden one is.
-fn word_applies(s: State, needed: State, forbidden: State, i: usize) -> bool
-    requires { ⌜ i < wordCount ⌝ }
-    ensures { λ r. ⌜ r ≡ appliesWord (word (s .words) i) (word (needed .words) i) (word (forbidden .words) i) ⌝ }
+// The needed propositions of a word that are not true, and the forbidden ones that are.
+fn obstacles(w: u64, needed: u64, forbidden: u64) -> u64
+    ensures { λ r. ⌜ eqb r 0 ≡ appliesWord w needed forbidden ⌝ }
 {
-    let w = s.words[i];
-    if word_without(needed.words[i], w) == 0 {
-        forbidden.words[i] & w == 0
-    } else {
-        false
-    }
+    word_without(needed, w) | (forbidden & w)
 }
 
-// Word i of the next state: the old one without the deleted, then with the added.
-fn word_next(s: State, added: State, deleted: State, i: usize) -> u64
-    requires { ⌜ i < wordCount ⌝ }
-    ensures { λ r. ⌜ r ≡ nextWord (word (s .words) i) (word (added .words) i) (word (deleted .words) i) ⌝ }
+// A word of the next state: the old one without the deleted, then with the added.
+fn word_next(old: u64, added: u64, deleted: u64) -> u64
+    ensures { λ r. ⌜ r ≡ nextWord old added deleted ⌝ }
 {
-    let old = s.words[i];
-    let plus = added.words[i];
-    let minus = deleted.words[i];
-    word_without(old, minus) | plus
+    word_without(old, deleted) | added
 }
 
-// "It applies if every needed one is true and no forbidden one is."
-fn action_applies(s: State, needed: State, forbidden: State) -> bool
-    ensures { λ r. ⌜ r ≡ every wordCount 0 (λ i. appliesWord (word (s .words) i) (word (needed .words) i) (word (forbidden .words) i)) ⌝ }
+// "It applies if every needed one is true and no forbidden one is." Without a branch at each word, so that several are tested at once.
+fn applies(s: &[u64], needed: &[u64], forbidden: &[u64]) -> bool
+    requires { ⌜ (length (now needed) ≡ length (now s)) × (length (now forbidden) ≡ length (now s)) ⌝ }
+    ensures { λ r. ⌜ r ≡ every (length (now (s .entry))) 0 (λ i. appliesWord (word (now (s .entry)) i) (word (now (needed .entry)) i) (word (now (forbidden .entry)) i)) ⌝ }
 {
+    let mut found: u64 = 0;
     let mut i: usize = 0;
-    while i < WORDS {
-        if !word_applies(s, needed, forbidden, i) {
-            return false;
-        }
+    while i < s.len() {
+        found = found | obstacles(s[i], needed[i], forbidden[i]);
         i += 1;
     }
+    found == 0
+}
+
+// "The next state is the old one without the deleted, then with the added; a proposition in both ends true." In the old one's place.
+fn advance(s: &mut [u64], added: &[u64], deleted: &[u64])
+    requires { ⌜ (length (now added) ≡ length (now s)) × (length (now deleted) ≡ length (now s)) ⌝ }
+    ensures { λ _. ⌜ now (s .exit) ≡ tabulate (length (now (s .entry))) 0 (λ i. nextWord (word (now (s .entry)) i) (word (now (added .entry)) i) (word (now (deleted .entry)) i)) ⌝ }
+{
+    let mut i: usize = 0;
+    while i < s.len() {
+        s[i] = word_next(s[i], added[i], deleted[i]);
+        i += 1;
+    }
+}
+
+// The step in the first words of a state, in their place: the sets are lent in as many words as their propositions take, so that the words past
+// them stay.
+pub fn step_words(
+    s: &mut [u64],
+    needed: &[u64],
+    forbidden: &[u64],
+    added: &[u64],
+    deleted: &[u64],
+) -> bool
+    requires tests { ⌜ (length (now needed) ≡ length (now s)) × (length (now forbidden) ≡ length (now s)) ⌝ }
+    requires changes { ⌜ (length (now added) ≡ length (now s)) × (length (now deleted) ≡ length (now s)) ⌝ }
+    ensures { λ r. ⌜ Steps (now (s .entry)) (widenedAction (now (needed .entry)) (now (forbidden .entry)) (now (added .entry)) (now (deleted .entry))) r (now (s .exit)) ⌝ }
+{
+    if !applies(s, needed, forbidden) {
+        return false;
+    }
+    advance(s, added, deleted);
     true
-}
-
-// "The next state is the old one without the deleted, then with the added; a proposition in both ends true."
-fn next_state(s: State, added: State, deleted: State) -> State
-    ensures { λ r. ⌜ r .words ≡ tabulate wordCount 0 (λ i. nextWord (word (s .words) i) (word (added .words) i) (word (deleted .words) i)) ⌝ }
-{
-    let mut n = State::new();
-    let mut i: usize = 0;
-    while i < WORDS {
-        n.words[i] = word_next(s, added, deleted, i);
-        i += 1;
-    }
-    n
 }
 
 // "The *step* call takes any state and four sets as words and gives yes with the next state, or no with the state as it came."
 pub fn step(s: State, needed: State, forbidden: State, added: State, deleted: State) -> Stepped
     ensures { λ r. ⌜ (r .ok, r .state .words) ≡ step (s .words) (actionOf needed forbidden added deleted) ⌝ }
 {
-    if action_applies(s, needed, forbidden) {
-        Stepped {
-            ok: true,
-            state: next_state(s, added, deleted),
-        }
-    } else {
-        Stepped {
-            ok: false,
-            state: s,
-        }
+    let mut words = s.words;
+    let ok = step_words(
+        &mut words,
+        &needed.words,
+        &forbidden.words,
+        &added.words,
+        &deleted.words,
+    );
+    Stepped {
+        ok,
+        state: State { words },
     }
 }

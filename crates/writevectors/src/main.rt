@@ -3,58 +3,19 @@
 // what was put out. What it prints is held against the stored expectations, which come from the papers and two independent renderings.
 use capi::Reply;
 use libc::STDOUT_FILENO;
+use rules::STATES;
+use rules::TEXT;
+use rules::WORK;
+use state::WORDS;
 use writer::Wrote;
-ghost use mathlib.Core.Path.{_≡_};
 ghost use Prim.Native.Nat.{_+_, _≤_};
-ghost use lib.ListN.{length, take};
 
 // The most that is lent; the core takes the length of the node list alone.
-const MOST_STATES: usize = 4036;
+const MOST_STATES: usize = STATES * WORDS + 32;
 
-const MOST_WORK: usize = 16416;
+const MOST_WORK: usize = WORK + 32;
 
-const MOST_OUTPUT: usize = 65536;
-
-// The number that a word is: of a longer one the first six digits count.
-fn number(word: &[u8]) -> usize {
-    let mut value: usize = 0;
-    let mut i: usize = 0;
-    while i < word.len() {
-        if value < 100000 {
-            value = value * 10 + (word[i] % 16) as usize;
-        }
-        i += 1;
-    }
-    value
-}
-
-// The number that argument i is; the word is printed.
-fn number_argument(i: usize) -> usize {
-    let mut word = io::buffer();
-    let n = os::arg(i, &mut word);
-    io::write_all(STDOUT_FILENO, &word[..n]);
-    io::write_all(STDOUT_FILENO, b" ");
-    number(&word[..n])
-}
-
-// How many elements of a list are lent: so many, or all.
-fn count_states(n: usize, list: &[u64]) -> usize
-    ensures { λ r. ⌜ (r ≤ length (now (list .entry))) × (r ≡ length (take r (now (list .entry)))) ⌝ }
-{
-    if n < list.len() { n } else { list.len() }
-}
-
-fn count_work(n: usize, list: &[u32]) -> usize
-    ensures { λ r. ⌜ (r ≤ length (now (list .entry))) × (r ≡ length (take r (now (list .entry)))) ⌝ }
-{
-    if n < list.len() { n } else { list.len() }
-}
-
-fn count_bytes(n: usize, list: &[u8]) -> usize
-    ensures { λ r. ⌜ (r ≤ length (now (list .entry))) × (r ≡ length (take r (now (list .entry)))) ⌝ }
-{
-    if n < list.len() { n } else { list.len() }
-}
+const MOST_OUTPUT: usize = TEXT + 1;
 
 fn print_field(n: u32) {
     io::write_all(STDOUT_FILENO, b",");
@@ -82,7 +43,7 @@ fn print_all(w: Wrote, output: &[u8]) {
     let answer = w.answer;
     let length = w.length;
     print_written(capi::as_reply(answer), length);
-    let n = count_bytes(length as usize, output);
+    let n = arguments::count_bytes(length as usize, output);
     io::write_all(STDOUT_FILENO, &output[..n]);
 }
 
@@ -101,9 +62,9 @@ fn write_text(
     let mut states = [7u64; MOST_STATES];
     let mut work = [7u32; MOST_WORK];
     let mut output = [7u8; MOST_OUTPUT];
-    let s = count_states(states_len, &states);
-    let w = count_work(work_len, &work);
-    let o = count_bytes(output_len, &output);
+    let s = arguments::count_states(states_len, &states);
+    let w = arguments::count_work(work_len, &work);
+    let o = arguments::count_bytes(output_len, &output);
     write_with(
         text,
         nodes_len,
@@ -127,10 +88,10 @@ fn write_file(path: &[u8], i: usize)
     libc::close(fd);
     io::write_all(STDOUT_FILENO, path);
     io::write_all(STDOUT_FILENO, b" ");
-    let output = number_argument(i + 1);
-    let states = number_argument(i + 2);
-    let nodes = number_argument(i + 3);
-    let work = number_argument(i + 4);
+    let output = arguments::number_at(i + 1);
+    let states = arguments::number_at(i + 2);
+    let nodes = arguments::number_at(i + 3);
+    let work = arguments::number_at(i + 4);
     write_text(&buffer[..n], output, states, nodes, work);
 }
 

@@ -4,7 +4,7 @@
 #[path = "../../src/plain.rs"]
 mod plain;
 
-use plain::{Node, Reply, Written};
+use plain::{Node, Reply, Set, Written, STATES_ASKED, WORK_ASKED};
 use std::slice::{from_raw_parts, from_raw_parts_mut};
 
 /// # Safety
@@ -64,16 +64,31 @@ pub unsafe extern "C" fn cuecheck_write(
     Written { number, line, item, cues, nodes, length }
 }
 
+/// # Safety
+/// Each pointer is valid, and the state overlaps no other set.
+#[no_mangle]
+pub unsafe extern "C" fn cuecheck_step(
+    state: *mut Set,
+    needed: *const Set,
+    forbidden: *const Set,
+    added: *const Set,
+    deleted: *const Set,
+) -> u32 {
+    let (applies, next) = plain::step(*state, *needed, *forbidden, *added, *deleted);
+    *state = next;
+    u32::from(applies)
+}
+
 /// The answer and the lists as they came, or with the bug that the features ask for.
 unsafe fn spoiled(mut answer: Reply, states: &mut [u64], work: &mut [u32]) -> Reply {
     if cfg!(feature = "bug-answer") && answer.number == 3 && answer.item == 8 {
         answer.item = 7;
     }
-    if cfg!(feature = "bug-dirty-work") && work.len() > 16_384 {
-        work[16_384] = 1;
+    if cfg!(feature = "bug-dirty-work") && work.len() > WORK_ASKED {
+        work[WORK_ASKED] = 1;
     }
-    if cfg!(feature = "bug-overrun") && states.len() == 4_003 {
-        *states.as_mut_ptr().add(4_003) = 7;
+    if cfg!(feature = "bug-overrun") && states.len() == STATES_ASKED - 1 {
+        *states.as_mut_ptr().add(states.len()) = 7;
     }
     answer
 }

@@ -25,6 +25,8 @@ fn main() {
     };
     println!("write");
     show(compare::run_write(compare::PLAIN_WRITE, write, "fast"));
+    println!("step");
+    compare::run_step(fast::step, "fast");
 }
 
 fn show(answers: BTreeMap<u32, u64>) {

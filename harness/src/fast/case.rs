@@ -1,7 +1,6 @@
 //! What is read of a case but for its nodes, in tables on the stack.
 
-use super::Set;
-use crate::plain::TEXT_LIMIT;
+use super::{Set, CUES, PROPOSITIONS, TEXT, WORDS};
 use std::mem::MaybeUninit;
 use std::ops::{Deref, Range};
 
@@ -68,9 +67,8 @@ pub fn stretch<'a, T>(all: &'a [T], range: &Range<u16>) -> &'a [T] {
 /// A constraint. An order has two subtasks in `from` and `to`. The others have sets of them, bit j for subtask j, 0 for the
 /// whole task; a before has only `to`, an after only `from`.
 pub struct Constraint {
-    /// O, B, F and W are 0, 2, 4 and 6; b, f and w one more.
-    pub letter: u8,
-    pub proposition: u8,
+    /// The letter and, below it, the proposition; an order has none.
+    kind: u16,
     /// Where its line stands in the text, as bytes that are left of it.
     pub left: u16,
     pub from: u32,
@@ -78,20 +76,33 @@ pub struct Constraint {
 }
 
 impl Constraint {
+    pub fn new(letter: u16, proposition: u32, left: u16, from: u32, to: u32) -> Constraint {
+        Constraint { kind: letter * PROPOSITIONS as u16 + proposition as u16, left, from, to }
+    }
+
+    /// O, B, F and W are 0, 2, 4 and 6; b, f and w one more.
+    pub fn letter(&self) -> u16 {
+        self.kind / PROPOSITIONS as u16
+    }
+
+    pub fn proposition(&self) -> u16 {
+        self.kind % PROPOSITIONS as u16
+    }
+
     /// The refusal number if it is broken: 10 order, 11 before, 12 after, 13 between.
     pub fn number(&self) -> u32 {
-        10 + u32::from(self.letter / 2)
+        10 + u32::from(self.letter() / 2)
     }
 
     pub fn asked(&self) -> Signed {
-        Signed { proposition: self.proposition, negative: self.letter % 2 == 1 }
+        Signed { proposition: self.proposition(), negative: self.letter() % 2 == 1 }
     }
 }
 
 /// A proposition, and whether it is asked to be true (B, F, W) or false (b, f, w).
 #[derive(Clone, Copy)]
 pub struct Signed {
-    pub proposition: u8,
+    pub proposition: u16,
     pub negative: bool,
 }
 
@@ -127,7 +138,7 @@ pub fn with_tables<R>(text: usize, judge: impl FnOnce(&mut Case) -> R) -> R {
     if text <= SMALL {
         with::<{ SMALL / 10 + 1 }, { SMALL / 8 + 1 }, { SMALL / 2 + 1 }, { SMALL / 6 + 1 }, R>(judge)
     } else {
-        with::<1_024, 2_048, { TEXT_LIMIT / 2 + 1 }, { TEXT_LIMIT / 6 + 1 }, R>(judge)
+        with::<1_024, 2_048, { TEXT / 2 + 1 }, { TEXT / 6 + 1 }, R>(judge)
     }
 }
 
@@ -135,11 +146,11 @@ pub fn with_tables<R>(text: usize, judge: impl FnOnce(&mut Case) -> R) -> R {
 fn with<const A: usize, const M: usize, const S: usize, const C: usize, R>(judge: impl FnOnce(&mut Case) -> R) -> R {
     judge(&mut Case {
         goal: 0,
-        initial: [0; 4],
+        initial: [0; WORDS],
         actions: Table { slots: &mut [const { MaybeUninit::uninit() }; A], count: 0 },
         methods: Table { slots: &mut [const { MaybeUninit::uninit() }; M], count: 0 },
         subtasks: Table { slots: &mut [const { MaybeUninit::uninit() }; S], count: 0 },
         constraints: Table { slots: &mut [const { MaybeUninit::uninit() }; C], count: 0 },
-        plan: Table { slots: &mut [const { MaybeUninit::uninit() }; 1_000], count: 0 },
+        plan: Table { slots: &mut [const { MaybeUninit::uninit() }; CUES], count: 0 },
     })
 }

@@ -2,11 +2,12 @@
 
 use super::case::{stretch, Case, Constraint, Signed};
 use super::walking::Span;
-use super::{refuse, Checked, Node, Set};
+use super::{refuse, Checked, Node, Set, CUES, PROPOSITIONS, WORDS};
+use std::mem::MaybeUninit;
 
 /// Tries every node's constraints in order: numbers 10 to 13.
-pub fn first_broken(case: &Case, rows: &[Set], nodes: &[Node], spans: &[u32], columns: &mut [u32]) -> Checked<()> {
-    let mut columns = Columns { rows, columns: columns.as_chunks_mut().0, made: [0; 4] };
+pub fn first_broken(case: &Case, rows: &[Set], nodes: &[Node], spans: &[u32]) -> Checked<()> {
+    let mut columns = Columns { rows, columns: [const { MaybeUninit::uninit() }; PROPOSITIONS], made: [0; WORDS] };
     let mut next_span = 0;
     for (at, node) in nodes.iter().enumerate().filter(|(_, node)| node.letter != 3) {
         let method = &case.methods[node.label as usize];
@@ -77,22 +78,23 @@ impl Signed {
     }
 }
 
-fn contains(set: &Set, proposition: u8) -> bool {
+fn contains(set: &Set, proposition: u16) -> bool {
     set[usize::from(proposition / 64)] >> (proposition % 64) & 1 == 1
 }
 
 /// A range of at most so many states is tested state by state, if there is no column.
 const SHORT: u32 = 16;
 
-/// A column has a bit for each of 1,001 states in 32 words, and one for each of these words in the last two.
-const COLUMN: usize = 34;
-pub const COLUMNS: usize = 256 * COLUMN;
+/// A column has a bit for each of 1,001 states, 32 to a word, and one for each of these words in the last two.
+const STRETCHES: usize = (CUES + 1).div_ceil(32);
+const COLUMN: usize = STRETCHES + 2;
 
 /// For each proposition a column, made when it is first asked for, with either sign. A bit is set if the proposition is
-/// false in that state; in the last two words, if it is false, or true, in any state of that word.
+/// false in that state; in the last two words, if it is false, or true, in any state of that word. All of them are more
+/// than the lent work space holds.
 struct Columns<'a> {
     rows: &'a [Set],
-    columns: &'a mut [[u32; COLUMN]],
+    columns: [MaybeUninit<[u32; COLUMN]>; PROPOSITIONS],
     made: Set,
 }
 
@@ -106,7 +108,8 @@ impl Columns<'_> {
             }
             self.make(asked.proposition);
         }
-        let column = &self.columns[usize::from(asked.proposition)];
+        // SAFETY: it was made, just now or earlier.
+        let column = unsafe { self.columns[usize::from(asked.proposition)].assume_init_ref() };
         let sign = u32::from(asked.negative).wrapping_neg();
         let word = |state: u32| column[state as usize / 32] ^ sign;
         // Of the first word the states from `first` on, of the last word those up to `last`.
@@ -116,14 +119,13 @@ impl Columns<'_> {
         }
         // The words between those two.
         let between = (1 << (last / 32)) - (2 << (first / 32));
-        head | tail | column[32 + usize::from(asked.negative)] & between == 0
+        head | tail | column[STRETCHES + usize::from(asked.negative)] & between == 0
     }
 
     #[inline(never)]
-    fn make(&mut self, proposition: u8) {
+    fn make(&mut self, proposition: u16) {
         let (word, bit) = (usize::from(proposition / 64), proposition % 64);
-        let [words @ .., some_false, some_true] = &mut self.columns[usize::from(proposition)];
-        (*some_false, *some_true) = (0, 0);
+        let [words @ .., some_false, some_true] = self.columns[usize::from(proposition)].write([0; COLUMN]);
         for (at, states) in self.rows.chunks(32).enumerate() {
             words[at] = states.iter().rev().fold(0, |bits, state| bits << 1 | (!state[word] >> bit & 1) as u32);
             *some_false |= u32::from(words[at] != 0) << at;

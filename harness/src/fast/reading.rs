@@ -1,7 +1,7 @@
 //! One pass over the text: numbers 3 and 4.
 
 use super::case::{Case, Constraint, Lines, Method};
-use super::{refuse, Accepted, Checked, Node, Refusal, Set};
+use super::{refuse, Accepted, Checked, Node, Refusal, Set, CUES, NODES, PROPOSITIONS, WORDS};
 use std::ops::RangeBounds;
 
 /// Where reading ended, as the number of bytes left, and why: 3 if what is due isn't here, 4 if the last field is outside
@@ -129,7 +129,7 @@ impl Reader<'_> {
         let mut least = 0;
         for _ in 0..count {
             let member = self.number_in(least..propositions)?;
-            set[member as usize / 64 % 4] |= 1 << (member % 64);
+            set[member as usize / 64 % WORDS] |= 1 << (member % 64);
             least = member + 1;
         }
         Ok(())
@@ -194,13 +194,13 @@ fn read_lines<'a>(text: &'a [u8], case: &mut Case, nodes: &mut [Node]) -> Read<(
 #[inline(never)]
 fn read_header(mut reader: Reader) -> Read<(Header, Reader)> {
     reader.line(b'N')?;
-    let propositions = reader.number_in(..=256)?;
+    let propositions = reader.number_in(..=PROPOSITIONS as u32)?;
     let actions = reader.number_in(..=1_024)?;
     let tasks = actions + reader.number_in(..=1_024)?;
     let methods = reader.number_in(..=2_048)?;
     let goal = reader.number_in(actions..tasks)?;
-    let cues = reader.number_in(..=1_000)?;
-    let nodes = reader.number_in(1..=3_000)?;
+    let cues = reader.number_in(..=CUES as u32)?;
+    let nodes = reader.number_in(1..=NODES as u32)?;
     reader.end_line()?;
     Ok((Header { propositions, actions, tasks, methods, goal, cues, nodes }, reader))
 }
@@ -213,7 +213,7 @@ fn read_actions<'a>(mut reader: Reader<'a>, header: &Header, case: &mut Case) ->
     reader.end_line()?;
     for _ in 0..header.actions {
         reader.line(b'A')?;
-        for set in case.actions.push([[0; 4]; 4]) {
+        for set in case.actions.push([[0; WORDS]; 4]) {
             reader.set(header.propositions, set)?;
         }
         reader.end_line()?;
@@ -266,8 +266,8 @@ fn read_constraint(reader: &mut Reader, propositions: u32, subtasks: u32) -> Rea
         _ => return reader.wrong_letter(),
     };
     reader.end_line()?;
-    let letter = capital + u8::from(letter.is_ascii_lowercase());
-    Ok(Constraint { letter, proposition: proposition as u8, left, from, to })
+    let letter = capital + u16::from(letter.is_ascii_lowercase());
+    Ok(Constraint::new(letter, proposition, left, from, to))
 }
 
 #[inline(never)]

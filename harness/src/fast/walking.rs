@@ -1,7 +1,7 @@
 //! The walk over the records: numbers 6 to 9.
 
 use super::case::{stretch, Case, Method};
-use super::{refuse, Checked, Node};
+use super::{refuse, Checked, Node, CUES};
 
 /// Doubled start and end.
 #[derive(Clone, Copy)]
@@ -46,7 +46,7 @@ struct Walk<'a> {
     methods: &'a [Method],
     subtasks: &'a [u16],
     plan: &'a [u16],
-    claimed: [bool; 1_000],
+    claimed: [bool; CUES],
     nodes: &'a mut [Node],
     spans: &'a mut [u32],
     first_line: usize,
@@ -58,7 +58,7 @@ struct Walk<'a> {
 /// those walked are fewer than 3,000, those still due at most 32 on each of 64 levels.
 pub fn walk(case: &Case, nodes: &mut [Node], spans: &mut [u32]) -> Checked<()> {
     let Case { methods, subtasks, plan, .. } = case;
-    let (claimed, first_line) = ([false; 1_000], case.node_line(0));
+    let (claimed, first_line) = ([false; CUES], case.node_line(0));
     let mut walk = Walk { methods, subtasks, plan, claimed, nodes, spans, first_line, next: 0, next_span: 0 };
     walk.node(case.goal, 1)?;
     if walk.next < walk.nodes.len() {

@@ -62,8 +62,8 @@ fn put_count(before: &[u8], old: usize, new: usize, sink: &mut Sink) {
 /// which is hard to foretell.
 #[inline(always)]
 fn key(constraint: &Constraint) -> u128 {
-    let &Constraint { letter, from, to, .. } = constraint;
-    let proposition = u32::from(constraint.proposition);
+    let &Constraint { from, to, .. } = constraint;
+    let (letter, proposition) = (constraint.letter(), u32::from(constraint.proposition()));
     let (order, between) = (letter == 0, letter >= 6);
     let first = if order | between { from } else { proposition };
     // A before has no `from`, an after no `to`.

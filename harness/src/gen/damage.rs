@@ -1,17 +1,18 @@
 //! Ways to damage a draft (which stays a text of the right form) or a text (which may not).
 
-use super::{Constraint, Draft, Line, Rng, Signed};
+use super::{Constraint, Draft, Line, Rng, Signed, FORMER, PROPOSITIONS};
 
 // ---------------------------------------------------------------- drafts
 
 /// Damages a draft in one random way; some ways leave it sound by luck.
 pub fn draft(rng: &mut Rng, draft: &mut Draft) {
-    match rng.below(12) {
+    match rng.below(14) {
         0..=2 => places(rng, draft),
         3 | 4 => tree(rng, draft),
         5 | 6 => plan(rng, draft),
-        7 | 8 => conditions(rng, draft),
-        9 | 10 => constraints(rng, draft),
+        7..=9 => conditions(rng, draft),
+        10 | 11 => constraints(rng, draft),
+        12 => beyond(rng, draft),
         _ => methods(rng, draft),
     }
 }
@@ -142,18 +143,39 @@ fn conditions(rng: &mut Rng, draft: &mut Draft) {
         return;
     }
     let p = *rng.pick(&draft.palette);
-    let actions = draft.actions.len();
-    let set = if actions == 0 || rng.percent(30) {
-        &mut draft.initial
-    } else {
-        &mut draft.actions[rng.below(actions)][rng.below(4)]
-    };
+    let set = any_set(rng, draft);
     match set.binary_search(&p) {
         Ok(at) => {
             set.remove(at);
         }
         Err(at) => set.insert(at, p),
     }
+}
+
+/// The initial state or a set of an action.
+fn any_set<'a>(rng: &mut Rng, draft: &'a mut Draft) -> &'a mut Vec<u32> {
+    let actions = draft.actions.len();
+    if actions == 0 || rng.percent(30) {
+        return &mut draft.initial;
+    }
+    &mut draft.actions[rng.below(actions)][rng.below(4)]
+}
+
+/// Puts the first proposition that the model hasn't into a condition or a set, or fills a set with one too many.
+fn beyond(rng: &mut Rng, draft: &mut Draft) {
+    let lacking = draft.propositions;
+    let mut asked: Vec<&mut Signed> =
+        draft.methods.iter_mut().flat_map(|method| &mut method.constraints).filter_map(Constraint::asked).collect();
+    if !asked.is_empty() && rng.percent(40) {
+        let at = rng.below(asked.len());
+        asked[at].proposition = lacking;
+        return;
+    }
+    let set = any_set(rng, draft);
+    if rng.percent(20) {
+        *set = (0..lacking).collect();
+    }
+    set.push(lacking);
 }
 
 /// Adds a constraint without looking whether it holds, or changes one a little.
@@ -226,8 +248,9 @@ pub fn text(rng: &mut Rng, text: &mut Vec<u8>) {
     }
 }
 
-/// The greatest count of each header field; the goal has none of its own.
-const MOST: [(usize, u32); 6] = [(2, 256), (3, 1_024), (4, 1_024), (5, 2_048), (7, 1_000), (8, 3_000)];
+/// The greatest count of each header field, of the propositions the former one too; the goal has none of its own.
+const MOST: [(usize, u32); 7] =
+    [(2, PROPOSITIONS), (2, FORMER), (3, 1_024), (4, 1_024), (5, 2_048), (7, 1_000), (8, 3_000)];
 
 /// Puts a count at its limit, one over it, or at 0.
 fn header(rng: &mut Rng, text: &mut Vec<u8>) {
@@ -255,6 +278,9 @@ const TELLING: &[&str] = &[
     "255",
     "256",
     "257",
+    "511",
+    "512",
+    "513",
     "1000",
     "1001",
     "1024",

@@ -19,9 +19,10 @@ pub fn dented(rng: &mut Rng) -> Draft {
     let most = *rng.pick(&[8, 20, 70, 140, 400]);
     let cues = rng.between(most / 2, most);
     // Action 0 does nothing; two more for each proposition make it true and false.
-    let mut draft = skeleton(256, 5, 3, vec![]);
-    let edge = rng.below(EDGES.len() - 1);
-    draft.palette = EDGES[edge..edge + 2].to_vec();
+    let mut draft = skeleton(*rng.pick(&[256, 257, 320, 511, 512, 512]), 5, 3, vec![]);
+    draft.palette.retain(|p| EDGES.contains(p));
+    let edge = rng.below(draft.palette.len() - 1);
+    draft.palette = draft.palette[edge..edge + 2].to_vec();
     draft.plan = vec![0; cues];
     let dents = [dent(rng, &mut draft, 0), dent(rng, &mut draft, 1)];
     let mut tree = blocks(rng, &mut draft);

@@ -1,8 +1,8 @@
 //! Cases of chosen size: deep chains, typical plans, the dearest cases for a checker, and
 //! every limit of 01 met exactly or passed by one.
 
-use super::{animate, constrain, finish, grow, is, not, place};
-use super::{ActionSets, Constraint, Draft, Line, Method, Rng, Strictness, Weave};
+use super::{animate, constrain, draw_palette, finish, grow, is, not, place};
+use super::{ActionSets, Constraint, Draft, Line, Method, Rng, Strictness, Weave, PROPOSITIONS};
 
 pub(super) fn method(task: u32, subtasks: Vec<u32>) -> Method {
     Method { task, subtasks, constraints: Vec::new() }
@@ -35,8 +35,9 @@ pub fn chain(rng: &mut Rng, levels: usize) -> (Draft, usize) {
         method(t, vec![a()]),
         method(t, vec![]),
     ];
-    let propositions = rng.below(4) as u32;
-    let mut draft = skeleton(propositions, actions, 1, methods);
+    let members = rng.below(4);
+    let (propositions, palette) = draw_palette(rng, members);
+    let mut draft = Draft { palette, ..skeleton(propositions, actions, 1, methods) };
     let ends_in_leaf = rng.percent(50);
     let mut deepest = 0;
     let mut tree = grow(&draft, &mut |_, level, at| {
@@ -216,6 +217,21 @@ pub fn signed_betweens() -> Draft {
     draft
 }
 
+/// As many betweens on as many nodes, of eight methods in turn: each of 512 propositions in one of them.
+pub fn wide_betweens() -> Draft {
+    let mut draft = betweens();
+    let old = draft.methods.len() as u32;
+    draft.propositions = PROPOSITIONS;
+    draft.initial = (0..PROPOSITIONS).collect();
+    for first in (0..PROPOSITIONS).step_by(64) {
+        let constraints = (first..first + 64).map(|p| Constraint::Between(1, is(p), 2)).collect();
+        draft.methods.push(Method { constraints, ..draft.methods[6].clone() });
+    }
+    let users = draft.lines.iter_mut().filter(|line| matches!(line, Line::D(6)));
+    users.zip((old..draft.methods.len() as u32).cycle()).for_each(|(line, method)| *line = Line::D(method));
+    draft
+}
+
 /// 64 betweens over half of 930 states or more on each of 930 nodes.
 pub fn long_betweens() -> Draft {
     let (a, g, s, early, late, z) = (0, 1, 2, 3, 4, 5);
@@ -335,21 +351,30 @@ pub fn fields_32000() -> Draft {
 
 /// 900 actions with four sets each, all of them in a plan of 1,000 cues.
 pub fn actions_900() -> Draft {
-    let rng = &mut Rng::new(900);
-    let (g, y) = (900, 901);
-    let mut draft = skeleton(100, 900, 2, vec![method(g, vec![y; 32])]);
-    let mut action = 0..;
-    for group in 0..32 {
-        let subtasks = (0..if group < 31 { 32 } else { 8 }).map(|_| action.next().expect("endless") % 900);
-        draft.methods.push(method(y, subtasks.collect()));
-    }
+    all_in_turn(100, 900, 1_000, 4)
+}
+
+/// A text that is mostly sets: of 256 propositions 52 actions, of 512 propositions 24, each with hundreds of members.
+pub fn large_sets(propositions: u32) -> Draft {
+    let actions = if propositions > 256 { 24 } else { 52 };
+    all_in_turn(propositions, actions, actions, 50)
+}
+
+/// Actions with sets of this density in percent, one after the other in a plan of so many cues.
+fn all_in_turn(propositions: u32, actions: u32, cues: u32, density: usize) -> Draft {
+    let rng = &mut Rng::new(u64::from(actions));
+    let (g, y) = (actions, actions + 1);
+    let plan: Vec<u32> = (0..cues).map(|cue| cue % actions).collect();
+    let blocks = plan.chunks(32);
+    let mut draft = skeleton(propositions, actions as usize, 2, vec![method(g, vec![y; blocks.len()])]);
+    draft.methods.extend(blocks.map(|block| method(y, block.to_vec())));
     let mut groups = 0;
     let mut tree = grow(&draft, &mut |task, _, _| {
         groups += u32::from(task == y);
         groups
     });
     place(rng, &mut draft, &mut tree, Weave::Woven);
-    animate(rng, &mut draft, 4);
+    animate(rng, &mut draft, density);
     draft
 }
 
@@ -362,7 +387,7 @@ fn three_thousand(actions: usize, compound: u32, methods: usize) -> Draft {
     let (s, x, z) = (g + 1, g + 2, g + 3);
     let mut a = || rng.below(actions.min(10)) as u32;
     let mut draft = skeleton(
-        256,
+        PROPOSITIONS,
         actions,
         compound,
         vec![
@@ -392,21 +417,22 @@ fn three_thousand(actions: usize, compound: u32, methods: usize) -> Draft {
     });
     let rng = &mut Rng::new(3_001);
     place(rng, &mut draft, &mut tree, Weave::Woven);
-    draft.initial = vec![0, 63, 64, 255];
-    draft.methods[0].constraints = vec![Constraint::Between(1, is(255), u32::MAX); 64];
+    draft.initial = vec![0, 63, 64, PROPOSITIONS - 1];
+    draft.methods[0].constraints = vec![Constraint::Between(1, is(PROPOSITIONS - 1), u32::MAX); 64];
     draft.methods[5].constraints = vec![Constraint::Before(is(64), 0), Constraint::Between(0, is(63), 0)];
     draft
 }
 
-/// Sets as full as they get: 256 propositions in the initial state and in an action.
-fn full_sets() -> Draft {
-    let all: Vec<u32> = (0..256).collect();
-    let mut draft = skeleton(256, 2, 1, vec![method(2, vec![0, 1, 0])]);
+/// Sets as full as they get: all propositions in the initial state and in an action.
+fn full_sets(propositions: u32) -> Draft {
+    let all: Vec<u32> = (0..propositions).collect();
+    let last = propositions - 1;
+    let mut draft = skeleton(propositions, 2, 1, vec![method(2, vec![0, 1, 0])]);
     draft.initial = all.clone();
     draft.actions[0] = [all.clone(), vec![], all.clone(), all.clone()];
-    draft.actions[1] = [vec![255], vec![], vec![0, 64, 128, 255], all];
+    draft.actions[1] = [vec![last], vec![], vec![0, 64, 128, last], all];
     draft.methods[0].constraints =
-        vec![Constraint::Order(0, 1), Constraint::After(is(255), 2), Constraint::After(is(1), 1)];
+        vec![Constraint::Order(0, 1), Constraint::After(is(last), 2), Constraint::After(is(1), 1)];
     draft.plan = vec![0, 0, 1];
     draft.lines = vec![Line::D(0), Line::L(0, 1), Line::L(1, 3), Line::L(0, 2)];
     draft
@@ -447,7 +473,7 @@ fn over_limits() -> Vec<(&'static str, Vec<u8>)> {
         ("3001 nodes", nodes.text()),
         ("1001 cues", cues.text()),
         ("65 levels", deep.text()),
-        ("257 propositions", skeleton(257, 0, 1, vec![]).text()),
+        ("513 propositions", skeleton(PROPOSITIONS + 1, 0, 1, vec![]).text()),
         ("1025 compound tasks", skeleton(0, 0, 1_025, vec![method(0, vec![])]).text()),
         ("1025 actions", skeleton(0, 1_025, 1, vec![]).text()),
         ("2049 methods", skeleton(0, 0, 1, vec![method(0, vec![]); 2_049]).text()),
@@ -467,6 +493,7 @@ pub fn all() -> Vec<(&'static str, Vec<u8>)> {
         ("1000 cues, mixed", mixed(1_000).text()),
         ("betweens", betweens().text()),
         ("signed betweens", signed_betweens().text()),
+        ("wide betweens", wide_betweens().text()),
         ("long betweens", long_betweens().text()),
         ("befores and afters", befores_afters().text()),
         ("sets of 32", sets_of_32().text()),
@@ -474,7 +501,11 @@ pub fn all() -> Vec<(&'static str, Vec<u8>)> {
         ("32000 fields", fields_32000().text()),
         ("900 actions", actions_900().text()),
         ("3000 nodes", three_thousand(10, 4, 6).text()),
-        ("full sets", full_sets().text()),
+        ("sets of 256 propositions", large_sets(256).text()),
+        ("sets of 512 propositions", large_sets(512).text()),
+        ("full sets of 256", full_sets(256).text()),
+        ("full sets of 257", full_sets(257).text()),
+        ("full sets of 512", full_sets(512).text()),
         ("all limits", at_limits.text()),
         ("65534 bytes", padded(at_limits.clone(), 65_534)),
         ("65535 bytes", padded(at_limits.clone(), 65_535)),

@@ -99,11 +99,12 @@ fn same_meaning(constraint: &Constraint, all: u32) -> Constraint {
 // ---------------------------------------------------------------- piles of constraints
 
 /// Numbers whose order as text is another.
-const TELLING: [u32; 18] = [0, 1, 2, 9, 10, 11, 19, 20, 90, 99, 100, 101, 109, 110, 199, 200, 210, 255];
+const TELLING: [u32; 25] =
+    [0, 1, 2, 9, 10, 11, 19, 20, 90, 99, 100, 101, 109, 110, 199, 200, 210, 255, 256, 299, 300, 310, 499, 500, 511];
 
 /// A small tree, whose one method with constraints has only such as hold, and a few methods that no node uses.
 pub fn piled(rng: &mut Rng) -> Draft {
-    let propositions = *rng.pick(&[1, 11, 12, 101, 256]);
+    let propositions = *rng.pick(&[1, 11, 12, 101, 256, 257, 511, 512]);
     let subtasks = rng.between(1, 12).max(*rng.pick(&[0, 0, 10, 32]));
     let (a, g, z) = (0, 1, 2);
     let goal = (0..subtasks).map(|_| if rng.percent(80) { a } else { z }).collect();

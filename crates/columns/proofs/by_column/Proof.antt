@@ -1,5 +1,5 @@
 -- `by_column`: the part that was lent is the column of p. Assumes nothing.
-use Rattle.columns.proofs.Kept.{place, long}
+use Rattle.columns.proofs.Kept.{long}
 use Rattle.columns.proofs.by_column.Statement.{statement}
 use Rattle.columns.proofs.by_column.Tie as tie
 use Rattle.columns.specs.Columns.{columnWords, columnAt, asked, Summed}
@@ -32,8 +32,7 @@ part-all-asked-start c = search needs
 part-all-asked-end : tie.Need-part-all-asked-end
 unfolding columnWords
 part-all-asked-end c =
-    let s = c .before .before in
-    omega (arith, place (s .args .columns .now) (s .args .p) (s .pre .1 .0) (s .pre .0), c .column-start .ensures)
+    omega (arith, c .before .before .pre .0, c .column-start .ensures)
 
 number-requires : tie.Need-number-requires
 number-requires c κs = search needs
@@ -56,8 +55,8 @@ all-asked-requires c κs =
     let from = c .before .before .before .column-start in
     let part = part-at columnWords (a .columns .now) (a .p) (from .result) (from .ensures) in
     let past = c .number2 .ensures in
-    let summed = subst (λ (x : List ℕ). Summed x (c .number2 .result)) (sym part) (subst (Summed (columnAt (a .columns .now) (a .p))) (sym past) (p .1 .1)) in
-    (omega (arith, p .1 .0 .0, c .before .number .ensures), (omega (arith, p .1 .0 .1), (ap length part ∙ long (a .columns .now) (a .p) (p .0) (s .pre .0), summed)))
+    let summed = subst (λ (x : List ℕ). Summed x (c .number2 .result)) (sym part) (subst (Summed (columnAt (a .columns .now) (a .p))) (sym past) (p .1)) in
+    (omega (arith, p .0 .0, c .before .number .ensures), (omega (arith, p .0 .1), (ap length part ∙ long (a .columns .now) (a .p) (s .pre .0), summed)))
 
 returns : tie.Need-returns
 unfolding columnWords columnAt

@@ -34,7 +34,7 @@ part-build-end : tie.Need-part-build-end
 unfolding columnWords
 part-build-end c =
     let s = c .before .before .before .before in
-    omega (arith, place (s .args .columns .now) (s .args .p) (s .pre .0 .room) (s .pre .1), c .column-start .ensures)
+    omega (arith, place (s .pre .0) (s .args .p) (s .pre .1), c .column-start .ensures)
 
 build-requires : tie.Need-build-requires
 unfolding columnWords columnAt
@@ -43,7 +43,7 @@ build-requires c κs =
     let a = s .args in
     let k = s .pre .0 in
     let from = c .before .column-start in
-    (s .pre .1, (k .fits, (ap length (part-at columnWords (a .columns .now) (a .p) (from .result) (from .ensures)) ∙ long (a .columns .now) (a .p) (k .room) (s .pre .1), k .there)))
+    (omega (arith, s .pre .1, k .few), (k .fits, (ap length (part-at columnWords (a .columns .now) (a .p) (from .result) (from .ensures)) ∙ long (a .columns .now) (a .p) (place k (a .p) (s .pre .1)), k .there)))
 
 insert-requires : tie.Need-insert-requires
 insert-requires c κs = search needs
@@ -64,11 +64,11 @@ returns c =
     let b = c .before .before .before .before .before .before .build in
     let from = c .before .before .before .before .before .before .before .before .column-start in
     let m = c .before .before .insert .ensures in
-    let size : length (b .last .0) ≡ columnWords = b .kept .0 ∙ ap length (part-at columnWords (a .columns .now) (a .p) (from .result) (from .ensures)) ∙ long (a .columns .now) (a .p) (k .room) w in (
+    let size : length (b .last .0) ≡ columnWords = b .kept .0 ∙ ap length (part-at columnWords (a .columns .now) (a .p) (from .result) (from .ensures)) ∙ long (a .columns .now) (a .p) (place k (a .p) w) in (
       subst (λ (x : List ℕ). Columns (a .states .now) (a .n) x (c .before .before .insert .last .0))
           (sym (part-put columnWords (a .columns .now) (a .p) (from .result) (from .ensures) (b .last .0) (b .last .0) refl))
           (subst (Columns (a .states .now) (a .n) (putStretch columnWords (a .columns .now) (a .p) (b .last .0))) (sym m) (columns-more k (a .p) (b .last .0) w size (b .ensures))),
-      ap (λ (x : List ℕ). member x (a .p)) m ∙ marked k (a .p) w,
+      ap (λ (x : List ℕ). member x (a .p)) m ∙ marked (a .built .now) (a .p) w,
     )
 
 pub fill-spec : {M : Type 1} → statement M

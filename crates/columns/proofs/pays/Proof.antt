@@ -1,7 +1,6 @@
--- `pays`: a proposition past the last word is refused. Assumes nothing.
+-- `pays`: a proposition past the words is refused. Assumes nothing.
 use Rattle.columns.proofs.pays.Statement.{statement}
 use Rattle.columns.proofs.pays.Tie as tie
-use Rattle.rules.specs.State.{wordCount}
 use borrow.Author.Needs.{needs}
 use mathlib.Core.Bool.{false≢true}
 use native.Mathlib.Omega.{arith}
@@ -28,7 +27,6 @@ cast-result-2 : tie.Need-cast-result-2
 cast-result-2 c = search needs
 
 returns-2 : tie.Need-returns-2
-unfolding wordCount
 returns-2 c = λ e. omega arith
 
 pub pays-spec : {M : Type 1} → statement M

@@ -1,5 +1,5 @@
 -- `test`: each of the ways answers as the states do. Assumes nothing.
-use Rattle.columns.proofs.Kept.{built-small, answer, summed-to, no-state, one-state}
+use Rattle.columns.proofs.Kept.{built-place, answer, summed-to, no-state, one-state}
 use Rattle.index.specs.Spans.{stateOf}
 use Rattle.rows.specs.Rows.{inRow}
 use Rattle.rules.specs.State.{wordCount}
@@ -63,7 +63,7 @@ by-column-requires c κs =
     let k = s .pre .0 in
     let less = ltb-true (stateOf (a .first)) (stateOf (a .past)) (sym (c .before .before .before .before .before .before .before .before .is-less .ensures) ∙ not-false (c .before .before .before .before .before .before .before .before .is-less .result) (c .before .before .before .before .before .before .before .if1 .left)) in
     let made = sym (c .before .before .holds .ensures) ∙ c .before .if3 .taken in
-    (built-small k (a .p) made, (k .room, ((less, omega (arith, k .fits, s .pre .1)), summed-to k (a .p) (stateOf (a .past)) made (s .pre .1))))
+    (built-place k (a .p) made, ((less, omega (arith, k .fits, s .pre .1)), summed-to k (a .p) (stateOf (a .past)) made (s .pre .1)))
 
 same-length : tie.Need-same-length
 same-length c = search needs
@@ -109,7 +109,7 @@ by-column-requires-2 c κs =
     let f = c .before .before .before .before .before .fill .ensures in
     let less = ltb-true (stateOf (a .first)) (stateOf (a .past)) (sym (c .before .before .before .before .before .before .before .before .before .before .before .before .before .before .before .before .before .is-less .ensures) ∙ not-false (c .before .before .before .before .before .before .before .before .before .before .before .before .before .before .before .before .before .is-less .result) (c .before .before .before .before .before .before .before .before .before .before .before .before .before .before .before .before .if1 .left)) in
     let k = f .0 in
-    (built-small k (a .p) (f .1), (k .room, ((less, omega (arith, k .fits, s .pre .1)), summed-to k (a .p) (stateOf (a .past)) (f .1) (s .pre .1))))
+    (built-place k (a .p) (f .1), ((less, omega (arith, k .fits, s .pre .1)), summed-to k (a .p) (stateOf (a .past)) (f .1) (s .pre .1)))
 
 same-length-4 : tie.Need-same-length-4
 same-length-4 c = search needs

@@ -1,30 +1,48 @@
--- The step goes by the same test as the definition, and gives the same pair. Assumes nothing.
-use mathlib.Core.Path.{sym, _∙_}
-use Rattle.rules.specs.State.{applies, next}
-use Rattle.state.specs.Action.{actionOf}
-use Rattle.state.proofs.Tests.{step-yes, step-no}
+-- All words are lent, so that there is no rest. Assumes nothing.
+use mathlib.Core.Path.{_≡_, sym, _∙_}
+use lib.ListN.{length}
+use Rattle.rules.specs.State.{wordCount}
+use Rattle.state.proofs.Words.{steps-full}
 use borrow.Author.Needs.{needs}
 use Rattle.state.proofs.step.Statement.{statement}
 use Rattle.state.proofs.step.Tie as tie
 
-action-applies-requires : tie.Need-action-applies-requires
-action-applies-requires c κs = search needs
+slice-aggregate-step-words : tie.Need-slice-aggregate-step-words
+slice-aggregate-step-words c = search needs
 
-next-state-requires : tie.Need-next-state-requires
-next-state-requires c κs = search needs
+-- The words of the five.
+module _ (s : tie.Start) where
+  size : length (s .args .s .words) ≡ wordCount
+  unfolding wordCount
+  size = search needs
+
+  needed-size : length (s .args .t2 .words) ≡ wordCount
+  unfolding wordCount
+  needed-size = search needs
+
+  forbidden-size : length (s .args .t3 .words) ≡ wordCount
+  unfolding wordCount
+  forbidden-size = search needs
+
+  added-size : length (s .args .t4 .words) ≡ wordCount
+  unfolding wordCount
+  added-size = search needs
+
+  deleted-size : length (s .args .t5 .words) ≡ wordCount
+  unfolding wordCount
+  deleted-size = search needs
+
+step-words-requires : tie.Need-step-words-requires
+step-words-requires c κs =
+    let s = c .before .before .before .before .before .before .before .before .before .before .before .before .before .before in
+    ((needed-size s ∙ sym (size s), forbidden-size s ∙ sym (size s)), (added-size s ∙ sym (size s), deleted-size s ∙ sym (size s)))
 
 returns : tie.Need-returns
-unfolding applies next
 returns c =
-    let a = c .before .before .before .args in
-    step-yes (a .s .words) (actionOf (a .needed) (a .forbidden) (a .added) (a .deleted)) (c .next-state .result .words)
-    (sym (c .before .before .action-applies .ensures) ∙ c .before .if1 .taken) (c .next-state .ensures)
-
-returns-2 : tie.Need-returns-2
-unfolding applies
-returns-2 c =
-    let a = c .before .before .args in
-    step-no (a .s .words) (actionOf (a .needed) (a .forbidden) (a .added) (a .deleted)) (sym (c .before .action-applies .ensures) ∙ c .if1 .left)
+    let s = c .before .before .before .before .before .before .before .before .before .before .before .before .before .before .before .before in
+    let a = s .args in
+    steps-full (a .s .words) (a .t2 .words) (a .t3 .words) (a .t4 .words) (a .t5 .words) (c .before .step-words .result) (c .before .step-words .last .0) (size s)
+    (needed-size s) (forbidden-size s) (added-size s) (deleted-size s) (c .before .step-words .ensures)
 
 pub step-spec : {M : Type 1} → statement M
-step-spec = tie.close (tie.spec action-applies-requires next-state-requires returns returns-2)
+step-spec = tie.close (tie.spec slice-aggregate-step-words step-words-requires returns)

@@ -7,8 +7,9 @@ use Rattle.index.specs.Spans.{spanOf}
 use Rattle.rules.specs.Case.{Constraint}
 use borrow.Author.Needs.{needs}
 use borrow.Author.Tests.{not-true, not-false}
+use lib.ListN.{length}
 use mathlib.Core.List.{List}
-use mathlib.Core.Path.{sym, _∙_}
+use mathlib.Core.Path.{_≡_, refl, _∙_}
 use Rattle.constraints.proofs.method.first_broken_of.Statement.{statement}
 use Rattle.constraints.proofs.method.first_broken_of.Tie as tie
 
@@ -16,6 +17,8 @@ abbrev Inv-loop : tie.InvT-loop
 Inv-loop fields from count line own held states work columns₀ built₀ at₀ number₀ columns built at number =
     Columns states held columns built
     × ((cs : List Constraint) → ConstraintsHere fields from count cs → Testing fields at count line (spanOf own) held states work number cs)
+    × (length columns ≡ length columns₀)
+    × (length built ≡ length built₀)
 
 abbrev μ-loop : tie.MeasureT-loop
 μ-loop fields from count line own held states work columns₀ built₀ at₀ number₀ columns built at number = count - number
@@ -41,7 +44,7 @@ loop-holds : tie.Need-loop-holds Inv-loop μ-loop
 loop-holds c =
     let s = c .before .before .before .before .before in
     let a = s .args in
-    (s .pre .1 .0, λ cs h. testing-starts (a .line) (spanOf (a .own)) (a .held) (a .states .now) (a .work .now) h)
+    (s .pre .1 .0, λ cs h. testing-starts (a .line) (spanOf (a .own)) (a .held) (a .states .now) (a .work .now) h, refl, refl)
 
 line-at-requires : tie.Need-line-at-requires Inv-loop μ-loop
 line-at-requires c κs =
@@ -62,10 +65,10 @@ broken-requires : tie.Need-broken-requires Inv-loop μ-loop
 broken-requires c κs = search needs
 
 same-length : tie.Need-same-length Inv-loop μ-loop
-same-length c = c .before .before .before .before .before .before .keeps-line .ensures .1 .room ∙ sym (start (c .before .before .before .before .before .before .before .before .before .before) .pre .1 .0 .room)
+same-length c = search needs
 
 same-length-2 : tie.Need-same-length-2 Inv-loop μ-loop
-same-length-2 c = c .before .before .before .before .before .before .keeps-line .ensures .1 .flags ∙ sym (start (c .before .before .before .before .before .before .before .before .before .before) .pre .1 .0 .flags)
+same-length-2 c = search needs
 
 returns : tie.Need-returns Inv-loop μ-loop
 returns c =
@@ -91,13 +94,15 @@ loop-again c =
       k .ensures .1,
       λ cs h.
           testing-goes-on (l .before .before .loop .inv .1 cs h) (due-of (l .before) cs h) (says l cs h) (k .ensures .0) (not-false (k .result) (c .if1 .left)),
+      k .kept .1 .0 ∙ l .before .before .loop .inv .2,
+      k .kept .1 .1 .0 ∙ l .before .before .loop .inv .3,
     )
 
 same-length-3 : tie.Need-same-length-3 Inv-loop μ-loop
-same-length-3 c = c .before .loop .inv .0 .room ∙ sym (c .before .before .before .before .before .before .before .pre .1 .0 .room)
+same-length-3 c = search needs
 
 same-length-4 : tie.Need-same-length-4 Inv-loop μ-loop
-same-length-4 c = c .before .loop .inv .0 .flags ∙ sym (c .before .before .before .before .before .before .before .pre .1 .0 .flags)
+same-length-4 c = search needs
 
 returns-2 : tie.Need-returns-2 Inv-loop μ-loop
 returns-2 c = ((λ cs h. testing-ends (c .before .loop .inv .1 cs h) (c .loop-test .left)), c .before .loop .inv .0)

@@ -9,7 +9,8 @@ use Rattle.constraints.specs.Ready.{Ready}
 use Rattle.rules.specs.Case.{Case}
 use Rattle.rules.specs.Tree.{Tree}
 use borrow.Author.Needs.{needs}
-use mathlib.Core.Path.{refl, sym, _∙_}
+use lib.ListN.{length}
+use mathlib.Core.Path.{_≡_, refl, sym, _∙_}
 use native.Mathlib.Omega.{arith}
 use Rattle.constraints.proofs.node.first_broken.Statement.{statement}
 use Rattle.constraints.proofs.node.first_broken.Tie as tie
@@ -18,6 +19,8 @@ abbrev Inv-loop : tie.InvT-loop
 Inv-loop fields header plan-line nodes states work₀ columns₀ built₀ held at₀ n₀ work columns built at n =
     Columns states held columns built
     × ((k : Case) (t : Tree) → Ready k t fields header plan-line nodes states work₀ → Going k t fields header plan-line nodes states work₀ work at n)
+    × (length columns ≡ length columns₀)
+    × (length built ≡ length built₀)
 
 abbrev μ-loop : tie.MeasureT-loop
 μ-loop fields header plan-line nodes states work₀ columns₀ built₀ held at₀ n₀ work columns built at n = header .nodes - n
@@ -36,7 +39,7 @@ module _ (c : tie.At-loop Inv-loop μ-loop) where
 
 -- No column is built yet.
 none-built : (s : tie.Start Inv-loop μ-loop) → Columns (s .args .states .now) (s .args .header .cues + 1) (s .args .columns .now) (s .args .built .now)
-none-built s = columns-start (s .pre .0 .2) (s .args .columns .now) (s .args .built .now) (s .pre .1 .0) (s .pre .1 .1)
+none-built s = columns-start (s .pre .0 .2) (s .args .columns .now) (s .args .built .now) (s .pre .1)
 
 cast-held : tie.Need-cast-held Inv-loop μ-loop
 cast-held c = search needs
@@ -45,7 +48,7 @@ add-held : tie.Need-add-held Inv-loop μ-loop
 add-held c = search needs
 
 loop-holds : tie.Need-loop-holds Inv-loop μ-loop
-loop-holds c = (none-built (c .before .before .before .before .before .before), λ k t r. going-starts r)
+loop-holds c = (none-built (c .before .before .before .before .before .before), λ k t r. going-starts r, refl, refl)
 
 mul-letter : tie.Need-mul-letter Inv-loop μ-loop
 mul-letter c = let i = going-line (going (c .before .before)) (c .if1 .taken) .room in search needs
@@ -81,10 +84,10 @@ same-length : tie.Need-same-length Inv-loop μ-loop
 same-length c = c .before .before .before .before .before .before .before .before .before .node-kept .ensures .1 .0 .same-size ∙ going (c .before .before .before .before .before .before .before .before .before .before .before .before .before .before .before .before .before) .leaves .same-size
 
 same-length-2 : tie.Need-same-length-2 Inv-loop μ-loop
-same-length-2 c = c .before .before .before .before .before .before .before .before .before .node-kept .ensures .1 .1 .room ∙ sym (none-built (start (c .before .before .before .before .before .before .before .before .before .before .before .before .before .before .before .before .before)) .room)
+same-length-2 c = search needs
 
 same-length-3 : tie.Need-same-length-3 Inv-loop μ-loop
-same-length-3 c = c .before .before .before .before .before .before .before .before .before .node-kept .ensures .1 .1 .flags ∙ sym (none-built (start (c .before .before .before .before .before .before .before .before .before .before .before .before .before .before .before .before .before)) .flags)
+same-length-3 c = search needs
 
 returns : tie.Need-returns Inv-loop μ-loop
 returns c =
@@ -122,16 +125,18 @@ loop-again c =
           let g = l .loop .inv .1 k t r in
           going-on g more (line l) (n .last .1 .1 .1 .1 .0) (c .node-size .result) refl (sym (c .before .enum-told .given .1) ∙ n .ensures .0 k t (node-ready g more))
           (n .ensures .1 .0) (c .node-size .ensures),
+      n .kept .1 .1 .1 .1 .1 .0 ∙ l .loop .inv .2,
+      n .kept .1 .1 .1 .1 .1 .1 .0 ∙ l .loop .inv .3,
     )
 
 same-length-4 : tie.Need-same-length-4 Inv-loop μ-loop
 same-length-4 c = going (c .before .before) .leaves .same-size
 
 same-length-5 : tie.Need-same-length-5 Inv-loop μ-loop
-same-length-5 c = c .before .before .loop .inv .0 .room ∙ sym (none-built (start (c .before .before)) .room)
+same-length-5 c = search needs
 
 same-length-6 : tie.Need-same-length-6 Inv-loop μ-loop
-same-length-6 c = c .before .before .loop .inv .0 .flags ∙ sym (none-built (start (c .before .before)) .flags)
+same-length-6 c = search needs
 
 returns-2 : tie.Need-returns-2 Inv-loop μ-loop
 returns-2 c = ((λ k t r. going-ends (c .before .before .loop .inv .1 k t r) (c .if1 .left)), going (c .before .before) .leaves)

@@ -1,0 +1,20 @@
+-- `run_many`: the table is zero. Assumes nothing.
+use Rattle.running.proofs.Front.{all-zero}
+use Rattle.running.proofs.run_many.Statement.{statement}
+use Rattle.running.proofs.run_many.Tie as tie
+use borrow.Author.Needs.{needs}
+
+slice-aggregate-run-with : tie.Need-slice-aggregate-run-with
+slice-aggregate-run-with c = search needs
+
+run-with-requires : tie.Need-run-with-requires
+run-with-requires c κs = let p = c .before .before .before .before .before .pre in (p .0, (p .1 .0, (all-zero 8192, p .1 .1)))
+
+same-length : tie.Need-same-length
+same-length c = search needs
+
+returns : tie.Need-returns
+returns c = search needs
+
+pub run-many-spec : {M : Type 1} → statement M
+run-many-spec = tie.close (tie.spec slice-aggregate-run-with run-with-requires same-length returns)

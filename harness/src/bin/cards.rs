@@ -1,0 +1,148 @@
+//! Runs both plain renderings and, with the feature linked (see compare_check.rs for the command), the library on the worked
+//! cases of document 02's cards. A case is a folder with `call`, `case`, `expect` and perhaps `expect.output`; of a card's
+//! folder those are run that call check, replay or write and hold now.
+//!
+//! cards FOLDER...
+
+use cuecheck::WORDS;
+use harness::lists::{Dirt, Lengths, Lists};
+use harness::plain::{Node, Reply, Written};
+use harness::{fast, plain};
+use std::collections::BTreeMap;
+use std::fs::{read, read_to_string};
+use std::path::{Path, PathBuf};
+
+/// How many cards have landed.
+const LANDED: u32 = 3;
+
+/// The calls of one rendering.
+struct Rendering {
+    name: &'static str,
+    check: fn(&[u8], &mut [u64], &mut [Node], &mut [u32]) -> Reply,
+    replay: fn(&[u8], &mut [u64], &mut [u32]) -> Reply,
+    write: fn(&[u8], &mut [u64], &mut [Node], &mut [u32], &mut [u8]) -> Written,
+}
+
+const RENDERINGS: &[Rendering] = &[
+    Rendering { name: "plain", check: plain::check, replay: plain::replay, write: plain::write },
+    Rendering { name: "fast", check: fast::check, replay: fast::replay, write: fast::write },
+    #[cfg(feature = "linked")]
+    Rendering { name: "linked", check: cuecheck::check, replay: cuecheck::replay, write: cuecheck::write },
+];
+
+/// The answer with states and records, the text put out, and whether all that is left of the lists is zero.
+#[derive(Debug, PartialEq)]
+struct Told {
+    answer: String,
+    output: Vec<u8>,
+    rest_zero: bool,
+}
+
+struct Case {
+    name: String,
+    call: String,
+    text: Vec<u8>,
+    lengths: Lengths,
+    output: usize,
+    due: Told,
+}
+
+fn main() {
+    let mut folders: Vec<PathBuf> = std::env::args_os().skip(1).flat_map(|card| folders_in(Path::new(&card))).collect();
+    folders.sort();
+    let (mut count, mut differing) = (0, 0);
+    for case in folders.iter().filter_map(|folder| Case::of(folder)) {
+        count += 1;
+        for rendering in RENDERINGS {
+            let told = case.told_by(rendering);
+            if told != case.due {
+                differing += 1;
+                println!("{}: {} {told:?}, due {:?}", case.name, rendering.name, case.due);
+            }
+        }
+    }
+    println!("{count} cases, {} renderings, {differing} differences", RENDERINGS.len());
+    std::process::exit(i32::from(differing > 0));
+}
+
+fn folders_in(card: &Path) -> Vec<PathBuf> {
+    let entries = card.read_dir().expect("a folder of cases");
+    entries.map(|entry| entry.expect("an entry").path()).filter(|path| path.is_dir()).collect()
+}
+
+impl Case {
+    /// The case in a folder, if it is of a call that is here, and holds now.
+    fn of(folder: &Path) -> Option<Case> {
+        let call = read_to_string(folder.join("call")).expect("a call");
+        let words: BTreeMap<&str, &str> = call.lines().filter_map(|line| line.split_once(' ')).collect();
+        let (since, until) = words["holds"].split_once('-').expect("from and to");
+        let holds = (since.parse().expect("a card")..=until.parse().expect("a card")).contains(&LANDED);
+        if !holds || !["check", "replay", "write"].contains(&words["call"]) {
+            return None;
+        }
+        let length = |list: &str, asked: usize| words.get(list).map_or(asked, |n| n.parse().expect("a length"));
+        let Lengths { states, nodes, work } = Lengths::EXACT;
+        Some(Case {
+            name: folder.display().to_string(),
+            call: words["call"].to_string(),
+            text: read(folder.join("case")).expect("a case"),
+            lengths: Lengths {
+                states: length("states", states),
+                nodes: length("nodes", nodes),
+                work: length("work", work),
+            },
+            output: length("output", 0),
+            due: Told {
+                answer: read_to_string(folder.join("expect")).expect("what is due"),
+                output: read(folder.join("expect.output")).unwrap_or_default(),
+                rest_zero: true,
+            },
+        })
+    }
+
+    /// What a rendering tells, with lists that come in dirty.
+    fn told_by(&self, rendering: &Rendering) -> Told {
+        let mut lists = Lists::with_output();
+        lists.soil(Dirt::Counting);
+        let (states, nodes, work, output) = lists.lend_all(self.lengths, self.output);
+        // The replay call is lent no records.
+        let nodes = if self.call == "replay" { &mut [] } else { nodes };
+        let written = match &self.call[..] {
+            "check" => without_text((rendering.check)(&self.text, states, nodes, work)),
+            "replay" => without_text((rendering.replay)(&self.text, states, work)),
+            _ => (rendering.write)(&self.text, states, nodes, work, output),
+        };
+        let Written { number, line, item, cues, nodes: count, length } = written;
+        let mut answer = match number {
+            0 if self.call == "write" => format!("Y,{cues},{count},{length}\n"),
+            0 => format!("Y,{cues},{count}\n"),
+            _ => format!("R,{number},{line},{item}\n"),
+        };
+        let rows = if number == 0 { cues as usize + 1 } else { 0 };
+        let (states, behind) = states.split_at(WORDS * rows);
+        let (records, unused) = nodes.split_at(nodes.len().min(count as usize));
+        let (put_out, spare) = output.split_at(length as usize);
+        answer.extend(states.chunks(WORDS).enumerate().map(|(i, row)| listed('S', i, row)));
+        answer.extend(records.iter().enumerate().map(|(i, &node)| listed('T', i, &numbers(node))));
+        let rest_zero = behind.iter().all(|&n| n == 0)
+            && unused.iter().all(|&node| node == Node::default())
+            && work.iter().all(|&n| n == 0)
+            && spare.iter().all(|&byte| byte == 0);
+        Told { answer, output: put_out.to_vec(), rest_zero }
+    }
+}
+
+fn without_text(Reply { number, line, item, cues, nodes }: Reply) -> Written {
+    Written { number, line, item, cues, nodes, length: 0 }
+}
+
+fn numbers(node: Node) -> [u64; 5] {
+    [node.letter, node.label, node.place, node.start, node.end].map(u64::from)
+}
+
+/// A line of `expect`: the zeros at its end are left out.
+fn listed(letter: char, i: usize, numbers: &[u64]) -> String {
+    let used = numbers.iter().rposition(|&n| n != 0).map_or(0, |last| last + 1);
+    let fields: String = numbers[..used].iter().map(|n| format!(",{n}")).collect();
+    format!("{letter},{i}{fields}\n")
+}
