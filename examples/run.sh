@@ -1,19 +1,19 @@
 #!/bin/sh
 # Builds the static library of crate capi, links it with the examples in C and Rust and runs them on a case. At the top of the repository:
 #   sh examples/run.sh [FILE [nodes]]
-# Prints what both print: first the check call's answer, then the tidy text, or the write call's refusal. Fails if they differ. Without FILE the case
-# is examples/panel.case, the panel case with constraints out of order and one repeated.
+# Prints what both print: first the check call's answer, then the tidy text, or the write call's refusal, then two steps. Fails if they differ.
+# Without FILE the case is examples/panel.case, the panel case with constraints out of order and one repeated.
 set -eu
 cd "$(dirname "$0")/.."
 [ $# -gt 0 ] || set -- examples/panel.case
 out=target/examples
 mkdir -p $out
 rt staticlib capi >/dev/null
-for example in check tidy; do
+for example in check tidy step; do
     "${CC:-cc}" -std=c99 -Wall -Wextra -O2 -I include examples/c/$example.c target/staticlib/libcapi.a -o $out/${example}_c
 done
 # A new archive alone does not make cargo link again.
-touch examples/rust/src/main.rs examples/rust/src/bin/tidy.rs
+touch examples/rust/src/main.rs examples/rust/src/bin/*.rs
 RUSTFLAGS="-L native=$PWD/target/staticlib" cargo build --quiet --release --offline --locked \
     --manifest-path examples/rust/Cargo.toml --target-dir $out/rust
 $out/check_c "$@" >$out/c.txt
@@ -21,5 +21,7 @@ $out/rust/release/check "$@" >$out/rust.txt
 # A refused case is told on standard error, with status 1.
 $out/tidy_c "$1" >>$out/c.txt 2>&1 || [ $? -eq 1 ]
 $out/rust/release/tidy "$1" >>$out/rust.txt 2>&1 || [ $? -eq 1 ]
+$out/step_c >>$out/c.txt
+$out/rust/release/step >>$out/rust.txt
 diff $out/c.txt $out/rust.txt
 cat $out/c.txt

@@ -2,7 +2,6 @@
 use libc::STDOUT_FILENO;
 ghost use mathlib.Core.Path.{_≡_};
 ghost use Prim.Native.Nat.{_≤_};
-ghost use lib.ListN.{length, take};
 ghost use Rattle.io.specs.Counts.{Counts};
 
 // The number that a word is: of a longer one the first six digits count.
@@ -28,28 +27,17 @@ pub fn word_at(i: usize, word: &mut [u8]) -> usize
     n
 }
 
-// The number that argument i is; the word is printed.
+// The number that argument i is; the word is printed. Nothing can be promised of what a program is started with.
 pub fn number_at(i: usize) -> usize {
     let mut word = io::buffer();
     let n = word_at(i, &mut word);
     number(&word[..n])
 }
 
-// How many elements of a list are lent: so many, or all.
-pub fn count_states(n: usize, list: &[u64]) -> usize
-    ensures { λ r. ⌜ (r ≤ length (now (list .entry))) × (r ≡ length (take r (now (list .entry)))) ⌝ }
+// How much is lent of a list of so many elements: what is asked, or all.
+pub fn lesser(asked: usize, all: usize) -> usize
+    ensures { λ r. ⌜ r ≤ all ⌝ }
+    ensures { λ r. ⌜ (asked ≤ all → r ≡ asked) × (all ≤ asked → r ≡ all) ⌝ }
 {
-    if n < list.len() { n } else { list.len() }
-}
-
-pub fn count_work(n: usize, list: &[u32]) -> usize
-    ensures { λ r. ⌜ (r ≤ length (now (list .entry))) × (r ≡ length (take r (now (list .entry)))) ⌝ }
-{
-    if n < list.len() { n } else { list.len() }
-}
-
-pub fn count_bytes(n: usize, list: &[u8]) -> usize
-    ensures { λ r. ⌜ (r ≤ length (now (list .entry))) × (r ≡ length (take r (now (list .entry)))) ⌝ }
-{
-    if n < list.len() { n } else { list.len() }
+    if asked < all { asked } else { all }
 }

@@ -2,7 +2,6 @@
 -- proofs/Printing shows that these are exactly the cases whose print reads as the case. Assumes nothing.
 use mathlib.Core.Path.{_≡_}
 use mathlib.Core.Logic.{_≢_}
-use mathlib.Core.List.{List}
 use Prim.Native.Nat.{ℕ, _+_, _^_, _≤_, _<_}
 use lib.ListN.{length}
 use Rattle.rules.specs.declared.Header.{Header}

@@ -112,8 +112,8 @@ fn run_with(text: &[u8], whole: bool, nodes: usize, states: &mut [u64], work: &m
 fn run_text(text: &[u8], whole: bool, states_len: usize, nodes_len: usize, work_len: usize) {
     let mut states = [7u64; MOST_STATES];
     let mut work = [7u32; MOST_WORK];
-    let s = arguments::count_states(states_len, &states);
-    let w = arguments::count_work(work_len, &work);
+    let s = arguments::lesser(states_len, MOST_STATES);
+    let w = arguments::lesser(work_len, MOST_WORK);
     run_with(text, whole, nodes_len, &mut states[..s], &mut work[..w]);
 }
 

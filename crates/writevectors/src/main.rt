@@ -43,7 +43,7 @@ fn print_all(w: Wrote, output: &[u8]) {
     let answer = w.answer;
     let length = w.length;
     print_written(capi::as_reply(answer), length);
-    let n = arguments::count_bytes(length as usize, output);
+    let n = arguments::lesser(length as usize, output.len());
     io::write_all(STDOUT_FILENO, &output[..n]);
 }
 
@@ -62,9 +62,9 @@ fn write_text(
     let mut states = [7u64; MOST_STATES];
     let mut work = [7u32; MOST_WORK];
     let mut output = [7u8; MOST_OUTPUT];
-    let s = arguments::count_states(states_len, &states);
-    let w = arguments::count_work(work_len, &work);
-    let o = arguments::count_bytes(output_len, &output);
+    let s = arguments::lesser(states_len, MOST_STATES);
+    let w = arguments::lesser(work_len, MOST_WORK);
+    let o = arguments::lesser(output_len, MOST_OUTPUT);
     write_with(
         text,
         nodes_len,

@@ -1,6 +1,6 @@
 -- `capi::cuecheck_write` meets its contract: a straight walk of its MIR, by hand, with five calls, as `verdict::check`'s. All that it knows of `write`, `records_of`, `fill`, `clear_work` and `as_written` is that each meets its contract.
 -- states, nodes and output are each passed to one callee, at their own lifetimes, and given up for good. work is lent again as `&mut` to `write`, then as `&` to `fill`, each for a lifetime that the walk makes, and is then passed to `clear_work` for good (verdict's `proofs/Again.antt`).
--- Each call has a lemma for what the callee asks (`goes-..`) and one for what it gives (`..-gives`); those of `fill` and `clear_work` are verdict's (`proofs/Calls.antt`).
+-- Each call has a lemma for what the callee asks (`goes-..`) and one for what it gives (`..-gives`); that of `write` stands in `proofs/WriteCall.antt`, those of `fill` and `clear_work` are verdict's (`proofs/Calls.antt`).
 -- Of what it promises, that the nodes are the records owed is `records-filled`, since `write` finds only what the check accepts; the answers are `write-answers`, and the laws hold of the definitions.
 -- Assumes nothing.
 use mathlib.Core.Path.{_≡_, refl, sym, _∙_, ap, subst}
@@ -19,14 +19,13 @@ use prog.Wp.{Heap, Calls, Loops, WpFn, Tables}
 use ghost.Atoms.{Atoms, sem}
 use contract.Monad.{Fun, fact}
 use contract.Running.{givenOf, tables, tablesOf}
-use types.Kit.{Given, Item, ‵, raw, some, later, given, _⊛_, ⋆, mean, _$_, _∵_, !, qed, by, move, keep, drop, group, use1, use2, use3, split, join, pick, learn, rewrite, fsplit, fjoin, feqL, suffices, check, frame, await, updating, now as at-once, show, done}
+use types.Kit.{Given, Item, ‵, raw, some, later, given, _⊛_, ⋆, mean, _$_, _∵_, !, qed, by, move, keep, drop, group, use1, use2, use3, split, join, pick, learn, rewrite, fsplit, fjoin, suffices, check, frame, await, updating, now as at-once, show, done}
 use types.Run.{look, init, store, forget, stop, hop, fld, from, load, addr, of-opd, and-then, no-more, assigns, land, returns, enter, alloc1, alloc0, params1, pass1, pass0, free1, free0}
 use types.Part.{agg, whole, sub, look-in}
 use types.Tokens.{lft-new, lft-end}
 use sound.WpLaws.{FmC, fmOf, WpFn-mono}
 use denote.RattleType.{owns}
 use denote.Laws.{Is, shows}
-use denote.Plain.{uint-makes}
 use denote.Builtin.{u8, u32, u64, usize}
 use denote.Ref.{RefT}
 use denote.Slice.{sliceTy, sliceVal, MutSlice, ShrSlice, Room, finally, slice-vals, mut-slice-tells, shr-slice-tells, shr-slice-lawful, shr-slice-copy}
@@ -38,20 +37,19 @@ use denote.Triple.Statement.{Contract, Triple}
 use denote.Triple.Call.{calls-at}
 use denote.Triple.Clauses.{ensured, lasts}
 use denote.Triple.Table.{entered, cited}
-use denote.Triple.Walked.{says, Stays, stay-none-slice, gave-slice, walkOf, goes-none-slice, goes-gave-slice, Walks, ends-at, walked, walk-meets}
+use denote.Triple.Walked.{Stays, stay-none-slice, gave-slice, walkOf, goes-none-slice, goes-gave-slice, Walks, ends-at, walked, walk-meets}
 use denote.Exit.{yes}
 use denote.Signature.{plain}
 use Rattle.rules.specs.declared.Node.{Node}
 use Rattle.writer.specs.declared.Wrote.{Wrote}
 use Rattle.capi.specs.declared.Written.{Written}
 use Rattle.rules.specs.Tree.{Tree}
-use Rattle.rules.specs.Verdict.{Lent, Found, checkLists, answerOf, statesAfter, filled, noNode, workAfter, reported}
+use Rattle.rules.specs.Verdict.{Lent, Found, answerOf, filled, noNode, workAfter, reported}
 use Rattle.rules.specs.Demands.{lentBy}
-use Rattle.rules.specs.Writing.{write as writing, outputAfter, lengthAfter, WriteAnswers}
+use Rattle.rules.specs.Writing.{lengthAfter, WriteAnswers}
 use Rattle.rules.proofs.Writing.{writer-laws}
 use Rattle.rules.proofs.Writing.Answers.{write-answers}
 use Rattle.records.specs.Records.{recordAt, upTo, RecordsHeld}
-use Rattle.writer.specs.Writes.{Writes}
 use Rattle.capi.specs.Replies.{writtenReport}
 use Rattle.verdict.proofs.Clauses.{says-3}
 use Rattle.verdict.proofs.Steps.{is-count, is-unit}
@@ -59,12 +57,12 @@ use Rattle.verdict.proofs.Records.{Comes, Fits, records-fit, records-filled}
 use Rattle.verdict.proofs.Calls.{Fill, to-fill, goes-fill, FillGave, fill-gives, Clear, to-clear, goes-clear, ClearGave, clear-gives}
 use Rattle.verdict.proofs.Again.{LentAgain, lends-again, comes-back, LentShared, lends-shared, shared-back}
 use Rattle.capi.proofs.Writes.{write-comes}
+use Rattle.capi.proofs.WriteCall.{Args, lists as listsOf, found as foundOf, wrote as wroteOf, ss′ as statesOf, os′ as outputOf, Write, to-write, goes-write, WriteGave, write-gives}
 use Rattle.rules.proofs.Node as T
 use Rattle.writer.proofs.Wrote as R
 use Rattle.writer.proofs.Wrote.Laws as R′
 use Rattle.capi.proofs.Written as P
 use Rattle.capi.proofs.Written.Laws as P′
-use Rattle.writer.proofs.write as write
 use Rattle.writer.proofs.write.Symbol as write-def
 use Rattle.writer.proofs.write.Symbol.{name as #writer·write}
 use Rattle.writer.proofs.write.Met as write-thm
@@ -95,9 +93,6 @@ workTy = sliceTy (tyRef (named 3) mut (tyInt w32))
 
 module _ {M : Type 1} (𝓤 : URA M) (H : Heap 𝓤) (A : Atoms 𝓤) (mem : Memory → SProp 𝓤) (run : Routine → Fun 𝓤) where
   -- the contracts that the proof cites
-  abbrev Write : Contract 𝓤
-  Write = tripleOf 𝓤 H A write.signature (write.spec 𝓤 H A mem run)
-
   abbrev Count : Contract 𝓤
   Count = tripleOf 𝓤 H A records-of.signature (records-of.spec 𝓤 H A mem run)
 
@@ -128,24 +123,28 @@ module _ {M : Type 1} (𝓤 : URA M) (H : Heap 𝓤) (A : Atoms 𝓤) (W : Given
   abbrev vo : Val
   vo = sliceVal (xo .ptr) (length (xo .now))
 
+  -- what `write` is passed, with work under the name δ
+  abbrev write-args : GName → Args
+  write-args δ = (t, (xs, (xw δ ws, (n, (xo, tt)))))
+
   -- what is found
   abbrev lists : List Lent
-  lists = checkLists (length (xs .now)) n (length ws)
+  lists = listsOf (write-args γ)
 
   abbrev found : Found Tree
-  found = writing lists (length (xo .now)) (t .now)
+  found = foundOf (write-args γ)
 
   comes : Comes (length (xs .now)) n (length ws) (t .now) found
   comes = write-comes (length (xs .now)) n (length ws) (length (xo .now)) (t .now)
 
   abbrev wrote : Wrote
-  wrote = record { answer = answerOf found; length = lengthAfter found }
+  wrote = wroteOf (write-args γ)
 
   abbrev ss′ : List ℕ
-  ss′ = statesAfter (length (xs .now)) found
+  ss′ = statesOf (write-args γ)
 
   abbrev os′ : List ℕ
-  os′ = outputAfter (length (xo .now)) found
+  os′ = outputOf (write-args γ)
 
   abbrev m : ℕ
   m = reported (answerOf found) .nodes
@@ -196,50 +195,9 @@ module _ {M : Type 1} (𝓤 : URA M) (H : Heap 𝓤) (A : Atoms 𝓤) (W : Given
       nothing ! $ move ! (1 ∷ 2 ∷ 3 ∷ 4 ∷ 5 ∷ 0 ∷ []) $ group ! 6 $ frame ! $
       nothing ! $ move ! (5 ∷ 0 ∷ []) $ fjoin ! $ move ! (4 ∷ 0 ∷ []) $ fjoin ! $ move ! (3 ∷ 0 ∷ []) $ fjoin ! $ move ! (2 ∷ 0 ∷ []) $ fjoin ! $ move ! (1 ∷ 0 ∷ []) $ fjoin ! $ done !
 
-  -- ---- `write`
-  abbrev write-args : GName → RefT (List ℕ) × (RefT (List ℕ) × (RefT (List ℕ) × (ℕ × (RefT (List ℕ) × Unit {0}))))
-  write-args δ = (t, (xs, (xw δ ws, (n, (xo, tt)))))
-
-  abbrev write-vals : List Val × (List Val × (List Val × (List Val × (List Val × Unit {0}))))
-  write-vals = (vt ∷ [], (vs ∷ [], (vw ws ∷ [], (vint w64 n ∷ [], (vo ∷ [], tt)))))
-
-  abbrev to-write : Lft → GName → Write 𝓤 H A mem run .Ghost
-  to-write α δ = (((κt, (κs, (α, (κo, tt)))), (qt, (qs, (fullShare, (qo, tt)))), tt, write-args δ, write-vals), tt)
-
-  abbrev WriteAsked : Lft → GName → List (Item 𝓤)
-  WriteAsked α δ = ‵ (flft κt qt) ∷ ‵ (flft κs qs) ∷ ‵ (flft α fullShare) ∷ ‵ (flft κo qo) ∷ ‵ OwnT ∷ ‵ OwnS ∷ ‵ (OwnW α δ ws) ∷ ‵ OwnO ∷ []
-
-  goes-write : (α : Lft) (δ : GName) → n < 2 ^ 64 → ent 𝓤 (⋆ 𝓤 H A (WriteAsked α δ)) (Write 𝓤 H A mem run .pre (to-write α δ))
-  goes-write α δ fits =
-      qed W (WriteAsked α δ) ∵
-      nothing ! $ move ! (8 ∷ 0 ∷ []) $ fjoin ! $ owned ! usize (Is usize) (uint-makes 𝓤 H A W w64) n _ (refl, fits) $ fjoin ! $ move ! (7 ∷ 0 ∷ []) $ fjoin ! $ move ! (6 ∷ 0 ∷ []) $ fjoin ! $ move ! (5 ∷ 0 ∷ []) $ fjoin ! $
-      -- [what the parameters own; the tokens]
-      nothing ! $ move ! (2 ∷ 3 ∷ 4 ∷ 5 ∷ 0 ∷ []) $ group ! 5 $ join ! $ frame ! $ done !
-
-  -- what `write` gives back
-  abbrev WriteGave : Lft → GName → Val → List ℕ → Item 𝓤
-  WriteGave α δ v us = given ((length ss′ ≡ length (xs .now)) × ((length us ≡ length ws) × ((length os′ ≡ length (xo .now)) × RecordsHeld found us)))
-      (‵ (flft κt qt) ⊛ (‵ (flft κs qs) ⊛ (‵ (flft α fullShare) ⊛ (‵ (flft κo qo) ⊛ (‵ (finally u64 (xs .name) ss′) ⊛ (‵ (finally u32 δ us) ⊛ (‵ (finally u8 (xo .name) os′) ⊛ ‵ (R.the-row .own wrote (v ∷ [])))))))))
-
-  -- what its contract says, of what it returns and its last lists
-  abbrev Says : Wrote → Unit {0} × (List ℕ × (List ℕ × (Unit {0} × (List ℕ × Unit {0})))) → Type 0
-  Says r zs = Writes found (length (xs .now)) (length (xo .now)) r (zs .1 .0) (zs .1 .1 .0) (zs .1 .1 .1 .1 .0)
-
-  is-wrote : (r : Wrote) (zs : Unit {0} × (List ℕ × (List ℕ × (Unit {0} × (List ℕ × Unit {0}))))) → Says r zs → r ≡ wrote
-  is-wrote r zs w = λ i. record { answer = w .answer i; length = w .answered i }
-
-  write-gives : (α : Lft) (δ : GName) (v : Val) → ent 𝓤 (Write 𝓤 H A mem run .post (to-write α δ) v) (mean 𝓤 H A (later (some (WriteGave α δ v))))
-  write-gives α δ v =
-      qed W (raw (Write 𝓤 H A mem run .post (to-write α δ) v) ∷ []) ∵ updating ! $
-      use1 W (later (some (λ (r : Wrote). ((‵ (flft κt qt) ⊛ (‵ (flft κs qs) ⊛ (‵ (flft α fullShare) ⊛ (‵ (flft κo qo) ⊛ ‵ ftrue)))) ⊛ ‵ (R.the-row .own r (v ∷ []))) ⊛ raw (ensured 𝓤 H A write.ended (write.clauses 𝓤 H A mem run) (κt, (κs, (α, (κo, tt)))) (write-args δ) tt r)))) (id⊢ 𝓤 _) $ await ! tt $ pick ! (λ r. split ! $ move ! (1 ∷ []) $
-      use1 W (some (λ (zs : Unit {0} × (List ℕ × (List ℕ × (Unit {0} × (List ℕ × Unit {0}))))). ‵ (lasts write.ended (κt, (κs, (α, (κo, tt)))) (write-args δ) zs) ⊛ raw (fact 𝓤 (Says r zs)))) (id⊢ 𝓤 _) $ pick ! (λ zs.
-      split ! $ move ! (1 ∷ []) $ heard ! (Says r zs) (λ w.
-      fsplit ! $ drop ! $ fsplit ! $ fsplit ! $ move ! (1 ∷ []) $ feqL ! (λ ls. move ! (1 ∷ []) $ fsplit ! $ fsplit ! $ move ! (1 ∷ []) $ feqL ! (λ lw. move ! (1 ∷ []) $ fsplit ! $ drop ! $ fsplit ! $ fsplit ! $ move ! (1 ∷ []) $ feqL ! (λ lo.
-      -- [output's last list; true; work's; states's; the tokens and what is answered]
-      move ! (4 ∷ []) $ split ! $ split ! $ move ! (1 ∷ []) $ split ! $ move ! (1 ∷ []) $ split ! $ move ! (1 ∷ []) $ split ! $
-      -- [κo's token; true; α's; κs's; κt's; what is answered; output's last list; true; work's; states's]
-      rewrite ! 5 (λ (h : Wrote). ‵ (R.the-row .own h (v ∷ []))) (is-wrote r zs w) refl $ rewrite ! 6 (λ (l : List ℕ). ‵ (finally u8 (xo .name) l)) (w .put) refl $ rewrite ! 9 (λ (l : List ℕ). ‵ (finally u64 (xs .name) l)) (w .statesHeld) refl $
-      at-once ! $ show ! (λ (us : List ℕ). mean 𝓤 H A (WriteGave α δ v us)) (zs .1 .1 .0) $ check ! (ap length (sym (w .statesHeld)) ∙ ls, (lw, (ap length (sym (w .put)) ∙ lo, w .recordsHeld))) $ keep ! (4 ∷ 3 ∷ 2 ∷ 0 ∷ 9 ∷ 8 ∷ 6 ∷ 5 ∷ []) $ done !))))))
+  -- ---- `write`, with work lent for α under the name δ
+  abbrev write-at : Lft → GName → Write 𝓤 H A mem run .Ghost
+  write-at α δ = to-write 𝓤 H A W mem run κt κs α κo qt qs fullShare qo (write-args δ) vt vs (vw ws) vo
 
   -- ---- `records_of`
   abbrev to-count : Val → Count 𝓤 H A mem run .Ghost
@@ -318,10 +276,10 @@ module _ {M : Type 1} (𝓤 : URA M) (H : Heap 𝓤) (A : Atoms 𝓤) (W : Given
         lft-new ! tt (λ α. move ! (4 ∷ 8 ∷ []) $
         use2 W (later (some (λ (δ : GName). ‵ (OwnW (α ∷ []) δ ws) ⊛ ‵ (LentAgain u32 κw (α ∷ []) qw γ b o δ ws)))) (lends-again u32 κw (α ∷ []) qw γ b o 𝓤 H A W (named 3) (named 3) ws) $ await ! tt $ pick ! (λ δ. split ! $
         -- [work; what is kept of it; α's; text; text; output; nodes; states; κo's; κn's; κs's; κt's; the locals from 12]
-        move ! (11 ∷ 10 ∷ 2 ∷ 8 ∷ 3 ∷ 7 ∷ 0 ∷ 5 ∷ []) $ group ! 8 $ use1 W (raw (Write 𝓤 H A mem run .pre (to-write (α ∷ []) δ))) (goes-write (α ∷ []) δ (rn .0)) $
+        move ! (11 ∷ 10 ∷ 2 ∷ 8 ∷ 3 ∷ 7 ∷ 0 ∷ 5 ∷ []) $ group ! 8 $ use1 W (raw (Write 𝓤 H A mem run .pre (write-at (α ∷ []) δ))) (goes-write 𝓤 H A W mem run κt κs (α ∷ []) κo qt qs fullShare qo (write-args δ) vt vs (vw ws) vo (rn .0)) $
         -- [what `write` asks; what is kept of work; text; nodes; κn's; the locals from 5]
-        calls-at ! fm (Write 𝓤 H A mem run) known-write (to-write (α ∷ []) δ) (and-then ! (load ! (from ! (stop !)) (look ! 45 refl)) (and-then ! (load ! (from ! (stop !)) (look ! 29 refl)) (and-then ! (load ! (from ! (stop !)) (look ! 25 refl)) (and-then ! (load ! (from ! (stop !)) (look ! 35 refl)) (and-then ! (load ! (from ! (stop !)) (look ! 21 refl)) (no-more !)))))) (λ v.
-        use1 W (later (some (WriteGave (α ∷ []) δ v))) (write-gives (α ∷ []) δ v) $ await ! tt $ pick ! (λ us. learn ! (λ lens. split ! $ move ! (1 ∷ []) $ split ! $ move ! (1 ∷ []) $ split ! $ move ! (1 ∷ []) $ split ! $ move ! (1 ∷ []) $ split ! $ move ! (1 ∷ []) $ split ! $ move ! (1 ∷ []) $ split ! $ move ! (1 ∷ []) $
+        calls-at ! fm (Write 𝓤 H A mem run) known-write (write-at (α ∷ []) δ) (and-then ! (load ! (from ! (stop !)) (look ! 45 refl)) (and-then ! (load ! (from ! (stop !)) (look ! 29 refl)) (and-then ! (load ! (from ! (stop !)) (look ! 25 refl)) (and-then ! (load ! (from ! (stop !)) (look ! 35 refl)) (and-then ! (load ! (from ! (stop !)) (look ! 21 refl)) (no-more !)))))) (λ v.
+        use1 W (later (some (WriteGave 𝓤 H A W mem run κt κs (α ∷ []) κo qt qs fullShare qo (write-args δ) vt vs (vw ws) vo v))) (write-gives 𝓤 H A W mem run κt κs (α ∷ []) κo qt qs fullShare qo (write-args δ) vt vs (vw ws) vo v) $ await ! tt $ pick ! (λ us. learn ! (λ lens. split ! $ move ! (1 ∷ []) $ split ! $ move ! (1 ∷ []) $ split ! $ move ! (1 ∷ []) $ split ! $ move ! (1 ∷ []) $ split ! $ move ! (1 ∷ []) $ split ! $ move ! (1 ∷ []) $ split ! $ move ! (1 ∷ []) $
         -- [what is answered; output's last list; work's; states's; κo's; α's; κs's; κt's; what is kept of work; text; nodes; κn's; the locals from 12]
         peeks ! R.the-row (Is R.the-row) (shows 𝓤 H A R.the-row) wrote (v ∷ []) (λ is. land ! (from ! (stop !)) (init ! 40 refl (LL.lawful R.the-type R′.the-laws 𝓤 H A W .typed wrote _ is .0)) $
         move ! (5 ∷ []) $ lft-end ! tt $ move ! (0 ∷ 8 ∷ 3 ∷ []) $

@@ -4,17 +4,17 @@ use mathlib.Core.Logic.{_≢_}
 use mathlib.Core.Path.{_≡_, refl, sym, ap, subst, _∙_}
 use mathlib.Core.Bool.{Bool, true, false, _&&_, not}
 use mathlib.Core.List.{List, [], _∷_, List·Memᴰ·head as here}
-use Prim.Native.Nat.{ℕ, suc, _+_, _*_, _^_, _≤_, _<_}
+use Prim.Native.Nat.{ℕ, suc, _+_, _*_, _≤_, _<_}
 use native.Mathlib.Omega.{arith}
 use lib.Dec.{eqb, leb, ltb}
 use lib.ListN.{length}
 use borrow.Author.Tests.{leb-true, ltb-true, eqb-false, not-true}
 use Rattle.rules.specs.declared.Header.{Header}
 use Rattle.rules.specs.declared.Answer.the-variants.{Unreadable}
-use Rattle.rules.specs.State.{State, Action, wordCount, propositionMost, noPropositions, insertAll}
+use Rattle.rules.specs.State.{wordCount, propositionMost, noPropositions, insertAll}
 use Rattle.rules.specs.Table.{Value, header, initial, action, method, constraint, plan, node, table, roleNumber, isCompound, inRange}
 use Rattle.rules.specs.Result.{Result, found, refused, _>>_}
-use Rattle.rules.specs.Case.{Constraint, O, B, F, W, Method, NodeLine, D, E, L, Case, scalarAt, membersAt, setAt, headerOf, initialOf, actionOf, constraintOf, asConstraint, planOf, nodeOf, asNode, oneLine, many, oneMethod, noSurplus, readBody, noHeader, readFrom, readCase}
+use Rattle.rules.specs.Case.{Constraint, Case, scalarAt, membersAt, setAt, headerOf, initialOf, actionOf, constraintOf, asConstraint, planOf, nodeOf, asNode, oneLine, many, oneMethod, noSurplus, readBody, noHeader, readFrom, readCase}
 use Rattle.rules.specs.Fields.{propositionsOf}
 pub use Rattle.rules.specs.Ranges.{GoodHeader, GoodConstraint, GoodMethod, GoodNode, IsSet, GoodAction, Sound}
 use Rattle.rules.proofs.Members.{propositions-fit}

@@ -1,6 +1,6 @@
 -- `take_cue`: the step with the action's sets is the action's. Assumes nothing.
 use Rattle.rows.proofs.Written.{stretch-ends, part-at}
-use Rattle.rules.specs.State.{wordCount, step}
+use Rattle.rules.specs.State.{step}
 use Rattle.running.proofs.take_cue.Statement.{statement}
 use Rattle.running.proofs.take_cue.Tie as tie
 use Rattle.running.specs.Sets.{setCount, actionIn}

@@ -1,5 +1,5 @@
 -- `decode`: the rows below i have the sets of the line, and the others are zero (Filling). Assumes nothing.
-use Prim.Native.Nat.{ℕ, _+_, _-_, _*_, _≤_, _<_}
+use Prim.Native.Nat.{ℕ, _+_, _-_, _*_, _≤_}
 use Rattle.rows.proofs.Filling.{Filling, filling-none, filling-blank, filling-next}
 use Rattle.rows.proofs.Written.{stretch-ends}
 use Rattle.rules.specs.State.{wordCount, insertAll}

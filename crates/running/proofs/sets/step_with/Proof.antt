@@ -6,7 +6,7 @@ use Rattle.running.proofs.sets.step_with.Statement.{statement}
 use Rattle.running.proofs.sets.step_with.Tie as tie
 use Rattle.running.specs.Sets.{actionIn}
 use Rattle.state.specs.Words.{widenedAction}
-use Prim.Native.Nat.{ℕ, _+_, _-_, _*_}
+use Prim.Native.Nat.{ℕ, _+_, _-_}
 use borrow.Author.Needs.{needs}
 use lib.ListN.{length, take, drop}
 use mathlib.Core.List.{List, _++_}

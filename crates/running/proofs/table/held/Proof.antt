@@ -4,7 +4,6 @@ use Rattle.running.proofs.table.held.Tie as tie
 use Rattle.running.specs.Sets.{setCount}
 use Rattle.rules.specs.State.{wordCount}
 use Prim.Native.Nat.{ℕ, _*_, _/_, _≤_}
-use borrow.Author.Needs.{needs}
 use native.Mathlib.Nat.{le-trans, le-of-eq, mul-comm, mul-le-mul-left, div-mul-le-self}
 use native.Mathlib.Omega.{arith}
 
