@@ -60,6 +60,8 @@ pub fn as_reply(answer: Answer) -> Reply
         Answer::AfterBroken { line, constraint } => refusal(12, line, constraint),
         Answer::BetweenBroken { line, constraint } => refusal(13, line, constraint),
         Answer::ShortOutput { needed } => refusal(14, 0, needed),
+        Answer::TooManyChoices { empties } => refusal(15, 0, empties),
+        Answer::NoChoice { tried } => refusal(16, 0, tried),
     }
 }
 

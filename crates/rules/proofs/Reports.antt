@@ -6,7 +6,7 @@ use mathlib.Core.List.{List, [], _∷_}
 use Prim.Native.Nat.{ℕ}
 use lib.Dec.{eqb}
 use Rattle.rules.specs.declared.Answer.{Answer}
-use Rattle.rules.specs.declared.Answer.the-variants.{Accepted, ShortList, LongText, Unreadable, OutOfRange, Inapplicable, WrongNode, TooDeep, WrongClaim, Unclaimed, OrderBroken, BeforeBroken, AfterBroken, BetweenBroken, ShortOutput}
+use Rattle.rules.specs.declared.Answer.the-variants.{Accepted, ShortList, LongText, Unreadable, OutOfRange, Inapplicable, WrongNode, TooDeep, WrongClaim, Unclaimed, OrderBroken, BeforeBroken, AfterBroken, BetweenBroken, ShortOutput, TooManyChoices, NoChoice}
 use Rattle.rules.specs.Verdict.{Report, reported}
 
 -- "No.", and the answer that has it.
@@ -27,6 +27,8 @@ numbers r =
     ∷ (12, AfterBroken (r .line) (r .item))
     ∷ (13, BetweenBroken (r .line) (r .item))
     ∷ (14, ShortOutput (r .item))
+    ∷ (15, TooManyChoices (r .item))
+    ∷ (16, NoChoice (r .item))
     ∷ []
 
 abbrev numbered : ℕ → List (ℕ × Answer) → Answer
@@ -53,6 +55,8 @@ answered-reported (BeforeBroken l i) = refl
 answered-reported (AfterBroken l i) = refl
 answered-reported (BetweenBroken l i) = refl
 answered-reported (ShortOutput i) = refl
+answered-reported (TooManyChoices i) = refl
+answered-reported (NoChoice i) = refl
 
 pub reported-one : (a b : Answer) → reported a ≡ reported b → a ≡ b
 reported-one a b e = sym (answered-reported a) ∙ ap answered e ∙ answered-reported b

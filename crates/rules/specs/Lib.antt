@@ -21,6 +21,7 @@ pub mod Rewriting
 pub mod Demands
 -- The calls that the cards add, each in a file of its own.
 pub mod Writing
+pub mod Gaps
 -- The program's line, and 01's ten panel cases.
 pub mod Line
 pub mod Panel

@@ -7,7 +7,7 @@ use Prim.Native.Nat.{ℕ, _+_, _-_, _*_, _/_, _%_, _<_}
 use lib.Dec.{eqb, ltb}
 use lib.ListN.{length, getD, replicate}
 use Rattle.rules.specs.declared.Answer.{Answer}
-use Rattle.rules.specs.declared.Answer.the-variants.{Accepted, ShortList, LongText, Unreadable, OutOfRange, Inapplicable, WrongNode, TooDeep, WrongClaim, Unclaimed, OrderBroken, BeforeBroken, AfterBroken, BetweenBroken, ShortOutput}
+use Rattle.rules.specs.declared.Answer.the-variants.{Accepted, ShortList, LongText, Unreadable, OutOfRange, Inapplicable, WrongNode, TooDeep, WrongClaim, Unclaimed, OrderBroken, BeforeBroken, AfterBroken, BetweenBroken, ShortOutput, TooManyChoices, NoChoice}
 use Rattle.rules.specs.declared.Node.{Node}
 use Rattle.rules.specs.State.{State, wordCount, bit, member, states, stateAt, firstStop}
 use Rattle.rules.specs.Index.{Span}
@@ -46,6 +46,9 @@ reported (AfterBroken line constraint) = refusal 12 line constraint
 reported (BetweenBroken line constraint) = refusal 13 line constraint
 -- "14, output shorter than needed, checked last, line 0, item the bytes needed" (02, Card 2)
 reported (ShortOutput needed) = refusal 14 0 needed
+-- "15, that power is over 1,000,000 [..] item e; 16, none, given last, item the number tried; both with line 0" (02, Card 4)
+reported (TooManyChoices empties) = refusal 15 0 empties
+reported (NoChoice tried) = refusal 16 0 tried
 
 -- ---- Row by row
 

@@ -41,6 +41,8 @@ pub enum Answer {
     AfterBroken { line: u32, constraint: u32 },
     BetweenBroken { line: u32, constraint: u32 },
     ShortOutput { needed: u32 },
+    TooManyChoices { empties: u32 },
+    NoChoice { tried: u32 },
 }
 
 // What a condition asks of a proposition in a state: that it be true, or that it be false (02, Card 1).
