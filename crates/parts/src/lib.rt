@@ -6,3 +6,7 @@ pub use spans::span_at;
 pub use spans::subtask_nodes;
 pub use tests::is_either;
 pub use tests::keeps;
+pub use tests::keeps_after;
+pub use tests::keeps_before;
+pub use tests::keeps_between;
+pub use tests::sign_of;

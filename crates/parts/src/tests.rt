@@ -19,7 +19,7 @@ use index::Span;
 use rules::Sign;
 
 // The sign of a condition's letter: "b, f and w [..] ask that the proposition be false".
-fn sign_of(letter: u8) -> Sign
+pub fn sign_of(letter: u8) -> Sign
     ensures { λ r. ⌜ r ≡ signOf letter ⌝ }
 {
     if letter < b'a' {
@@ -38,7 +38,7 @@ pub fn is_either(letter: u8, large: u8) -> bool
 }
 
 // "before(p, U): p is in state c(U) - 1."
-fn keeps_before(states: &[u64], sign: Sign, p: u32, u: Span) -> bool
+pub fn keeps_before(states: &[u64], sign: Sign, p: u32, u: Span) -> bool
     requires { ⌜ 1 ≤ c (spanOf u) ⌝ }
     requires { ⌜ wordCount * c (spanOf u) ≤ length (now states) ⌝ }
     ensures { λ r. ⌜ r ≡ inRow (now (states .entry)) sign p (c (spanOf u) - 1) ⌝ }
@@ -47,7 +47,7 @@ fn keeps_before(states: &[u64], sign: Sign, p: u32, u: Span) -> bool
 }
 
 // "after(p, U): p is in state f(U)."
-fn keeps_after(states: &[u64], sign: Sign, p: u32, u: Span) -> bool
+pub fn keeps_after(states: &[u64], sign: Sign, p: u32, u: Span) -> bool
     requires { ⌜ wordCount * f (spanOf u) + wordCount ≤ length (now states) ⌝ }
     ensures { λ r. ⌜ r ≡ inRow (now (states .entry)) sign p (f (spanOf u)) ⌝ }
 {
@@ -55,7 +55,7 @@ fn keeps_after(states: &[u64], sign: Sign, p: u32, u: Span) -> bool
 }
 
 // "between(U, p, V): p is in each state l with f(U) ≤ l < c(V); no such l, then it holds." Over the first n states, by their columns.
-fn keeps_between(
+pub fn keeps_between(
     columns: &mut [u64],
     built: &mut [u64],
     states: &[u64],
