@@ -1,0 +1,2 @@
+-- The laws of the find-the-gaps call (02, Card 4).
+pub mod Trees
