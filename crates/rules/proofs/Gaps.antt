@@ -2,3 +2,4 @@
 pub mod Trees
 pub mod Texts
 pub mod Fails
+pub mod Lengths
