@@ -3,3 +3,4 @@ pub mod Trees
 pub mod Texts
 pub mod Fails
 pub mod Lengths
+pub mod Order
