@@ -1,13 +1,13 @@
 -- What makes the check refuse the text with other gaps: it is too long; or a constraint is broken in the tree with those gaps, which is the
 -- only tree that its check could find. Assumes nothing.
 use mathlib.Core.Path.{_≡_, refl, sym, ap, _∙_, subst}
-use mathlib.Core.Bool.{true, false, false≢true}
+use mathlib.Core.Bool.{false, false≢true}
 use mathlib.Core.List.{List, List·Memᴰ as Mem}
 use Prim.Native.Nat.{ℕ, _≤_, _<_}
 use native.Mathlib.Omega.{arith}
 use lib.ListN.{length}
 use Rattle.rules.specs.State.{State}
-use Rattle.rules.specs.Result.{Result, found}
+use Rattle.rules.specs.Result.{found}
 use Rattle.rules.specs.Case.{Constraint, Case, readCase}
 use Rattle.rules.specs.Tree.{Tree, leaf, empty, task, preorder, mayClaim, walkTree}
 use Rattle.rules.specs.Constraint.{holdsIn, keeps, constraintsOf, partsOf}

@@ -12,7 +12,7 @@ use Rattle.rules.specs.Text.{decimalIn, decimal}
 use Rattle.rules.specs.Table.{table, rowOf}
 use Rattle.rules.specs.Case.{NodeLine, D, E, L, Case, Valued}
 use Rattle.rules.specs.Fields.{lineFields, headerLine, initialLine, actionLine, methodLines, cuesLine, nodeLine, linesOf}
-use Rattle.rules.specs.Print.{numbersText, lineText, linesText, printed}
+use Rattle.rules.specs.Print.{lineText, linesText, printed}
 use Rattle.rules.specs.Gaps.{emptyCount, withGaps, caseWith, textWith, gapsOf, ChoiceOf}
 use Rattle.rules.proofs.Gaps.Texts.{gaps-later}
 
