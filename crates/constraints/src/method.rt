@@ -28,12 +28,12 @@ pub enum Kept {
 }
 
 // A constraint's line: its letter, its numbers, and the place after it.
-struct Line {
-    letter: u8,
-    first: u32,
-    second: u32,
-    third: u32,
-    next: usize,
+pub struct Line {
+    pub letter: u8,
+    pub first: u32,
+    pub second: u32,
+    pub third: u32,
+    pub next: usize,
 }
 
 // "first broken O, B, F, W": 10, 11, 12, 13; a small letter's as its large one's.
@@ -66,7 +66,7 @@ fn broken(letter: u8, line: u32, number: u32) -> Answer
 
 // The line of a constraint: its letter, its numbers, and where the line after it stands. Only W and w have a third number, and no field need
 // follow the numbers of the others.
-fn line_at(fields: &[u32], at: usize) -> Line
+pub fn line_at(fields: &[u32], at: usize) -> Line
     requires { ⌜ ((d : Constraint) × (ds : List Constraint) × Stands (now fields) at (linesFields (map constraintLine (d ∷ ds)))) ⌝ }
     ensures { λ r. ⌜ ((d : Constraint) (ds : List Constraint) → Stands (now (fields .entry)) at (linesFields (map constraintLine (d ∷ ds))) → Says (now (fields .entry)) r d ds) ⌝ }
 {

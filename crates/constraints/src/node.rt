@@ -22,7 +22,7 @@ const D: u32 = b'D' as u32;
 const E: u32 = b'E' as u32;
 
 // Whether a node line's letter names a method: "D,m (method m, not empty); E,m,g (empty method m in gap g, 0 to k)".
-fn names_method(letter: u32) -> bool
+pub fn names_method(letter: u32) -> bool
     ensures { λ r. ⌜ r ≡ namesMethod letter ⌝ }
 {
     if letter == D { true } else { letter == E }
@@ -37,7 +37,7 @@ struct Named {
 }
 
 // Where the line of a method stands among the fields.
-fn method_place(directory: &[u32], method: u32) -> u32
+pub fn method_place(directory: &[u32], method: u32) -> u32
     requires { ⌜ methodsFrom + method < length (now directory) ⌝ }
     ensures { λ r. ⌜ r ≡ getD (now (directory .entry)) (methodsFrom + method) 0 ⌝ }
 {

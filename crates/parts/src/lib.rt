@@ -2,6 +2,7 @@
 mod spans;
 mod tests;
 
+pub use spans::after_at;
 pub use spans::span_at;
 pub use spans::subtask_nodes;
 pub use tests::is_either;

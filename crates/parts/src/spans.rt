@@ -27,7 +27,7 @@ pub fn span_at(work: &[u32], n: u32) -> Span
 }
 
 // The node after the subtree of node n.
-fn after_at(work: &[u32], n: u32) -> u32
+pub fn after_at(work: &[u32], n: u32) -> u32
     requires { ⌜ RowInside (now work) n ⌝ }
     ensures { λ r. ⌜ r ≡ nodeAfter (now (work .entry)) n ⌝ }
 {
