@@ -41,9 +41,9 @@ module _ (passing : List ℕ → Bool) (k : ℕ) where
   skips-on c d f x y = record {
     skipped = x .skipped ++ y .skipped;
     split =
-      x .split
-      ∙ ap (λ (l : List (List ℕ)). x .skipped ++ l) (y .split)
-      ∙ sym (append-assoc (x .skipped) (y .skipped) (onFrom k f));
+        x .split
+        ∙ ap (λ (l : List (List ℕ)). x .skipped ++ l) (y .split)
+        ∙ sym (append-assoc (x .skipped) (y .skipped) (onFrom k f));
     fail = fails-append passing (x .skipped) (y .skipped) (x .fail) (y .fail);
     same-length = y .same-length ∙ x .same-length;
     within = y .within;

@@ -60,13 +60,15 @@ place-next k i n c h e =
     let b : n * suc k ≡ place k (take i c) * suc k = ap (λ (m : ℕ). m * suc k) e in
     omega (arith, mul-suc n k, ap (λ (m : ℕ). place k (take m c)) (add-one i))
 
-pub place-small : (k i : ℕ) (c : List ℕ) → Within k c → power k (length c) ≤ 1000000 → i < length c → place k (take (i + 1) c) < 1000000
-place-small k i c w h l =
-    let n : length (take (i + 1) c) ≡ i + 1 = length-take-le (i + 1) c (omega arith) in
+pub place-fits : (k i n : ℕ) (c : List ℕ) → Within k c → power k (length c) ≤ 1000000 → i < length c → n ≡ place k (take i c)
+    → n * k + n + getD c i 0 < 1000000
+place-fits k i n c w h l e =
+    let m : length (take (i + 1) c) ≡ i + 1 = length-take-le (i + 1) c (omega arith) in
     omega (
       arith,
+      place-next k i n c l e,
       place-below k (take (i + 1) c) (within-take k (i + 1) c w),
-      ap (power k) n,
+      ap (power k) m,
       power-mono k (i + 1) (length c) (omega arith),
     )
 
@@ -81,24 +83,27 @@ zeroed-start d from =
     let z : from - from ≡ 0 = omega arith in
     rw (z, append-nil (take from d)) (sym (take-append-drop from d))
 
+set-past : (p d : List ℕ) (i : ℕ) → length p ≡ i → i < length d → set (p ++ drop i d) i 0 ≡ (p ++ (0 ∷ [])) ++ drop (i + 1) d
+set-past p d i n h =
+    ap (λ (l : List ℕ). set (p ++ l) i 0) (drop-cons d i 0 h)
+    ∙ set-at p (getD d i 0) (drop (suc i) d) 0 i n
+    ∙ sym (append-assoc p (0 ∷ []) (drop (suc i) d))
+    ∙ ap (λ (m : ℕ). (p ++ (0 ∷ [])) ++ drop m d) (sym (add-one i))
+
+zeros-more : (p : List ℕ) (n : ℕ) → (p ++ replicate n 0) ++ (0 ∷ []) ≡ p ++ replicate (n + 1) 0
+zeros-more p n = append-assoc p (replicate n 0) (0 ∷ []) ∙ ap (λ (l : List ℕ). p ++ l) (replicate-append-replicate n 1 0)
+
 pub zeroed-next : (d : List ℕ) (from i : ℕ) → from ≤ i → i < length d → set (zeroed d from i) i 0 ≡ zeroed d from (i + 1)
 zeroed-next d from i f h =
-    let p = take from d ++ replicate (i - from) 0 in
-    let n : length p ≡ i = omega (
+    let n : length (take from d ++ replicate (i - from) 0) ≡ i = omega (
       arith,
       length-append (take from d) (replicate (i - from) 0),
       length-take-le from d (omega arith),
       length-replicate {A = ℕ} (i - from) 0,
     ) in
     let s : i - from + 1 ≡ i + 1 - from = omega arith in
-    let more : replicate {A = ℕ} (i - from) 0 ++ (0 ∷ []) ≡ replicate (i + 1 - from) 0 =
-    replicate-append-replicate (i - from) 1 0 ∙ ap (λ (m : ℕ). replicate m 0) s in
-    ap (λ (l : List ℕ). set (p ++ l) i 0) (drop-cons d i 0 h)
-    ∙ set-at p (getD d i 0) (drop (suc i) d) 0 i n
-    ∙ sym (append-assoc p (0 ∷ []) (drop (suc i) d))
-    ∙ ap (λ (l : List ℕ). l ++ drop (suc i) d)
-    (append-assoc (take from d) (replicate (i - from) 0) (0 ∷ []) ∙ ap (λ (l : List ℕ). take from d ++ l) more)
-    ∙ ap (λ (m : ℕ). (take from d ++ replicate (i + 1 - from) 0) ++ drop m d) (sym (add-one i))
+    set-past (take from d ++ replicate (i - from) 0) d i n h
+    ∙ ap (λ (l : List ℕ). l ++ drop (i + 1) d) (zeros-more (take from d) (i - from) ∙ ap (λ (m : ℕ). take from d ++ replicate m 0) s)
 
 pub zeroed-all : (d : List ℕ) (from i : ℕ) → i ≡ length d → zeroed d from i ≡ take from d ++ replicate (length d - from) 0
 zeroed-all d from i h =
