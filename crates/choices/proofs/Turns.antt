@@ -6,7 +6,8 @@ use native.Mathlib.Omega.{arith}
 use native.Mathlib.Nat.{pow-suc, pow-le-pow-right, min-eq-left, min-eq-right, mul-assoc, add-mul, zero-mul, mul-one, mul-suc, mul-le-mul}
 use native.Mathlib.Numerals.{add-one}
 use borrow.Author.Tests.{lt-ltb, le-ltb}
-use lib.ListN.{length, take, drop, set, getD, replicate, length-replicate, replicate-append-replicate, length-append, length-set, take-append-drop, drop-of-length-le}
+use lib.ListN.{length, take, drop, set, getD, replicate, length-append, length-set, length-replicate}
+use lib.ListN.{replicate-append-replicate, take-append-drop, drop-of-length-le}
 use lib.Seq.{length-take-le, take-suc, drop-cons, set-at}
 use Rattle.rules.specs.Gaps.{power, Within}
 use Rattle.choices.specs.Searching.{place, next, carried, nextOf}
