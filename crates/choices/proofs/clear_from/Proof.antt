@@ -37,7 +37,7 @@ loop-again c =
     let h : l .i < length (a .list .now) = omega arith in (
       omega arith,
       omega arith,
-      length-set (l .list) (l .i) 0 ∙ l .inv .2,
+      simp length-set (l .inv .2),
       ap (λ (x : List ℕ). set x (l .i) 0) (l .inv .3) ∙ zeroed-next (a .list .now) (a .from) (l .i) (l .inv .0) h,
     )
 
