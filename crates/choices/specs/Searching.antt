@@ -54,7 +54,7 @@ abbrev pub AllFail : (List ℕ → Bool) → List (List ℕ) → Type 0
 AllFail passing [] = Unit {0}
 AllFail passing (c ∷ cs) = (passing c ≡ false) × AllFail passing cs
 
--- From c on to d: the choices between, c with them, fail.
+-- From c on to d, which may be c: the choices from c on, ahead of d, fail.
 pub record Skips (passing : List ℕ → Bool) (k : ℕ) (c d : List ℕ) : Type 0 where
   pub skipped : List (List ℕ)
   pub split : onFrom k c ≡ skipped ++ onFrom k d
