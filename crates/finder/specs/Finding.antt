@@ -11,7 +11,7 @@ use Rattle.rules.specs.Case.{Case, readCase}
 use Rattle.rules.specs.Fields.{fieldsOf}
 use Rattle.rules.specs.Print.{printed}
 use Rattle.rules.specs.Tree.{Tree}
-use Rattle.rules.specs.Verdict.{Found, stateNeed, workNeed, answerOf, statesAfter}
+use Rattle.rules.specs.Verdict.{Found, textMost, answerOf, statesAfter}
 use Rattle.rules.specs.Gaps.{emptyCount, choices, ChoiceOf, textWith, gapsOf, choiceCount, fewChoices, firstAccepted, triedAfter}
 use Rattle.rules.proofs.Judgement.Rows.{fromText, fromTree}
 use Rattle.rules.proofs.Gaps.Lengths.{surplus}
@@ -41,8 +41,11 @@ passing k gs = isFound (checkedWith k gs)
 abbrev pub fromChoices : ℕ → Case → Found Tree
 fromChoices number k = firstAccepted (checkedWith k) (NoChoice number) (choices (k .head .cues) (emptyCount (k .nodes)))
 
+abbrev pub fromCount : ℕ → Case → Found Tree
+fromCount number k = fewChoices k >> fromChoices number k
+
 abbrev pub fromGaps : ℕ → Case → Tree → Found Tree
-fromGaps number k t = fewChoices k >> fromChoices number k
+fromGaps number k t = fromCount number k
 
 -- What the call answers, and leaves in a state list of a size and in the work space: the records of the tree found as columns. The number tried
 -- lies within its limits.
@@ -58,6 +61,10 @@ pub record Finds (f : ℕ → Found Tree) (limited : ℕ → Type 0) (size : ℕ
 abbrev pub Tried : Case → ℕ → Type 0
 Tried k n = (1 ≤ n) × (n ≤ choiceCount k)
 
+-- The same of the case that a text reads as, if it reads as one.
+abbrev pub LimitedBy : List ℕ → ℕ → Type 0
+LimitedBy text n = (k : Case) → readCase text ≡ found k → Tried k n
+
 -- The fields are those of a case that some text reads as, its node lines from `nodes` on and last.
 pub record Printable (k : Case) (fields : List ℕ) (o : Opened) : Type 0 where
   pub text : List ℕ
@@ -69,6 +76,10 @@ pub record Printable (k : Case) (fields : List ℕ) (o : Opened) : Type 0 where
 -- The length of the text of a case without the digits of its gaps past their first ones.
 abbrev pub BaseOf : Case → ℕ → Type 0
 BaseOf k base = base + surplus (gapsOf (k .nodes)) ≡ length (printed k)
+
+-- So many digits past the gaps' first ones have room: with more the text is too long.
+abbrev pub SpareOf : Case → ℕ → Type 0
+SpareOf k spare = (gs : List ℕ) → ChoiceOf k gs → spare < surplus gs → textMost < length (textWith gs k)
 
 -- What one turn of the search leaves: the first choice from c on that nothing is known against was tried, and its check accepted it; or refused it,
 -- and the state list is zero; or none from c on passes.
