@@ -1,11 +1,13 @@
 -- The ten panel cases (01, "Panel cases"): text and answer of each, in one table under one lemma; and beside them cases of Cards 1
--- and 2 of 02.
+-- to 4 of 02.
 -- Assumes nothing.
 use mathlib.Core.Path.{_≡_, refl}
+use mathlib.Core.Bool.{true, false}
 use mathlib.Core.List.{List, [], _∷_, _++_, map, flatten}
 use Prim.Native.Nat.{ℕ}
 use Prim.Native.Char.{code}
 use Prim.Native.String.{String}
+use lib.Dec.{ltb}
 use Rattle.rules.specs.State as St
 use Rattle.rules.specs.Index as Ix
 use Rattle.rules.specs.Text as Tx
@@ -18,6 +20,7 @@ use Rattle.rules.specs.Demands as De
 use Rattle.rules.specs.Fields as Fi
 use Rattle.rules.specs.Print as Pr
 use Rattle.rules.specs.Writing as Wr
+use Rattle.rules.specs.Gaps as Ga
 use Rattle.rules.specs.Line as Li
 use Rattle.rules.specs.Index.{Span}
 use Rattle.rules.specs.Tree.{Tree, preorder, span}
@@ -25,6 +28,7 @@ use Rattle.rules.specs.Result.{found as seen, refused}
 use Rattle.rules.specs.Verdict.{Found, stateNeed, nodeNeed, workNeed, check, checkLists, answerOf}
 use Rattle.rules.specs.Demands.{asAsked}
 use Rattle.rules.specs.Writing.{written, write}
+use Rattle.rules.specs.Gaps.{power, gapsOf, choiceMost, findGaps}
 use Rattle.rules.specs.Line.{printedAnswer}
 
 -- The bytes of a text of characters below 128.
@@ -150,6 +154,48 @@ wideTable =
     ∷ panel "N,513,3,2,3,3,2,4" "I,1,0" "P,1,2" ("D,0" ∷ "E,2,0" ∷ "L,1,1" ∷ "L,2,2" ∷ []) "R,4,1,2"
     ∷ []
 
+-- Card 4. A text, the number of choices tried, the answer, and the gaps that are found.
+pub record Sought : Type 0 where
+  pub lines : List String
+  pub tried : ℕ
+  pub answer : String
+  pub gaps : List ℕ
+
+abbrev seeks : List String → ℕ → String → List ℕ → Sought
+seeks lines tried answer gaps = record { lines = lines; tried = tried; answer = answer; gaps = gaps }
+
+-- Panel case a or one like it, with a gap claimed for "in km/h".
+abbrev panelAt : String → String → String → List String
+panelAt initial load gap =
+    "N,3,3,2,3,3,2,4" ∷ initial ∷ "A,0,1,0,1,0,0" ∷ load ∷ "A,1,1,0,1,2,1,1" ∷ "M,3,3,4,1,2,3" ∷ "O,0,2" ∷ "O,1,2" ∷ "W,1,0,4" ∷ "M,4,1,0,0" ∷ "M,4,0,1" ∷ "B,0,0"
+    ∷ "P,1,2" ∷ "D,0" ∷ gap ∷ "L,1,1" ∷ "L,2,2" ∷ []
+
+-- Two empty tasks, of which the first may sit in gap 1 or 2 only.
+abbrev twoEmpty : List String
+twoEmpty =
+    "N,2,1,2,2,1,2,5" ∷ "I,0" ∷ "A,0,0,1,1,0" ∷ "M,1,4,2,2,0,0,1" ∷ "B,1,1" ∷ "M,2,0,0" ∷ "P,0,0" ∷ "D,0" ∷ "E,1,0" ∷ "E,1,0" ∷ "L,0,1"
+    ∷ "L,0,2" ∷ []
+
+-- Nine cues and seven empty tasks: 10 to the power 7.
+abbrev sevenEmpty : List String
+sevenEmpty =
+    "N,1,1,3,2,1,9,17" ∷ "I,1,0" ∷ "A,0,0,0,0" ∷ "M,2,0,0" ∷ "M,1,16,0,0,0,0,0,0,0,0,0,2,2,2,2,2,2,2,1" ∷ "b,0,0" ∷ "P,0,0,0,0,0,0,0,0,0" ∷ "D,1" ∷ "L,0,1" ∷ "L,0,2"
+    ∷ "L,0,3" ∷ "L,0,4" ∷ "L,0,5" ∷ "L,0,6" ∷ "L,0,7" ∷ "L,0,8" ∷ "L,0,9" ∷ "E,0,0" ∷ "E,0,0" ∷ "E,0,0" ∷ "E,0,0" ∷ "E,0,0" ∷ "E,0,0" ∷ "E,0,0" ∷ []
+
+-- The claimed gap is ignored; the second choice; none; the first node slowest; with no cue one choice; 15 before any constraint; a gap that is
+-- out of range.
+abbrev pub soughtTable : List Sought
+soughtTable =
+    seeks (panelAt "I,1,0" "A,0,0,1,1,0" "E,2,0") 1 "Y,2,4" (0 ∷ [])
+    ∷ seeks (panelAt "I,1,0" "A,0,0,1,1,0" "E,2,2") 1 "Y,2,4" (0 ∷ [])
+    ∷ seeks (panelAt "I,0" "A,0,0,2,0,1,0" "E,2,0") 2 "Y,2,4" (1 ∷ [])
+    ∷ seeks (panelAt "I,0" "A,0,0,1,1,0" "E,2,0") 3 "R,16,0,3" []
+    ∷ seeks twoEmpty 4 "Y,2,5" (1 ∷ 0 ∷ [])
+    ∷ seeks ("N,0,0,2,2,0,0,4" ∷ "I,0" ∷ "M,0,3,1,1,1,1" ∷ "O,0,2" ∷ "M,1,0,0" ∷ "P" ∷ "D,0" ∷ "E,1,0" ∷ "E,1,0" ∷ "E,1,0" ∷ []) 1 "Y,0,4" (0 ∷ 0 ∷ 0 ∷ [])
+    ∷ seeks sevenEmpty 1 "R,15,0,7" []
+    ∷ seeks (panelAt "I,1,0" "A,0,0,1,1,0" "E,2,3") 1 "R,4,15,3" []
+    ∷ []
+
 -- With lists as long as is asked.
 abbrev checked : Panel → Found Tree
 checked p = check asAsked (textOf (p .lines))
@@ -178,6 +224,23 @@ Puts cases =
     (map (λ w. printedAnswer (answerOf (wrote w))) cases ≡ map (λ w. textOf (w .answer ∷ [])) cases)
     × (map (λ w. putOut (wrote w)) cases ≡ map (λ w. textOf (w .tidy)) cases)
 
+-- What the find-the-gaps call answers, and the gaps that it finds.
+abbrev soughtIn : Sought → Found Tree
+soughtIn s = findGaps (s .tried) asAsked (textOf (s .lines))
+
+abbrev gapsIn : Found Tree → List ℕ
+gapsIn (seen (k, t)) = gapsOf (k .nodes)
+gapsIn (refused r) = []
+
+abbrev Seeks : List Sought → Type 0
+Seeks cases =
+    (map (λ s. printedAnswer (answerOf (soughtIn s))) cases ≡ map (λ s. textOf (s .answer ∷ [])) cases)
+    × (map (λ s. gapsIn (soughtIn s)) cases ≡ map (λ s. s .gaps) cases)
+
+-- "that power is over 1,000,000": 10 to the power 6 is not.
+abbrev AtMostMillion : Type 0
+AtMostMillion = (ltb choiceMost (power 9 6) ≡ false) × (ltb choiceMost (power 100 3) ≡ true)
+
 -- What is answered for a case with so many numbers in the state list.
 abbrev withStates : ℕ → Panel → List ℕ
 withStates n p = printedAnswer (answerOf (check (checkLists n nodeNeed workNeed) (textOf (p .lines))))
@@ -186,7 +249,7 @@ withStates n p = printedAnswer (answerOf (check (checkLists n nodeNeed workNeed)
 abbrev NeedsStates : Type 0
 NeedsStates = (stateNeed ≡ 8008) × (withStates 8007 caseA ≡ textOf ("R,1,0,1" ∷ [])) × (withStates 8008 caseA ≡ textOf ("Y,2,4" ∷ []))
 
--- Each case is answered as 01 prints it; "a. [..] doubled spans 1-4, 1-1, 2-2, 4-4"; and as Cards 1 to 3 have it.
-pub answers : Answered table × (spansOf (checked caseA) ≡ doubled 1 4 ∷ doubled 1 1 ∷ doubled 2 2 ∷ doubled 4 4 ∷ []) × Answered signedTable × Puts writtenTable × Answered wideTable × NeedsStates
-unfolding St.wordCount St.propositionMost St.bit St.member St.noPropositions St.insert St.without St.appliesWord St.applies St.nextWord St.next St.noAction St.actionAt St.states St.stateAt St.firstStop Ix.ofCue Ix.ofGap Ix.at Ix.least Ix.greatest Ix.hull Ix.partOf Ix.only Ix.pick Ix.spanOfPart Ix.roundedUp Ix.roundedDown Ix.c Ix.f Ix.isBefore Tx.isFeed Tx.isComma Tx.isDigit Tx.endsField Tx.isPlain Tx.numberAt Tx.letterAt Tx.endingAt Tx.feedFollows Tb.table Tb.rowOf Tb.roleNumber Tb.isCompound Tb.inRange Tb.readList Tb.readItem Tb.readLine Ca.noMethod Ca.methodAt Ca.scalarAt Ca.membersAt Ca.setAt Ca.headerOf Ca.initialOf Ca.actionOf Ca.signOf Ca.constraintOf Ca.asConstraint Ca.planOf Ca.nodeOf Ca.asNode Ca.oneLine Ca.oneMethod Ca.noSurplus Ca.readBody Ca.noHeader Ca.readFrom Ca.readCase Tr.preorder Tr.preorders Tr.rootLine Tr.span Tr.spans Tr.subtaskSpans Tr.noSubtasks Tr.isMethodOf Tr.fits Tr.isIn Tr.mayClaim Tr.walkNode Tr.levelCount Tr.walkTree Co.signed Co.holdsIn Co.holdsFrom Co.keeps Co.constraintsOf Co.partsOf Co.brokenAt Co.firstBroken Ve.reported De.asAsked Ve.stateNeed Ve.nodeNeed Ve.workNeed Ve.checkLists Ve.statesOf Ve.planRuns Ve.allClaimed Ve.noneBroken Ve.textMost Ve.check Tx.decimal Li.printedAnswer Fi.lineFields Fi.propositionsOf Fi.headerLine Fi.initialLine Fi.actionLine Fi.constraintLine Fi.methodLines Fi.cuesLine Fi.nodeLine Fi.linesOf Fi.planLineOf Pr.lineText Pr.printed Wr.rank Wr.sortKey Wr.precedes Wr.sorted Wr.tidiedMethod Wr.tidied Wr.written Wr.outputLong Wr.write flatten
-answers = (refl, refl, refl, (refl, refl), refl, (refl, refl, refl))
+-- Each case is answered as 01 prints it; "a. [..] doubled spans 1-4, 1-1, 2-2, 4-4"; and as Cards 1 to 4 have it.
+pub answers : Answered table × (spansOf (checked caseA) ≡ doubled 1 4 ∷ doubled 1 1 ∷ doubled 2 2 ∷ doubled 4 4 ∷ []) × Answered signedTable × Puts writtenTable × Answered wideTable × NeedsStates × Seeks soughtTable × AtMostMillion
+unfolding St.wordCount St.propositionMost St.bit St.member St.noPropositions St.insert St.without St.appliesWord St.applies St.nextWord St.next St.noAction St.actionAt St.states St.stateAt St.firstStop Ix.ofCue Ix.ofGap Ix.at Ix.least Ix.greatest Ix.hull Ix.partOf Ix.only Ix.pick Ix.spanOfPart Ix.roundedUp Ix.roundedDown Ix.c Ix.f Ix.isBefore Tx.isFeed Tx.isComma Tx.isDigit Tx.endsField Tx.isPlain Tx.numberAt Tx.letterAt Tx.endingAt Tx.feedFollows Tb.table Tb.rowOf Tb.roleNumber Tb.isCompound Tb.inRange Tb.readList Tb.readItem Tb.readLine Ca.noMethod Ca.methodAt Ca.scalarAt Ca.membersAt Ca.setAt Ca.headerOf Ca.initialOf Ca.actionOf Ca.signOf Ca.constraintOf Ca.asConstraint Ca.planOf Ca.nodeOf Ca.asNode Ca.oneLine Ca.oneMethod Ca.noSurplus Ca.readBody Ca.noHeader Ca.readFrom Ca.readCase Tr.preorder Tr.preorders Tr.rootLine Tr.span Tr.spans Tr.subtaskSpans Tr.noSubtasks Tr.isMethodOf Tr.fits Tr.isIn Tr.mayClaim Tr.walkNode Tr.levelCount Tr.walkTree Co.signed Co.holdsIn Co.holdsFrom Co.keeps Co.constraintsOf Co.partsOf Co.brokenAt Co.firstBroken Ve.reported De.asAsked Ve.stateNeed Ve.nodeNeed Ve.workNeed Ve.checkLists Ve.statesOf Ve.planRuns Ve.allClaimed Ve.noneBroken Ve.textMost Ve.check Tx.decimal Li.printedAnswer Fi.lineFields Fi.propositionsOf Fi.headerLine Fi.initialLine Fi.actionLine Fi.constraintLine Fi.methodLines Fi.cuesLine Fi.nodeLine Fi.linesOf Fi.planLineOf Pr.lineText Pr.printed Wr.rank Wr.sortKey Wr.precedes Wr.sorted Wr.tidiedMethod Wr.tidied Wr.written Wr.outputLong Wr.write Ga.power Ga.caseWith Ga.textWith Ga.choiceCount Ga.choiceMost Ga.fewChoices Ga.beforeChoices Ga.findGaps flatten
+answers = (refl, refl, refl, (refl, refl), refl, (refl, refl, refl), (refl, refl), (refl, refl))
