@@ -5,6 +5,7 @@ use Rattle.rules.specs.State.{State}
 use Rattle.rules.specs.Verdict.{Report}
 use Rattle.capi.specs.declared.Reply.{Reply}
 use Rattle.capi.specs.declared.Written.{Written}
+use Rattle.capi.specs.declared.Found.{Found}
 
 -- The report that a reply is: the same five numbers.
 abbrev pub reportOf : Reply → Report
@@ -13,6 +14,10 @@ reportOf r = record { number = r .number; line = r .line; item = r .item; cues =
 -- The same of what the write call returns.
 abbrev pub writtenReport : Written → Report
 writtenReport r = record { number = r .number; line = r .line; item = r .item; cues = r .cues; nodes = r .nodes }
+
+-- And of what the find-the-gaps call returns.
+abbrev pub foundReport : Found → Report
+foundReport r = record { number = r .number; line = r .line; item = r .item; cues = r .cues; nodes = r .nodes }
 
 -- A step's answer as a number, 1 for yes, beside the state.
 abbrev pub stepReply : Bool × State → ℕ × State

@@ -1,4 +1,5 @@
 // The calls for C and Rust. An exported call returns a struct of numbers, since it cannot return an enum.
+use finder::Discovery;
 use rules::Answer;
 use rules::Node;
 use state::State;
@@ -10,7 +11,8 @@ ghost use Rattle.rules.specs.State.{step};
 ghost use Rattle.rules.specs.Verdict.{refusal, reported};
 ghost use Rattle.rules.specs.Demands.{borrowed, lentBy, Demand1, Demand2, Demand3, ReplayDemand1};
 ghost use Rattle.rules.specs.Writing.{WriteDemand1, WriteAnswers, WriterLaws};
-ghost use Rattle.capi.specs.Replies.{reportOf, writtenReport, stepReply};
+ghost use Rattle.rules.specs.Gaps.{FindDemand1, FindAnswers};
+ghost use Rattle.capi.specs.Replies.{reportOf, writtenReport, foundReport, stepReply};
 
 // The answer's row of the table: number, line and item, 0 for acceptance; k and n of an acceptance, 0 for a refusal.
 #[repr(C)]
@@ -141,6 +143,59 @@ pub extern "C" fn cuecheck_write(
     verdict::fill(nodes, work, records_of(wrote));
     rows::clear_work(work);
     as_written(wrote)
+}
+
+// The answer's row of the table, as in a reply, and how many choices of gaps were tried, 0 for a refusal.
+#[repr(C)]
+pub struct Found {
+    pub number: u32,
+    pub line: u32,
+    pub item: u32,
+    pub cues: u32,
+    pub nodes: u32,
+    pub tried: u32,
+}
+
+// How many records the find-the-gaps call comes with.
+fn records_found(d: Discovery) -> usize
+    ensures { λ r. ⌜ r ≡ reported (d .answer) .nodes ⌝ }
+{
+    let answer = d.answer;
+    verdict::count_of(answer)
+}
+
+// The numbers of what the find-the-gaps call answers.
+fn as_found(d: Discovery) -> Found
+    ensures { λ r. ⌜ (foundReport r ≡ reported (d .answer)) × (r .tried ≡ d .tried) ⌝ }
+{
+    let answer = d.answer;
+    let reply = as_reply(answer);
+    Found {
+        number: reply.number,
+        line: reply.line,
+        item: reply.item,
+        cues: reply.cues,
+        nodes: reply.nodes,
+        tried: d.tried,
+    }
+}
+
+// The find-the-gaps call (02, Card 4).
+#[no_mangle]
+pub extern "C" fn cuecheck_find_gaps(
+    text: &[u8],
+    states: &mut [u64],
+    nodes: &mut [Node],
+    work: &mut [u32],
+) -> Found
+    ensures demand1 { λ r. ⌜ FindDemand1 (now (text .entry)) (borrowed (now (states .entry)) (now (nodes .entry)) (now (work .entry))) (foundReport r) (r .tried) (borrowed (now (states .exit)) (now (nodes .exit)) (now (work .exit))) ⌝ }
+    ensures answers { λ r. ⌜ FindAnswers (now (text .entry)) (lentBy (borrowed (now (states .entry)) (now (nodes .entry)) (now (work .entry)))) (foundReport r) ⌝ }
+{
+    let room = nodes.len();
+    let found = finder::find(text, states, work, room);
+    verdict::fill(nodes, work, records_found(found));
+    rows::clear_work(work);
+    as_found(found)
 }
 
 // The step call: 1 and the next state in the place of the state; or 0, and the state as it came.
