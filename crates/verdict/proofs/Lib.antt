@@ -10,3 +10,5 @@ pub mod Records
 -- The calls, for whoever makes them.
 pub mod Calls
 pub mod CheckCall
+-- What the find-the-gaps call finds.
+pub mod Finds
