@@ -23,3 +23,5 @@ pub mod Rewritings
 pub mod Demands
 -- The promises of the write call: the order, and what is written.
 pub mod Writing
+-- The promises of the find-the-gaps call: the text with other gaps, and the first choice that would be accepted.
+pub mod Gaps
