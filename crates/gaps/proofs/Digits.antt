@@ -1,8 +1,10 @@
 -- How many digits a number up to 1000 has. Assumes nothing.
 use mathlib.Core.Path.{_≡_, ap, _∙_}
+use mathlib.Core.Logic.{by-cases}
 use mathlib.Core.List.{List, [], _∷_}
 use Prim.Native.Nat.{ℕ, suc, _+_, _/_, _%_, _≤_, _<_}
 use Prim.Native.Char.{code}
+use native.Mathlib.Decide.{decLt}
 use native.Mathlib.Omega.{arith}
 use lib.ListN.{length}
 use borrow.Author.Tests.{lt-ltb, le-ltb}
@@ -32,3 +34,9 @@ unfolding decimal
 digits-four n l h =
     more-digit 9 n [] (omega arith) ∙ more-digit 8 (n / 10) _ (omega arith) ∙ more-digit 7 (n / 10 / 10) _ (omega arith)
     ∙ last-digit 6 (n / 10 / 10 / 10) _ (omega arith)
+
+pub digits-few : (n : ℕ) → n ≤ 1000 → length (decimal n) ≤ 4
+digits-few n h =
+    by-cases (decLt n 10) (λ l. omega (arith, digits-one n l))
+    (λ l. by-cases (decLt n 100) (λ m. omega (arith, digits-two n (omega arith) m))
+    (λ m. by-cases (decLt n 1000) (λ s. omega (arith, digits-three n (omega arith) s)) (λ s. omega (arith, digits-four n (omega arith) (omega arith)))))

@@ -26,7 +26,7 @@ pub record Summing (k : ℕ) (fields : List ℕ) (ns : List NodeLine) (from p i 
   pub here : Stands fields p (fieldsOfLines (drop i ns))
   pub least : min low (lowOf k (drop i ns)) ≡ lowOf k ns
   pub greatest : max high (highOf (drop i ns)) ≡ highOf ns
-  pub count : empties + emptyCount (drop i ns) ≡ emptyCount ns
+  pub number : empties + emptyCount (drop i ns) ≡ emptyCount ns
   pub next : p + length (fieldsOfLines (drop i ns)) ≡ from + length (fieldsOfLines ns)
 
 abbrev pub Sums : ℕ → List ℕ → ℕ → ℕ → ℕ → ℕ → ℕ → ℕ → ℕ → Type 0
@@ -36,20 +36,20 @@ pub sums-start : (k : ℕ) (fields : List ℕ) (from count : ℕ) → Sums k fie
 unfolding ofGap
 sums-start k fields from count ns w =
     let most = low-most k ns in
-    record { here = w .here; least = omega arith; greatest = omega arith; count = omega arith; next = refl }
+    record { here = w .here; least = omega arith; greatest = omega arith; number = omega arith; next = refl }
+
+-- What line i adds.
+pub record Step (k i low high empties low′ high′ empties′ : ℕ) (ns : List NodeLine) : Type 0 where
+  pub least : min low′ (lowOf k (drop (i + 1) ns)) ≡ min low (lowOf k (drop i ns))
+  pub greatest : max high′ (highOf (drop (i + 1) ns)) ≡ max high (highOf (drop i ns))
+  pub number : empties′ + emptyCount (drop (i + 1) ns) ≡ empties + emptyCount (drop i ns)
 
 module _ (k : ℕ) (fields : List ℕ) (from count p i low high empties : ℕ) (t : Sums k fields from count p i low high empties) where
   pub due-in : (ns : List NodeLine) → NodesStand fields from count ns → i < count → Due fields p ns i
   due-in ns w more = line-due fields p ns i (t ns w .here) (omega (arith, w .counted))
 
-  -- What the line that is due adds.
-  pub record Step (low′ high′ empties′ : ℕ) (ns : List NodeLine) : Type 0 where
-    pub least : min low′ (lowOf k (drop (i + 1) ns)) ≡ min low (lowOf k (drop i ns))
-    pub greatest : max high′ (highOf (drop (i + 1) ns)) ≡ max high (highOf (drop i ns))
-    pub count : empties′ + emptyCount (drop (i + 1) ns) ≡ empties + emptyCount (drop i ns)
-
   pub sums-on : i < count → (low′ high′ empties′ size : ℕ) → size ≡ nodeSize (getD fields p 0)
-      → ((ns : List NodeLine) → Due fields p ns i → Step low′ high′ empties′ ns) → Sums k fields from count (p + size) (i + 1) low′ high′ empties′
+      → ((ns : List NodeLine) → Due fields p ns i → Step k i low high empties low′ high′ empties′ ns) → Sums k fields from count (p + size) (i + 1) low′ high′ empties′
   sums-on more low′ high′ empties′ size e step ns w =
       let d = due-in ns w more in
       let g = t ns w in
@@ -59,25 +59,19 @@ module _ (k : ℕ) (fields : List ℕ) (from count p i low high empties : ℕ) (
         here = stands-next fields p ns i d size e;
         least = s .least ∙ g .least;
         greatest = s .greatest ∙ g .greatest;
-        count = s .count ∙ g .count;
+        number = s .number ∙ g .number;
         next = omega (arith, d .size, g .next);
       }
 
-  -- All of them.
-  pub record Whole (ns : List NodeLine) : Type 0 where
-    pub least : low ≡ lowOf k ns
-    pub greatest : high ≡ highOf ns
-    pub count : empties ≡ emptyCount ns
-    pub next : p ≡ from + length (fieldsOfLines ns)
-
-  pub sums-end : low ≤ 2 * k + 1 → count ≤ i → (ns : List NodeLine) → NodesStand fields from count ns → Whole ns
+  pub sums-end : low ≤ 2 * k + 1 → count ≤ i → (ns : List NodeLine) → NodesStand fields from count ns 
+      → (low ≡ lowOf k ns) × (high ≡ highOf ns) × (empties ≡ emptyCount ns) × (p ≡ from + length (fieldsOfLines ns))
   unfolding ofGap
   sums-end few most ns w =
       let none : drop i ns ≡ [] = drop-of-length-le ns {i = i} (omega (arith, w .counted)) in
       let g = t ns w in
-      record {
-        least = omega (arith, ap (lowOf k) none, g .least);
-        greatest = omega (arith, ap highOf none, g .greatest);
-        count = omega (arith, ap emptyCount none, g .count);
-        next = omega (arith, ap (λ (l : List NodeLine). length (fieldsOfLines l)) none, g .next);
-      }
+      (
+        omega (arith, ap (lowOf k) none, g .least),
+        omega (arith, ap highOf none, g .greatest),
+        omega (arith, ap emptyCount none, g .number),
+        omega (arith, ap (λ (l : List NodeLine). length (fieldsOfLines l)) none, g .next),
+      )
