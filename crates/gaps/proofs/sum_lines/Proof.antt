@@ -160,11 +160,13 @@ loop-again c =
     let first = c .before .before .if1 in
     let second = c .before .if2 in
     let few = l .inv .2 in
-    let joined = ⊎-elim
+    let joined : (ns : List NodeLine) (d : Due f (l .at) ns (l .i)) → Joined (a .cues) f (l .at) ns (l .i) d (l .low) (l .high) (second .low) (second .high)
+    = ⊎-elim
     (λ w ns d. cue-joined (a .cues) f (l .at) ns (l .i) d (l .low) (l .high) (second .low) (second .high) (w .0 .taken) (omega (arith, w .2 .ensures, w .4)) (omega (arith, w .3 .ensures, w .5)))
     (λ w ns d. none-joined (a .cues) f (l .at) ns (l .i) d (l .low) (l .high) (second .low) (second .high) (w .0 .left) (w .1) (w .2))
     (second .came) in
-    let counted = ⊎-elim
+    let counted : (ns : List NodeLine) → Due f (l .at) ns (l .i) → first .empties + emptyCount (drop (l .i + 1) ns) ≡ l .empties + emptyCount (drop (l .i) ns)
+    = ⊎-elim
     (λ w ns d. let own = due-those over-empties f (l .at) ns (l .i) d (w .0 .taken) (λ q. omega arith) in omega (arith, w .1))
     (λ w ns d. let own = due-others over-empties f (l .at) ns (l .i) d (w .0 .left) in omega (arith, w .1))
     (first .came) in (
