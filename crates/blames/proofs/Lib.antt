@@ -3,3 +3,4 @@ pub mod Walks
 pub mod Edges
 pub mod Letters
 pub mod Slots
+pub mod Reasons
