@@ -163,7 +163,17 @@ pub fn test(
         let first = s * BUCKET;
         let full = counts[s] as usize;
         let count = if full < BUCKET { full } else { BUCKET };
-        let hit = broken_in(pool, first, count, hot[s] as usize, choice, k, states, columns, built);
+        let hit = broken_in(
+            pool,
+            first,
+            count,
+            hot[s] as usize,
+            choice,
+            k,
+            states,
+            columns,
+            built,
+        );
         match hit {
             Hit::At { slot } => {
                 hot[s] = (slot - first) as u32;

@@ -1,16 +1,15 @@
 -- `test`: the positions that are named are those of the broken entry; the columns stay those of the states. Assumes nothing.
-use Prim.Native.Nat.{ℕ, _+_, _*_, _-_, _≤_, _<_}
+use Prim.Native.Nat.{_+_, _*_, _-_, _≤_, _<_}
 use Rattle.columns.specs.Columns.{Columns}
 use Rattle.rows.specs.Rows.{inRow}
 use Rattle.blames.specs.declared.entry.Entry.{Entry}
-use Rattle.blames.specs.declared.pool.Hit.{Hit}
 use Rattle.blames.specs.declared.pool.Hit.the-variants.{At}
-use Rattle.blames.specs.Entries.{entrySize, entryAt, positionsOf}
+use Rattle.blames.specs.Entries.{entrySize, positionsOf}
 use Rattle.blames.specs.Tests.{Broken}
 use lib.Bits.{bitOr}
 use lib.ListN.{length}
 use mathlib.Core.Logic.{⊎-elim}
-use mathlib.Core.Path.{_≡_, refl, sym, ap, subst, _∙_}
+use mathlib.Core.Path.{_≡_, refl, ap, subst, _∙_}
 use native.Mathlib.Omega.{arith}
 use borrow.Author.Needs.{needs}
 use Rattle.blames.proofs.pool.test.Statement.{statement}
