@@ -3,7 +3,7 @@
 //! cases, about a million choices of which none is accepted, or only the last.
 
 use super::extremes::{method, padded, skeleton};
-use super::{animate, draw_constraint, draw_methods, draw_palette, draw_size, grow, grow_within, is, place, spans_of};
+use super::{animate, draw_constraint, draw_methods, draw_palette, draw_size, grow, grow_within, is, not, place, spans_of};
 use super::{ActionSets, Constraint, Draft, Line, Method, Reading, Rng, Stage, Tree, Weave};
 
 /// How many choices there are, up to `most` and one more.
@@ -338,3 +338,148 @@ pub fn around(rng: &mut Rng) -> Draft {
     }
     draft
 }
+
+// ---------------------------------------------------------------- the dearest cases
+
+/// Propositions of the dearest cases: false, or true, in all states; true in the last state only; false in the last state only.
+/// Behind them come those that are false in every so-manieth state.
+const NEVER: u32 = 0;
+const EVER: u32 = 1;
+const TOP: u32 = 2;
+const LOW: u32 = 3;
+const TURNS: u32 = 4;
+
+/// The goal's subtasks of the dearest cases: all empty tasks but the last, and the last one. Most constraints speak of both, so that
+/// none says anything of fewer tasks than all.
+const OTHERS: u32 = 1;
+const LAST: u32 = 2;
+const ALL: u32 = OTHERS | LAST;
+
+/// So many cues and empty tasks, no choice accepted or only the last, and one or two constraints, or 64, of which those come last
+/// that fail by turns.
+pub fn dear(cues: usize, empty: usize, only_last: bool, sixty_four: bool) -> Draft {
+    let turns = if cues > 100 { 32 } else { cues as u32 + 1 };
+    let mut draft = turning(cues, turns, only_last);
+    let (g, x, z) = (draft.goal, draft.goal + 1, draft.goal + 2);
+    draft.methods = vec![method(g, vec![x, z]), method(x, vec![z; empty - 1]), method(z, vec![])];
+    draft.lines = [vec![Line::D(0), Line::D(1)], vec![Line::E(2, 0); empty]].concat();
+    put_cues(&mut draft, 0);
+    let both = |asked| Constraint::Before(asked, ALL);
+    let failing = match (cues, sixty_four, only_last) {
+        // Before the last task's gap no loading, and not after it either: one fails with gap 0, the other with gap 1.
+        (1, true, true) => vec![Constraint::Between(LAST, is(TOP), ALL), Constraint::Order(1, 0)],
+        (1, true, false) => vec![Constraint::Between(LAST, is(TOP), ALL), Constraint::Between(ALL, is(LOW), LAST)],
+        (_, true, true) => after_turns(turns).into_iter().chain([both(is(TOP))]).collect(),
+        (_, true, false) => after_turns(turns),
+        (_, false, true) => vec![both(is(TOP))],
+        (999, false, false) => vec![Constraint::Order(0, 1), Constraint::Between(OTHERS, is(NEVER), LAST)],
+        (_, false, false) => vec![both(is(NEVER))],
+    };
+    let holding = if sixty_four { 64 - failing.len() } else { 0 };
+    draft.methods[0].constraints = (0..holding).map(held).chain(failing).collect();
+    draft
+}
+
+/// The dearest case with one cue, 64 constraints on each of 62 levels more.
+pub fn dear_levels() -> Draft {
+    let mut draft = dear(1, 19, false, true);
+    let mut above = method(draft.goal, vec![draft.goal]);
+    above.constraints = (0..64).map(|n| shifted(held(n))).collect();
+    draft.methods.push(above);
+    let root = Line::D(draft.methods.len() as u32 - 1);
+    draft.lines = [vec![root; 61], draft.lines].concat();
+    draft
+}
+
+/// A constraint that holds, of all empty tasks; one of each sort in turn.
+fn held(n: usize) -> Constraint {
+    match n % 4 {
+        0 => Constraint::Between(ALL, is(EVER), ALL),
+        1 => Constraint::Before(is(EVER), ALL),
+        2 => Constraint::After(not(NEVER), ALL),
+        _ => Constraint::Between(ALL, not(NEVER), ALL),
+    }
+}
+
+/// The same of a task's only subtask.
+fn shifted(constraint: Constraint) -> Constraint {
+    match constraint {
+        Constraint::Before(asked, _) => Constraint::Before(asked, 1),
+        Constraint::After(asked, _) => Constraint::After(asked, 1),
+        Constraint::Between(_, asked, _) => Constraint::Between(1, asked, 1),
+        order => order,
+    }
+}
+
+fn after_turns(turns: u32) -> Vec<Constraint> {
+    (0..turns).map(|n| Constraint::After(is(TURNS + n), ALL)).collect()
+}
+
+/// A model and a plan of so many cues: in each state one of the propositions that take turns is false; in the last state none,
+/// if `all_at_last`.
+fn turning(cues: usize, turns: u32, all_at_last: bool) -> Draft {
+    let mut draft = skeleton(TURNS + turns, turns as usize + 1, 4, vec![]);
+    let all: Vec<u32> = (TURNS..TURNS + turns).collect();
+    draft.initial = [vec![EVER, LOW], all[1..].to_vec()].concat();
+    let effects = |turn: u32| [vec![], vec![], vec![TURNS + (turn + turns - 1) % turns], vec![TURNS + turn]];
+    for turn in 0..turns {
+        draft.actions[turn as usize] = effects(turn);
+    }
+    let [_, _, added, mut deleted] = effects(cues as u32 % turns);
+    if all_at_last {
+        deleted.clear();
+    }
+    let added = [vec![TOP], if all_at_last { all } else { added }].concat();
+    draft.actions[turns as usize] = [vec![], vec![], added, [vec![LOW], deleted].concat()];
+    draft.plan = (1..=cues as u32).map(|cue| if cue == cues as u32 { turns } else { cue % turns }).collect();
+    draft
+}
+
+/// 1,000 cues in blocks with four constraints each, and one empty task, which has to follow 960 of them.
+pub fn thousand() -> Draft {
+    let mut draft = turning(1_000, 32, false);
+    let (g, z) = (draft.goal, draft.goal + 2);
+    draft.methods = vec![method(g, vec![z]), method(z, vec![])];
+    draft.lines = vec![Line::D(0), Line::E(1, 0)];
+    put_cues(&mut draft, 0);
+    for block in &mut draft.methods[2..] {
+        block.constraints = vec![
+            Constraint::Order(0, 1),
+            Constraint::Before(is(EVER), 2),
+            Constraint::Between(1, not(NEVER), 2),
+            Constraint::After(is(EVER), 0),
+        ];
+    }
+    draft.methods[0].constraints = vec![Constraint::Order(1, 0), Constraint::Before(is(EVER), 1)];
+    draft
+}
+
+/// Puts the cues of the plan below a method, in blocks if they are many, and their nodes behind all others.
+fn put_cues(draft: &mut Draft, below: usize) {
+    let plan = draft.plan.clone();
+    let body = draft.goal + 3;
+    let leaf = |(i, &action): (usize, &u32)| Line::L(action, i as u32 + 1);
+    if plan.len() <= 30 {
+        draft.methods[below].subtasks.extend(&plan);
+        draft.lines.extend(plan.iter().enumerate().map(leaf));
+        return;
+    }
+    let mut position = 0;
+    for blocks in plan.chunks(32 * 30) {
+        let method_of_blocks = draft.methods.len() as u32;
+        draft.methods[below].subtasks.push(body);
+        draft.methods.push(method(body, vec![body; blocks.chunks(32).len()]));
+        draft.lines.push(Line::D(method_of_blocks));
+        for block in blocks.chunks(32) {
+            draft.lines.push(Line::D(draft.methods.len() as u32));
+            draft.methods.push(method(body, block.to_vec()));
+            draft.lines.extend(block.iter().map(|&action| {
+                position += 1;
+                Line::L(action, position)
+            }));
+        }
+    }
+}
+
+/// k and e of the dearest cases.
+pub const DEAR: [(usize, usize); 3] = [(1, 19), (9, 6), (999, 2)];
