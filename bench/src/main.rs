@@ -136,11 +136,17 @@ fn show_finding(rounds: usize, wanted: &str) {
     let columns = columns(RENDERINGS[1..].iter().map(|name| name.to_string()), "ratio".into());
     println!("{:<34}{:>6} {:>6} {:>7} | gaps, in milliseconds; ratio is linked / fast", "", "", "", "");
     println!("{:<34}{:>6} {:>6} {:>7} | {columns}", "case", "bytes", "answer", "rounds");
-    for (name, text) in cases_to_find().into_iter().filter(|(name, _)| name.starts_with(wanted)) {
+    let mut cases = cases_to_find();
+    // Takes minutes: only if it is asked for.
+    if wanted == LEVELS {
+        cases.push((LEVELS.to_string(), gaps::dear_levels().text()));
+    }
+    for (name, text) in cases.into_iter().filter(|(name, _)| name.starts_with(wanted)) {
         let mut lists = Lists::default();
         let begin = Instant::now();
         let answer = FINDS[0](&text, &mut lists);
-        let rounds = rounds.min(PATIENCE.div_duration_f64(begin.elapsed()) as usize).max(3);
+        let least = if wanted == LEVELS { 1 } else { 3 };
+        let rounds = rounds.min(PATIENCE.div_duration_f64(begin.elapsed()) as usize).max(least);
         let times: Vec<f64> = medians_of_text(&text, FINDS, rounds).iter().map(|micros| micros / 1e3).collect();
         let ratio = times.last().expect("a time") / times[0];
         let cells = self::columns(times.iter().map(|time| format!("{time:.3}")), format!("{ratio:.2}"));
@@ -149,6 +155,8 @@ fn show_finding(rounds: usize, wanted: &str) {
 }
 
 const PATIENCE: Duration = Duration::from_secs(2);
+
+const LEVELS: &str = "62 levels of 64 constraints";
 
 /// About a million choices, and no constraint that speaks of fewer tasks than all: every one of them is tried, where none is accepted, or only the last.
 fn cases_to_find() -> Vec<(String, Vec<u8>)> {

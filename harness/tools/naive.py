@@ -477,26 +477,34 @@ def compare_stored(folder):
     return differing + len(told)
 
 
+# Stored cases with more choices tried are left out: each is a check.
+PATIENCE = 3000
+
+
 def compare_stored_gaps(folder):
     """Four words to a case: its file, the lengths of the three lists. An accepted one is followed by its node records."""
     folder = Path(folder)
     words = (folder / "args").read_text().split()
-    told = (folder / "stdout").read_text()
-    count = differing = 0
+    told = (folder / "stdout").read_text().splitlines(keepends=True)
+    count = differing = left_out = 0
     for i in range(0, len(words), 4):
         name, *lengths = words[i : i + 4]
-        text = (folder / "data" / name).read_bytes()
-        answer, _, records = find_gaps(text, *map(int, lengths))
-        due = " ".join(words[i : i + 4]) + " " + printed(answer)
-        for node in range(0, len(records), 5):
-            due += "T," + ",".join(map(str, records[node : node + 5])) + "\n"
+        own = [told.pop(0)]
+        while told and told[0].startswith("T,"):
+            own.append(told.pop(0))
         count += 1
-        if not told.startswith(due):
+        letter, *numbers = own[0].split()[-1].split(",")
+        if int(numbers[2]) > PATIENCE and (letter == "Y" or numbers[0] == "16"):
+            left_out += 1
+            continue
+        answer, _, records = find_gaps((folder / "data" / name).read_bytes(), *map(int, lengths))
+        due = [" ".join(words[i : i + 4]) + " " + printed(answer)]
+        for node in range(0, len(records), 5):
+            due.append("T," + ",".join(map(str, records[node : node + 5])) + "\n")
+        if own != due:
             differing += 1
-            print(f"{name}: {due[:200]!r}, stored {told[:200]!r}")
-            break
-        told = told[len(due) :]
-    print(f"{count} cases, {differing} differences, {len(told)} bytes over")
+            print(f"{name}: {due[:3]!r}, stored {own[:3]!r}")
+    print(f"{count} cases, {left_out} of them left out, {differing} differences, {len(told)} lines over")
     return differing + len(told)
 
 

@@ -154,37 +154,50 @@ fn gaps_of(tree: &Tree) -> Vec<u32> {
     tree.lines.iter().filter_map(gap).collect()
 }
 
-/// The same tree and states with a choice that comes before the tree's own one; none if that is the first.
-fn rival(rng: &mut Rng, tree: &Tree, stage: &Stage, cues: usize, way: usize) -> Option<Stage> {
-    let gaps = gaps_of(tree);
+/// A choice ahead of this one: the first of all, this one with its last gap that isn't 0 one lower, or any; none if this is the first.
+fn ahead(rng: &mut Rng, gaps: &[u32], cues: usize, way: usize) -> Option<Vec<u32>> {
     let above: Vec<usize> = (0..gaps.len()).filter(|&n| gaps[n] > 0).collect();
-    let lowered = match way {
-        _ if above.is_empty() => return None,
-        0 => 0,
-        1 => *above.last()?,
-        _ => *rng.pick(&above),
-    };
-    let mut other = Tree { lines: tree.lines.clone(), children: tree.children.clone() };
-    set_gaps(&mut other, |n, &gap| match n {
-        _ if way == 0 => 0,
-        _ if n < lowered => gap,
-        _ if n > lowered => rng_gap(rng, cues),
-        _ if way == 1 => gap - 1,
-        _ => rng.below(gap as usize) as u32,
-    });
-    let spans = spans_of(&other);
-    Some(Stage { states: stage.states.clone(), spans, users: stage.users.clone() })
+    let &last = above.last()?;
+    let mut rival = gaps.to_vec();
+    match way {
+        0 => rival.fill(0),
+        1 => {
+            rival[last] -= 1;
+            rival[last + 1..].fill_with(|| rng_gap(rng, cues));
+        }
+        _ => {
+            let at = *rng.pick(&above);
+            rival[at] = rng.below(gaps[at] as usize) as u32;
+            rival[at + 1..].fill_with(|| rng_gap(rng, cues));
+        }
+    }
+    Some(rival)
 }
 
-/// Gives the methods constraints that hold with the tree's gaps, and most of which fail with some choice ahead of them.
+/// Gives the methods constraints that hold with the tree's gaps, and most of which fail with some choice ahead of them; the first with
+/// the first choice.
 fn constrain(rng: &mut Rng, draft: &mut Draft, tree: &Tree, most: usize) {
+    let (gaps, cues) = (gaps_of(tree), draft.plan.len());
+    constrain_against(rng, draft, tree, most, |rng, n| {
+        let way = if n == 0 { 0 } else { rng.below(5) };
+        ahead(rng, &gaps, cues, way)
+    });
+}
+
+/// The same with the choices that are to fail given, each for one constraint.
+fn constrain_against(
+    rng: &mut Rng,
+    draft: &mut Draft,
+    tree: &Tree,
+    most: usize,
+    mut rival: impl FnMut(&mut Rng, usize) -> Option<Vec<u32>>,
+) {
     let stage = Stage::new(draft, tree);
     let used: Vec<usize> = (0..draft.methods.len()).filter(|&m| !stage.users[m].is_empty()).collect();
-    let telling: Vec<usize> = used.iter().copied().filter(|&m| stage.users[m].iter().any(|&node| has_empty(tree, node))).collect();
+    let speaks = |&m: &usize| stage.users[m].iter().any(|&node| has_empty(tree, node));
+    let telling: Vec<usize> = used.iter().copied().filter(speaks).collect();
     for n in 0..rng.between(1, most) {
-        // Ahead of all others the first choice.
-        let way = if n == 0 { 0 } else { rng.below(5) };
-        let rival = rival(rng, tree, &stage, draft.plan.len(), way);
+        let rival = rival(rng, n).map(|gaps| stage.with_gaps(tree, &gaps));
         for _ in 0..60 {
             let any = telling.is_empty() || rng.percent(10);
             let at = *rng.pick(if any { &used } else { &telling });
@@ -198,6 +211,15 @@ fn constrain(rng: &mut Rng, draft: &mut Draft, tree: &Tree, most: usize) {
                 break;
             }
         }
+    }
+}
+
+impl Stage {
+    /// The same tree and states with other gaps.
+    fn with_gaps(&self, tree: &Tree, gaps: &[u32]) -> Stage {
+        let mut other = Tree { lines: tree.lines.clone(), children: tree.children.clone() };
+        set_gaps(&mut other, |n, _| gaps[n]);
+        Stage { states: self.states.clone(), spans: spans_of(&other), users: self.users.clone() }
     }
 }
 
@@ -235,25 +257,34 @@ fn claim(rng: &mut Rng, draft: &mut Draft, tree: &Tree) {
 
 // ---------------------------------------------------------------- long texts
 
-/// A text within ten bytes of the limit, or one past it, whose later gaps have a digit more.
+/// A text within ten bytes of the limit, or one past it, whose later gaps have a digit more: with most of them it is too long.
 pub fn long(rng: &mut Rng) -> Vec<u8> {
     let (empty, cues) = match rng.below(8) {
-        0 => (2, rng.between(9, 12)),
-        1 => (1, rng.between(98, 102)),
-        2 => (3, 1),
+        0..=3 => (2, rng.between(10, 12)),
+        4 => (1, rng.between(98, 102)),
+        5 => (3, 1),
         _ => (1, rng.between(9, 14)),
     };
     let (mut draft, mut tree) = built(rng, empty, cues, 50);
     place(rng, &mut draft, &mut tree, Weave::Woven);
-    set_gaps(&mut tree, |_, _| (cues - rng.below(cues.min(5))) as u32);
+    // With two gaps the second is often small again, so that what is too long comes before what is found.
+    let small = empty == 2 && rng.percent(70);
+    set_gaps(&mut tree, |n, _| if n == 1 && small { rng.below(10) } else { cues - rng.below(cues.min(5)) } as u32);
     draft.propositions = draft.propositions.max(20);
     animate(rng, &mut draft, 20);
     let used = draft.actions.len() - 50;
     draft.actions[used..].fill(ActionSets::default());
-    constrain(rng, &mut draft, &tree, 3);
+    if small {
+        let first = gaps_of(&tree)[0] as usize;
+        let short = |rng: &mut Rng, _| Some(vec![rng.below(first.max(1)) as u32, rng.below(10) as u32]);
+        constrain_against(rng, &mut draft, &tree, 12, short);
+    } else {
+        constrain(rng, &mut draft, &tree, 3);
+    }
     claim(rng, &mut draft, &tree);
     fill(&mut draft);
-    padded(draft, rng.between(65_525, 65_536))
+    let length = if rng.percent(70) { rng.between(65_535 - empty, 65_535) } else { rng.between(65_525, 65_536) };
+    padded(draft, length)
 }
 
 /// Brings the text near its limit with methods that no node uses.
@@ -380,7 +411,7 @@ pub fn dear(cues: usize, empty: usize, only_last: bool, sixty_four: bool) -> Dra
     draft
 }
 
-/// The dearest case with one cue, 64 constraints on each of 62 levels more.
+/// The dearest case with one cue, and 64 constraints more on each of 61 levels above it.
 pub fn dear_levels() -> Draft {
     let mut draft = dear(1, 19, false, true);
     let mut above = method(draft.goal, vec![draft.goal]);
