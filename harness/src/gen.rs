@@ -822,8 +822,8 @@ impl Inputs {
     /// choice is to be tried, there are few.
     pub fn text_to_find(&self, rng: &mut Rng) -> Vec<u8> {
         match rng.below(1_000) {
-            0..=7 => return gaps::long(rng),
-            8..=27 => return gaps::around(rng).text(),
+            0..=11 => return gaps::long(rng),
+            12..=31 => return gaps::around(rng).text(),
             _ => {}
         }
         loop {

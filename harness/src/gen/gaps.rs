@@ -268,15 +268,17 @@ pub fn long(rng: &mut Rng) -> Vec<u8> {
     let (mut draft, mut tree) = built(rng, empty, cues, 50);
     place(rng, &mut draft, &mut tree, Weave::Woven);
     // With two gaps the second is often small again, so that what is too long comes before what is found.
-    let small = empty == 2 && rng.percent(70);
+    let small = empty == 2 && rng.percent(60);
     set_gaps(&mut tree, |n, _| if n == 1 && small { rng.below(10) } else { cues - rng.below(cues.min(5)) } as u32);
     draft.propositions = draft.propositions.max(20);
     animate(rng, &mut draft, 20);
     let used = draft.actions.len() - 50;
     draft.actions[used..].fill(ActionSets::default());
-    if small {
-        let first = gaps_of(&tree)[0] as usize;
-        let short = |rng: &mut Rng, _| Some(vec![rng.below(first.max(1)) as u32, rng.below(10) as u32]);
+    if rng.percent(80) {
+        // Against choices with a digit less.
+        let unit = if cues > 90 { 100 } else { 10 };
+        let below = if small { gaps_of(&tree)[0] as usize } else { unit };
+        let short = |rng: &mut Rng, _| Some((0..empty).map(|n| rng.below(if n == 0 { below } else { unit }) as u32).collect());
         constrain_against(rng, &mut draft, &tree, 12, short);
     } else {
         constrain(rng, &mut draft, &tree, 3);
