@@ -37,7 +37,8 @@ fn refused(number: u32, line: u32, item: u32) -> (Found, Vec<u32>) {
 /// So many cues, each making one more proposition true, and so many empty tasks ahead of them, with these constraints.
 fn row(cues: usize, empty: usize, constraints: &[&str]) -> String {
     let lines: String = constraints.iter().map(|line| format!("{line}\n")).collect();
-    let subtasks = format!("{}{}", format!(",{}", cues + 1).repeat(empty), (0..cues).map(|a| format!(",{a}")).collect::<String>());
+    let subtasks =
+        format!("{}{}", format!(",{}", cues + 1).repeat(empty), (0..cues).map(|a| format!(",{a}")).collect::<String>());
     let actions: String = (0..cues).map(|a| format!("A,0,0,1,{a},0\n")).collect();
     let leaves: String = (0..cues).map(|a| format!("L,{a},{}\n", a + 1)).collect();
     format!(
@@ -70,7 +71,10 @@ fn dictionary_order() {
     // Gaps are compared as numbers: 9 comes before 10.
     expect(12, &["b,10,1", "B,8,1"], &[9], 10);
     expect(12, &["B,9,1"], &[10], 11);
-    assert_eq!(found(&row(3, 2, &["B,0,1", "b,0,3"])), (Found { number: 0, line: 0, item: 0, cues: 3, nodes: 6, tried: 5 }, vec![1, 0]));
+    assert_eq!(
+        found(&row(3, 2, &["B,0,1", "b,0,3"])),
+        (Found { number: 0, line: 0, item: 0, cues: 3, nodes: 6, tried: 5 }, vec![1, 0])
+    );
 }
 
 #[test]
@@ -106,8 +110,16 @@ fn limit() {
 #[test]
 fn no_cue() {
     for empty in [1, 19, 20, 31] {
-        let text = format!("N,0,0,2,2,0,0,{}\nI,0\nM,0,{empty}{},0\nM,1,0,0\nP\nD,0\n{}", empty + 1, ",1".repeat(empty), "E,1,0\n".repeat(empty));
-        assert_eq!(found(&text), (Found { number: 0, line: 0, item: 0, cues: 0, nodes: empty as u32 + 1, tried: 1 }, vec![0; empty]));
+        let text = format!(
+            "N,0,0,2,2,0,0,{}\nI,0\nM,0,{empty}{},0\nM,1,0,0\nP\nD,0\n{}",
+            empty + 1,
+            ",1".repeat(empty),
+            "E,1,0\n".repeat(empty)
+        );
+        assert_eq!(
+            found(&text),
+            (Found { number: 0, line: 0, item: 0, cues: 0, nodes: empty as u32 + 1, tried: 1 }, vec![0; empty])
+        );
     }
 }
 

@@ -3,7 +3,9 @@
 //! cases, about a million choices of which none is accepted, or only the last.
 
 use super::extremes::{method, padded, skeleton};
-use super::{animate, draw_constraint, draw_methods, draw_palette, draw_size, grow, grow_within, is, not, place, spans_of};
+use super::{
+    animate, draw_constraint, draw_methods, draw_palette, draw_size, grow, grow_within, is, not, place, spans_of,
+};
 use super::{ActionSets, Constraint, Draft, Line, Method, Reading, Rng, Stage, Tree, Weave};
 
 /// How many choices there are, up to `most` and one more.
@@ -278,7 +280,8 @@ pub fn long(rng: &mut Rng) -> Vec<u8> {
         // Against choices with a digit less.
         let unit = if cues > 90 { 100 } else { 10 };
         let below = if small { gaps_of(&tree)[0] as usize } else { unit };
-        let short = |rng: &mut Rng, _| Some((0..empty).map(|n| rng.below(if n == 0 { below } else { unit }) as u32).collect());
+        let short =
+            |rng: &mut Rng, _| Some((0..empty).map(|n| rng.below(if n == 0 { below } else { unit }) as u32).collect());
         constrain_against(rng, &mut draft, &tree, 12, short);
     } else {
         constrain(rng, &mut draft, &tree, 3);
@@ -388,8 +391,8 @@ const OTHERS: u32 = 1;
 const LAST: u32 = 2;
 const ALL: u32 = OTHERS | LAST;
 
-/// So many cues and empty tasks, no choice accepted or only the last, and one or two constraints, or 64, of which those come last
-/// that fail by turns.
+/// So many cues and empty tasks, no choice accepted or only the last. The goal has one constraint or two; or 64, the first of which
+/// always hold, while the last ones fail by turns.
 pub fn dear(cues: usize, empty: usize, only_last: bool, sixty_four: bool) -> Draft {
     let turns = if cues > 100 { 32 } else { cues as u32 + 1 };
     let mut draft = turning(cues, turns, only_last);
@@ -399,7 +402,7 @@ pub fn dear(cues: usize, empty: usize, only_last: bool, sixty_four: bool) -> Dra
     put_cues(&mut draft, 0);
     let both = |asked| Constraint::Before(asked, ALL);
     let failing = match (cues, sixty_four, only_last) {
-        // Before the last task's gap no loading, and not after it either: one fails with gap 0, the other with gap 1.
+        // With gap 0 of the last task the first fails, with gap 1 the second: whichever broke last holds now.
         (1, true, true) => vec![Constraint::Between(LAST, is(TOP), ALL), Constraint::Order(1, 0)],
         (1, true, false) => vec![Constraint::Between(LAST, is(TOP), ALL), Constraint::Between(ALL, is(LOW), LAST)],
         (_, true, true) => after_turns(turns).into_iter().chain([both(is(TOP))]).collect(),
