@@ -142,7 +142,7 @@ impl<'a> Search<'a> {
         }
     }
 
-    /// Makes the entries. False if a constraint without empty tasks is broken.
+    /// Makes the entries, in the tree's order. False if a constraint without empty tasks is broken.
     ///
     /// The nodes are taken from the last to the first: the parts of a node's subtasks are then on top of a stack, the first
     /// subtask's above the others.
@@ -170,10 +170,11 @@ impl<'a> Search<'a> {
             stack[top] = [part.first, part.last, part.empty];
             top += 1;
         }
+        self.buckets.iter_mut().for_each(|bucket| bucket.reverse());
         true
     }
 
-    /// Makes the entries of a node; its subtasks' parts come last first.
+    /// Makes the entries of a node, from the last constraint to the first; its subtasks' parts come last first.
     fn gather_of(&mut self, case: &Case, node: &Node, whole: Part, subtasks: &[[u32; 3]]) -> bool {
         let method = &case.methods[node.label as usize];
         let subtask = |j: usize| unpacked(&subtasks[method.subtasks.len() - 1 - j]);
@@ -181,7 +182,7 @@ impl<'a> Search<'a> {
             0 => whole,
             _ => members(set).fold(Part::NONE, |part, j| part.joined(subtask(j))),
         };
-        for constraint in stretch(&case.constraints, &method.constraints) {
+        for constraint in stretch(&case.constraints, &method.constraints).iter().rev() {
             let (number, asked) = (constraint.number(), constraint.asked());
             let (from, to) = match number {
                 10 => (subtask(constraint.from as usize), subtask(constraint.to as usize)),
