@@ -258,7 +258,8 @@ def own():
     yield "between-two-empty-tasks-small", row(3, 2, ["O,0,1", "w,1,1,2", "F,0,3"]), exact
     yield "between-itself", row(3, 1, ["W,1,1,1"]), exact
     yield "between-no-state", row(3, 2, ["W,1,7,2"]), exact
-    yield "between-dent", Writer(D([E(), L(0), L(1), L(2), L(3)], ["W,1,0,16"]), [((), (), (), ()), ((), (), (), (0,)), ((), (), (0,), ()), ((), (), (), ())], initial=(0,)).text(), exact
+    dent = [((), (), (), ()), ((), (), (), (0,)), ((), (), (0,), ()), ((), (), (), ())]
+    yield "between-dent", Writer(D([E(), L(0), L(1), L(2), L(3)], ["W,1,0,16"]), dent, initial=(0,)).text(), exact
     yield "16-before-both-signs", row(3, 1, ["B,0,1", "b,0,1"]), exact
     yield "16-after-both-signs", row(3, 1, ["F,0,1", "f,0,1"]), exact
     yield "16-orders", row(3, 1, ["O,0,1", "O,1,0"]), exact
