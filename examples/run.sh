@@ -1,15 +1,16 @@
 #!/bin/sh
 # Builds the static library of crate capi, links it with the examples in C and Rust and runs them on a case. At the top of the repository:
 #   sh examples/run.sh [FILE [nodes]]
-# Prints what both print: first the check call's answer, then the tidy text, or the write call's refusal, then two steps. Fails if they differ.
-# Without FILE the case is examples/panel.case, the panel case with constraints out of order and one repeated.
+# Prints what both print: first the check call's answer, then the tidy text, or the write call's refusal, then the gaps found for the empty tasks, of this
+# case and of examples/gaps.case, then two steps. Fails if they differ. Without FILE the case is examples/panel.case, the panel case with constraints out of
+# order and one repeated. In examples/gaps.case "in km/h" is claimed in gap 0 and has to stand in gap 1: loading brings the figure in km/h with it.
 set -eu
 cd "$(dirname "$0")/.."
 [ $# -gt 0 ] || set -- examples/panel.case
 out=target/examples
 mkdir -p $out
 rt staticlib capi >/dev/null
-for example in check tidy step; do
+for example in check tidy gaps step; do
     "${CC:-cc}" -std=c99 -Wall -Wextra -O2 -I include examples/c/$example.c target/staticlib/libcapi.a -o $out/${example}_c
 done
 # A new archive alone does not make cargo link again.
@@ -21,6 +22,10 @@ $out/rust/release/check "$@" >$out/rust.txt
 # A refused case is told on standard error, with status 1.
 $out/tidy_c "$1" >>$out/c.txt 2>&1 || [ $? -eq 1 ]
 $out/rust/release/tidy "$1" >>$out/rust.txt 2>&1 || [ $? -eq 1 ]
+for case in "$1" examples/gaps.case; do
+    $out/gaps_c "$case" >>$out/c.txt
+    $out/rust/release/gaps "$case" >>$out/rust.txt
+done
 $out/step_c >>$out/c.txt
 $out/rust/release/step >>$out/rust.txt
 diff $out/c.txt $out/rust.txt

@@ -33,6 +33,13 @@ typedef struct cuecheck_written {
     uint32_t length;      /* of the text put out, in bytes */
 } cuecheck_written;
 
+/* What the call that finds the gaps answers. Accepted: number, line and item are 0. Refused: a row of the table in README.md, and the rest is 0. */
+typedef struct cuecheck_found {
+    uint32_t number, line, item;
+    uint32_t cues, nodes; /* k and n */
+    uint32_t tried;       /* one more than there are choices of gaps ahead of the one found */
+} cuecheck_found;
+
 /* A node of the tree. */
 typedef struct cuecheck_node {
     uint32_t letter; /* 1: D, 2: E, 3: L */
@@ -64,6 +71,17 @@ cuecheck_written cuecheck_write(const uint8_t *text, size_t text_len,
                                 cuecheck_node *nodes, size_t nodes_len,
                                 uint32_t *work, size_t work_len,
                                 uint8_t *output, size_t output_len);
+
+/* Looks for the gaps of the empty tasks. Those that the text claims must be readable and in range, and are set aside. Numbers 1 to 9 are refused as by
+   cuecheck_check; then, with e empty tasks, number 15 if (k + 1) to the power e is over 1,000,000, item e. Else the choices of a gap (0 to k) for each
+   empty task are tried in dictionary order, gaps compared as numbers, the first task in the tree's order slowest, and the first choice is taken with
+   which the text would be accepted; a text that its gaps would make longer than CUECHECK_TEXT is not. The lists as by the check of that text: each gap is
+   the place of its node's record. If there is none: number 16, item the number of choices. Both have line 0, and the lists are zero. Numbers 10 to 14
+   are not answered. */
+cuecheck_found cuecheck_find_gaps(const uint8_t *text, size_t text_len,
+                                  uint64_t *states, size_t states_len,
+                                  cuecheck_node *nodes, size_t nodes_len,
+                                  uint32_t *work, size_t work_len);
 
 /* Applies one action. 1: the next state is written in place of state; 0: state is as it came. state must not overlap the other four. */
 uint32_t cuecheck_step(uint64_t state[CUECHECK_WORDS],

@@ -1,13 +1,14 @@
 //! Median times of the two plain renderings' calls, the clear one's (plain) and the fast one's, and, with the feature
 //! linked (see compare_check.rs for the command), of the linked ones in the same run. First the check and replay calls, then
-//! the write call, beside the check call of the last rendering on the same input, and last the step call.
+//! the write call, beside the check call of the last rendering on the same input, then the call that finds the gaps, of the fast
+//! rendering and the linked one, which go by the same method (the clear one tries every choice), and last the step call.
 //!
 //! bench [ROUNDS [CASE]]
 
 use harness::compare::StepCall;
 use harness::gen::steps::{self, Step};
 use harness::gen::tangles::{self, Standing};
-use harness::gen::{extremes, Rng, Weave};
+use harness::gen::{extremes, gaps, Rng, Weave};
 use harness::lists::{Lengths, Lists};
 use harness::{fast, plain};
 use std::hint::black_box;
@@ -16,7 +17,7 @@ use std::time::{Duration, Instant};
 /// A call on a text with lists of the length asked for, and an output as long as the text.
 type Call = fn(&[u8], &mut Lists) -> u32;
 
-/// The check, replay or write call of one rendering; its answer's number.
+/// The check, replay or write call of one rendering, or the one that finds the gaps; its answer's number.
 macro_rules! call {
     ($rendering:ident check) => {
         |text, lists| {
@@ -28,6 +29,12 @@ macro_rules! call {
         |text, lists| {
             let (states, _, work) = lists.lend(Lengths::EXACT);
             $rendering::replay(text, states, work).number
+        }
+    };
+    ($rendering:ident find_gaps) => {
+        |text, lists| {
+            let (states, nodes, work) = lists.lend(Lengths::EXACT);
+            $rendering::find_gaps(text, states, nodes, work).number
         }
     };
     ($rendering:ident write) => {
@@ -48,12 +55,17 @@ const CALLS: [&[Call]; 2] = [
 #[cfg(feature = "linked")]
 const WRITES: &[Call] = &[call!(plain write), call!(fast write), call!(cuecheck write), call!(cuecheck check)];
 
+#[cfg(feature = "linked")]
+const FINDS: &[Call] = &[call!(fast find_gaps), call!(cuecheck find_gaps)];
+
 #[cfg(not(feature = "linked"))]
 const RENDERINGS: &[&str] = &["plain", "fast"];
 #[cfg(not(feature = "linked"))]
 const CALLS: [&[Call]; 2] = [&[call!(plain check), call!(fast check)], &[call!(plain replay), call!(fast replay)]];
 #[cfg(not(feature = "linked"))]
 const WRITES: &[Call] = &[call!(plain write), call!(fast write), call!(fast check)];
+#[cfg(not(feature = "linked"))]
+const FINDS: &[Call] = &[call!(fast find_gaps)];
 
 const PLAIN_STEP: StepCall = |state, &[needed, forbidden, added, deleted]| {
     let applies;
@@ -88,6 +100,8 @@ fn main() {
     println!();
     show_writing(&columns, rounds, &wanted);
     println!();
+    show_finding(rounds, &wanted);
+    println!();
     show_steps(&columns, rounds, &wanted);
 }
 
@@ -115,6 +129,51 @@ fn show_writing(columns: &str, rounds: usize, wanted: &str) {
         let ratio = writes[writes.len() - 1] / check;
         println!("{name:<28}{:>6} {answer:>6} | {} | {check:>9.1}{ratio:>7.2}", text.len(), row(writes));
     }
+}
+
+/// The call that finds the gaps. A case that takes long has fewer rounds: all of them together take about as long as `PATIENCE`, three at the least.
+fn show_finding(rounds: usize, wanted: &str) {
+    let columns = columns(RENDERINGS[1..].iter().map(|name| name.to_string()), "ratio".into());
+    println!("{:<34}{:>6} {:>6} {:>7} | gaps, in milliseconds; ratio is linked / fast", "", "", "", "");
+    println!("{:<34}{:>6} {:>6} {:>7} | {columns}", "case", "bytes", "answer", "rounds");
+    let mut cases = cases_to_find();
+    // Takes minutes: only if it is asked for.
+    if wanted == LEVELS {
+        cases.push((LEVELS.to_string(), gaps::dear_levels().text()));
+    }
+    for (name, text) in cases.into_iter().filter(|(name, _)| name.starts_with(wanted)) {
+        let mut lists = Lists::default();
+        let begin = Instant::now();
+        let answer = FINDS[0](&text, &mut lists);
+        let least = if wanted == LEVELS { 1 } else { 3 };
+        let rounds = rounds.min(PATIENCE.div_duration_f64(begin.elapsed()) as usize).max(least);
+        let times: Vec<f64> = medians_of_text(&text, FINDS, rounds).iter().map(|micros| micros / 1e3).collect();
+        let ratio = times.last().expect("a time") / times[0];
+        let cells = self::columns(times.iter().map(|time| format!("{time:.3}")), format!("{ratio:.2}"));
+        println!("{name:<34}{:>6} {answer:>6} {rounds:>7} | {cells}", text.len());
+    }
+}
+
+const PATIENCE: Duration = Duration::from_secs(2);
+
+const LEVELS: &str = "62 levels of 64 constraints";
+
+/// About a million choices, and no constraint that speaks of fewer tasks than all: every one of them is tried, where none is accepted, or only the last.
+fn cases_to_find() -> Vec<(String, Vec<u8>)> {
+    let mut cases = vec![
+        ("four nodes".to_string(), extremes::four_nodes().text()),
+        ("1000 cues, ordered (15)".to_string(), extremes::typical(1_000, 1_000, Weave::Ordered).text()),
+        ("1000 cues, one gap".to_string(), gaps::thousand().text()),
+    ];
+    for (constraints, sixty_four) in [("", false), (", 64 constraints", true)] {
+        for (cues, empty) in gaps::DEAR {
+            for (accepted, only_last) in [("none", false), ("last", true)] {
+                let text = gaps::dear(cues, empty, only_last, sixty_four).text();
+                cases.push((format!("k {cues}, e {empty}, {accepted}{constraints}"), text));
+            }
+        }
+    }
+    cases
 }
 
 /// The step call, a thousand times on a hundred inputs in turn.

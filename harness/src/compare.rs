@@ -3,7 +3,7 @@
 use crate::gen::steps::{self, Step};
 use crate::gen::{Inputs, FORMER, PROPOSITIONS};
 use crate::lists::{draw_output, Dirt, Lengths, Lists, OUTPUT};
-use crate::plain::{self, Reply, Set, Written};
+use crate::plain::{self, Found, Reply, Set, Written};
 use std::collections::BTreeMap;
 
 /// One side: a call on a text and the lists lent in these lengths.
@@ -25,6 +25,14 @@ pub type WriteCall = fn(&[u8], &mut Lists, Lengths, usize) -> Written;
 pub const PLAIN_WRITE: WriteCall = |text, lists, lengths, output| {
     let (states, nodes, work, output) = lists.lend_all(lengths, output);
     plain::write(text, states, nodes, work, output)
+};
+
+/// One side of the call that finds the gaps.
+pub type FindCall = fn(&[u8], &mut Lists, Lengths) -> Found;
+
+pub const PLAIN_FIND: FindCall = |text, lists, lengths| {
+    let (states, nodes, work) = lists.lend(lengths);
+    plain::find_gaps(text, states, nodes, work)
 };
 
 /// One side of the step call: a state, and the sets needed, forbidden, added and deleted.
@@ -175,6 +183,41 @@ pub fn run_write(plain: WriteCall, other: WriteCall, name: &str) -> BTreeMap<u32
     }
     let short = answers.get(&14).copied().unwrap_or(0);
     println!("{tidy} accepted inputs tidy already; {short} of {} outputs too short", 3 * asked.count);
+    tally.show(&asked);
+    answers
+}
+
+/// The same for the call that finds the gaps: once with lists of the length asked for, once with any.
+pub fn run_find(plain: FindCall, other: FindCall, name: &str) -> BTreeMap<u32, u64> {
+    let asked = Asked::by_arguments();
+    let inputs = Inputs::new(asked.seed);
+    let mut sides = (Lists::default(), Lists::default());
+    let mut answers = BTreeMap::new();
+    let (mut tally, mut later, mut tried) = (Tally::default(), 0, 0);
+    for number in asked.numbers() {
+        let mut rng = inputs.rng(number);
+        let text = inputs.text_to_find(&mut rng);
+        for (turn, lengths) in [Lengths::EXACT, Lengths::draw(&mut rng)].into_iter().enumerate() {
+            let dirt = Dirt::draw(&mut rng);
+            match compare(|lists| plain(&text, lists, lengths), |lists| other(&text, lists, lengths), dirt, &mut sides)
+            {
+                Ok(answer) => {
+                    *answers.entry(answer.number).or_default() += 1;
+                    if turn == 0 {
+                        tally.count(&text, answer.number);
+                        later += u64::from(answer.tried > 1);
+                        tried += u64::from(answer.tried);
+                    }
+                }
+                Err(difference) => {
+                    let lent = format!("{lengths:?}, lists full of {dirt:?}");
+                    end(&asked, number, &text, lent, name, difference)
+                }
+            }
+        }
+    }
+    let none = answers.get(&16).copied().unwrap_or(0);
+    println!("{later} inputs accepted not with the first choice; {tried} choices tried of those accepted; 16 answered {none} times");
     tally.show(&asked);
     answers
 }

@@ -1,20 +1,24 @@
-//! Document 01, with Cards 1 to 3 of document 02, once more, written for speed: the step, replay, check and write calls.
+//! Document 01, with Cards 1 to 4 of document 02, once more, written for speed: the step, replay, check and write calls, and
+//! the one that finds the gaps.
 //!
 //! One pass over the text fills tables on the stack and, for the check call, the lent records (`reading`); the plan is
 //! run into the lent states (`run`); the walk goes over the records once (`walking`), the constraints a second time
-//! (`constraints`); the write call copies what is in order and sorts the rest (`writing`). Spans of subtasks are kept in the lent work space. Nothing is allocated, and
+//! (`constraints`); the write call copies what is in order and sorts the rest (`writing`); the gaps are looked for with what is known of failed
+//! choices (`finding`). Spans of subtasks are kept in the lent work space. Nothing is allocated but what `finding` makes of the constraints, and
 //! nothing is cleared but the lent lists. A call needs 600 KiB of stack, or 224 KiB for a text of at most 4,096 bytes.
 
 mod case;
 mod constraints;
+mod finding;
 mod reading;
 mod walking;
 mod writing;
 
 use case::{with_tables, Action, Case};
 use constraints::first_broken;
-use cuecheck::{Accepted, Tidied};
-pub use cuecheck::{Node, Refusal, Reply, Set, Written};
+use cuecheck::{Accepted, Placed, Tidied};
+pub use cuecheck::{Found, Node, Refusal, Reply, Set, Written};
+use finding::find;
 use reading::read;
 use walking::walk;
 use writing::put_out;
@@ -82,6 +86,26 @@ pub fn write(text: &[u8], states: &mut [u64], nodes: &mut [Node], work: &mut [u3
     match written {
         Ok(Tidied { cues, nodes, length }) => Written { number: 0, line: 0, item: 0, cues, nodes, length },
         Err(Refusal { number, line, item }) => Written { number, line, item, cues: 0, nodes: 0, length: 0 },
+    }
+}
+
+/// The call that finds the gaps: the check call's part up to number 9, then numbers 15 and 16.
+pub fn find_gaps(text: &[u8], states: &mut [u64], nodes: &mut [Node], work: &mut [u32]) -> Found {
+    let short = [states.len() < STATES, nodes.len() < NODES, work.len() < WORK];
+    let found = within_limits(text, short).and_then(|()| {
+        with_tables(text.len(), |case| {
+            let Accepted { cues, nodes: count } = read(text, case, nodes)?;
+            let rows = run(case, states)?;
+            let records = &mut nodes[..count as usize];
+            walk(case, records, work)?;
+            let tried = find(text.len(), case, rows, records, work)?;
+            Ok(Placed { cues, nodes: count, tried })
+        })
+    });
+    clear(found.ok().map(|it| Accepted { cues: it.cues, nodes: it.nodes }), states, nodes, work);
+    match found {
+        Ok(Placed { cues, nodes, tried }) => Found { number: 0, line: 0, item: 0, cues, nodes, tried },
+        Err(Refusal { number, line, item }) => Found { number, line, item, cues: 0, nodes: 0, tried: 0 },
     }
 }
 

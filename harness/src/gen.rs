@@ -6,11 +6,13 @@
 //! one that doesn't), above all those that a slightly wrong reading of 01 would take otherwise.
 //! Then the draft or its text may be damaged (`damage`). Long stretches for betweens (`dents`) and
 //! texts at the size limits (`extremes`) are built by hand. For the write call constraints are put
-//! out of order and repeated (`tangles`). The step call has inputs of its own (`steps`).
+//! out of order and repeated (`tangles`). For the call that finds the gaps constraints tell choices of them
+//! apart (`gaps`). The step call has inputs of its own (`steps`).
 
 pub mod damage;
 mod dents;
 pub mod extremes;
+pub mod gaps;
 pub mod steps;
 pub mod tangles;
 
@@ -810,6 +812,37 @@ impl Inputs {
                 let mut text = tangles::piled(rng).text();
                 damage::text(rng, &mut text);
                 text
+            }
+        }
+    }
+}
+
+impl Inputs {
+    /// A text for the call that finds the gaps: of most a choice is accepted, and of most of these not the first. Where every
+    /// choice is to be tried, there are few.
+    pub fn text_to_find(&self, rng: &mut Rng) -> Vec<u8> {
+        match rng.below(1_000) {
+            0..=11 => return gaps::long(rng),
+            12..=31 => return gaps::around(rng).text(),
+            _ => {}
+        }
+        loop {
+            let text = match rng.below(1_000) {
+                0..=49 => self.text(rng),
+                50..=819 => gaps::sought(rng).text(),
+                820..=899 => {
+                    let mut draft = gaps::sought(rng);
+                    damage::draft(rng, &mut draft);
+                    draft.text()
+                }
+                _ => {
+                    let mut text = gaps::sought(rng).text();
+                    damage::text(rng, &mut text);
+                    text
+                }
+            };
+            if gaps::affordable(&text) {
+                return text;
             }
         }
     }

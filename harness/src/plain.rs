@@ -1,12 +1,14 @@
-//! Document 01, with Cards 1 to 3 of document 02, as a plain Rust program: the step, replay, check and write calls.
+//! Document 01, with Cards 1 to 4 of document 02, as a plain Rust program: the step, replay, check and write calls, and the
+//! one that finds the gaps.
 //!
 //! The text is read once into vectors (`read`), the plan is run into the lent state list
 //! (`run`), the claimed tree is walked (`Walk`), and the constraints are tried node by node
 //! (`first_broken`). Replay stops after `run`. The write call goes over the lines of a text that
-//! the check call accepted (`tidy`). Nothing here is proved; the module is the
+//! the check call accepted (`tidy`). To find the gaps every choice of them is put into the text and that
+//! text is checked (`first_accepted`). Nothing here is proved; the module is the
 //! yardstick of tests and benchmarks, so it is written for clarity first and speed second.
 
-pub use cuecheck::{Node, Refusal, Reply, Set, Written};
+pub use cuecheck::{Found, Node, Refusal, Reply, Set, Written};
 use std::ops::{Range, RangeBounds};
 
 /// The words of a state.
@@ -20,6 +22,8 @@ pub const NODES_ASKED: usize = 3_000;
 pub const WORK_ASKED: usize = 16_384;
 pub const TEXT_LIMIT: usize = 65_535;
 const LEVELS: u32 = 64;
+/// The most choices of gaps that are tried.
+pub const CHOICES: u32 = 1_000_000;
 
 type Checked<T> = Result<T, Refusal>;
 
@@ -87,6 +91,24 @@ pub fn write(text: &[u8], states: &mut [u64], nodes: &mut [Node], work: &mut [u3
     }
     output[..tidy.len()].copy_from_slice(&tidy);
     Written { number: 0, line: 0, item: 0, cues, nodes: count, length }
+}
+
+/// The call that finds the gaps: numbers 1 to 9 of the text as it came, then 15, then the check of the text with each
+/// choice of gaps in turn, and 16 if none is accepted.
+pub fn find_gaps(text: &[u8], states: &mut [u64], nodes: &mut [Node], work: &mut [u32]) -> Found {
+    let asked = [(states.len() < STATES_ASKED, 1), (nodes.len() < NODES_ASKED, 2), (work.len() < WORK_ASKED, 3)];
+    match first_accepted(text, &asked, states, nodes) {
+        Ok((text, tried)) => {
+            let Reply { cues, nodes, .. } = check(&text, states, nodes, work);
+            Found { number: 0, line: 0, item: 0, cues, nodes, tried }
+        }
+        Err(Refusal { number, line, item }) => {
+            states.fill(0);
+            nodes.fill(Node::default());
+            work.fill(0);
+            Found { number, line, item, cues: 0, nodes: 0, tried: 0 }
+        }
+    }
 }
 
 /// Everything of the replay call but the zeroing: numbers 1 to 5.
@@ -734,4 +756,80 @@ fn place_of(line: &[u8]) -> (usize, Vec<u32>) {
     let letter = IN_ORDER.iter().position(|&letter| letter == line[0]).expect("a constraint's letter");
     let fields = std::str::from_utf8(&line[1..]).expect("an accepted line").trim_end().split(',').skip(1);
     (letter, fields.map(|field| field.parse().expect("a plain number")).collect())
+}
+
+// ---------------------------------------------------------------- finding the gaps
+
+/// The first text that is accepted with a choice of gaps in place of those claimed, and the choice's number, from 1.
+fn first_accepted(
+    text: &[u8],
+    asked: &[(bool, u32)],
+    states: &mut [u64],
+    nodes: &mut [Node],
+) -> Checked<(Vec<u8>, u32)> {
+    let case = replay_with(text, asked, states)?;
+    walk(&case, nodes)?;
+    let empty = case.claims.iter().filter(|claim| matches!(claim, Claim::Empty { .. })).count();
+    let last = case.plan.len() as u32;
+    let choices = count_choices(last, empty);
+    if choices > CHOICES {
+        return refuse(15, 0, empty as u32);
+    }
+    let parts = cut_at_gaps(text);
+    let mut gaps = vec![0; empty];
+    for tried in 1..=choices {
+        let text = with_gaps(&parts, &gaps);
+        if check_with(&text, asked, states, nodes).is_ok() {
+            return Ok((text, tried));
+        }
+        next_choice(&mut gaps, last);
+    }
+    refuse(16, 0, choices)
+}
+
+/// How many choices there are of a gap from 0 to the last one for so many empty tasks; one more than `CHOICES` if they
+/// are over that.
+fn count_choices(last: u32, empty: usize) -> u32 {
+    let mut choices = 1;
+    for _ in 0..empty {
+        choices = (u64::from(choices) * u64::from(last + 1)).min(u64::from(CHOICES) + 1) as u32;
+    }
+    choices
+}
+
+/// A readable text without the gaps of its E lines: what stands before each of them, and what follows the last.
+fn cut_at_gaps(text: &[u8]) -> Vec<&[u8]> {
+    let mut parts = Vec::new();
+    let (mut begin, mut at) = (0, 0);
+    for line in text.split_inclusive(|&byte| byte == b'\n') {
+        if line[0] == b'E' {
+            let comma = line.iter().rposition(|&byte| byte == b',').expect("a gap");
+            parts.push(&text[begin..=at + comma]);
+            begin = at + line.len() - 1;
+        }
+        at += line.len();
+    }
+    parts.push(&text[begin..]);
+    parts
+}
+
+/// The text with these gaps.
+fn with_gaps(parts: &[&[u8]], gaps: &[u32]) -> Vec<u8> {
+    let mut text = parts[0].to_vec();
+    for (gap, part) in gaps.iter().zip(&parts[1..]) {
+        text.extend_from_slice(gap.to_string().as_bytes());
+        text.extend_from_slice(part);
+    }
+    text
+}
+
+/// The next choice in dictionary order, the first gap slowest; after the last choice the first.
+fn next_choice(gaps: &mut [u32], last: u32) {
+    for gap in gaps.iter_mut().rev() {
+        if *gap < last {
+            *gap += 1;
+            return;
+        }
+        *gap = 0;
+    }
 }

@@ -1,5 +1,5 @@
 #!/usr/bin/env python3
-"""Document 01, with Cards 1 to 3 of document 02, rendered a second time, as naively as it can be
+"""Document 01, with Cards 1 to 4 of document 02, rendered a second time, as naively as it can be
 said, to cross-check plain.rs.
 
 Sets of ints, fractions for half indexes, the text cut at line feeds and commas, a tree of
@@ -7,12 +7,14 @@ objects. It shares no code and no data layout with the Rust rendering.
 
     naive.py cases FOLDER     every .case of the folder against its .expect
     naive.py cards FOLDER     the folders of a card's cases (call, case, expect, expect.output):
-                              those that call check, replay or write and hold now
+                              those that call check, replay, write or gaps and hold now
     naive.py stored FOLDER    the stored cases of the write call (args, data, stdout)
+    naive.py stored-gaps FOLDER    those of the call that finds the gaps
     naive.py dump FILE        every record that the program `dump` wrote (texts with the plain
                               rendering's answers and lists)
 """
 
+import itertools
 import math
 import re
 import struct
@@ -24,7 +26,7 @@ PLAIN = re.compile(rb"0|[1-9][0-9]*")
 
 # How many cards have landed; a state's words and the most propositions; the most cues; what is asked
 # of the lent lists.
-LANDED = 3
+LANDED = 4
 WORDS = 8
 PROPOSITIONS = 64 * WORDS
 CUES = 1000
@@ -371,6 +373,31 @@ def tidy(text):
     return "".join(line + "\n" for line in done).encode()
 
 
+def find_gaps(text, states_len, nodes_len, work_len):
+    """The call that finds the gaps: answer, states and nodes, flat."""
+    # 01's checks down to 9: of the check's refusals all but those of the constraints.
+    answer, _, _ = call(text, states_len, nodes_len, work_len, True)
+    if 1 <= answer[0] <= 9:
+        return answer + (0,), [], []
+    lines = text.decode().splitlines()
+    empty = [i for i, line in enumerate(lines) if line.startswith("E")]
+    k = int(lines[0].split(",")[6])
+    if (k + 1) ** len(empty) > 1000000:
+        return (15, 0, len(empty), 0, 0, 0), [], []
+    tried = 0
+    # Products come in dictionary order, the last place fastest.
+    for gaps in itertools.product(range(k + 1), repeat=len(empty)):
+        tried += 1
+        for i, gap in zip(empty, gaps):
+            letter, m, _ = lines[i].split(",")
+            lines[i] = f"{letter},{m},{gap}"
+        changed = "".join(line + "\n" for line in lines).encode()
+        answer, states, records = call(changed, states_len, nodes_len, work_len, True)
+        if answer[0] == 0:
+            return answer + (tried,), states, records
+    return (16, 0, tried, 0, 0, 0), [], []
+
+
 def trimmed(numbers):
     """Without the zeros at the end."""
     while numbers and numbers[-1] == 0:
@@ -379,7 +406,7 @@ def trimmed(numbers):
 
 
 def printed(answer):
-    """As the programs print it; an accepted write call with its length."""
+    """As the programs print it; an accepted write call with its length, found gaps with the number tried."""
     return "Y," + ",".join(map(str, answer[3:])) + "\n" if answer[0] == 0 else "R,%d,%d,%d\n" % answer[:3]
 
 
@@ -405,12 +432,14 @@ def compare_cards(folder):
     for case in sorted(Path(folder).glob("*/call")):
         words = dict(line.split(" ", 1) for line in case.read_text().splitlines() if line[0] != "#")
         since, until = words["holds"].split("-")
-        if words["call"] not in ("check", "replay", "write") or not int(since) <= LANDED <= int(until):
+        if words["call"] not in ("check", "replay", "write", "gaps") or not int(since) <= LANDED <= int(until):
             continue
         lengths = [int(words.get(name, asked)) for name, asked in (("states", STATES), ("nodes", NODES), ("work", WORK))]
         text = case.with_name("case").read_bytes()
         if words["call"] == "write":
             answer, states, records, output = write(text, *lengths, int(words["output"]))
+        elif words["call"] == "gaps":
+            (answer, states, records), output = find_gaps(text, *lengths), b""
         else:
             (answer, states, records), output = call(text, *lengths, words["call"] == "check"), b""
         count += 1
@@ -448,6 +477,37 @@ def compare_stored(folder):
     return differing + len(told)
 
 
+# Stored cases with more choices tried are left out: each is a check.
+PATIENCE = 3000
+
+
+def compare_stored_gaps(folder):
+    """Four words to a case: its file, the lengths of the three lists. An accepted one is followed by its node records."""
+    folder = Path(folder)
+    words = (folder / "args").read_text().split()
+    told = (folder / "stdout").read_text().splitlines(keepends=True)
+    count = differing = left_out = 0
+    for i in range(0, len(words), 4):
+        name, *lengths = words[i : i + 4]
+        own = [told.pop(0)]
+        while told and told[0].startswith("T,"):
+            own.append(told.pop(0))
+        count += 1
+        letter, *numbers = own[0].split()[-1].split(",")
+        if int(numbers[2]) > PATIENCE and (letter == "Y" or numbers[0] == "16"):
+            left_out += 1
+            continue
+        answer, _, records = find_gaps((folder / "data" / name).read_bytes(), *map(int, lengths))
+        due = [" ".join(words[i : i + 4]) + " " + printed(answer)]
+        for node in range(0, len(records), 5):
+            due.append("T," + ",".join(map(str, records[node : node + 5])) + "\n")
+        if own != due:
+            differing += 1
+            print(f"{name}: {due[:3]!r}, stored {own[:3]!r}")
+    print(f"{count} cases, {left_out} of them left out, {differing} differences, {len(told)} lines over")
+    return differing + len(told)
+
+
 class Dump:
     def __init__(self, path):
         self.data = Path(path).read_bytes()
@@ -469,14 +529,19 @@ class Dump:
             replay = tuple(self.numbers("I", 5)), self.list("Q"), [], self.list("I")
             output = self.numbers("I", 1)[0]
             written = tuple(self.numbers("I", 6)), self.list("Q"), self.list("I"), self.list("I"), bytes(self.list("B"))
-            yield text, lengths, check, replay, output, written
+            found = None
+            if self.numbers("I", 1)[0]:
+                found = tuple(self.numbers("I", 6)), self.list("Q"), self.list("I"), self.list("I")
+            yield text, lengths, check, replay, output, written, found
 
 
 def compare_dump(path):
     count = differing = 0
     numbers = {}
     writes = {}
-    for text, lengths, check, replay, output_len, written in Dump(path).records():
+    finds = {}
+    later = 0
+    for text, lengths, check, replay, output_len, written, found in Dump(path).records():
         for name, plain, whole in (("check", check, True), ("replay", replay, False)):
             answer, states, records = call(text, *lengths, whole)
             naive = answer, trimmed(states), trimmed(records), []
@@ -494,13 +559,30 @@ def compare_dump(path):
                 print(f"input {count}, write, lengths {lengths}, {output_len}: naive {answer}, plain {written[0]}")
                 print(text[:2000])
         writes[answer[0]] = writes.get(answer[0], 0) + 1
+        if found:
+            answer, states, records = find_gaps(text, *lengths)
+            if (answer, trimmed(states), trimmed(records), []) != found:
+                differing += 1
+                if differing <= 10:
+                    print(f"input {count}, gaps, lengths {lengths}: naive {answer}, plain {found[0]}")
+                    print(text[:2000])
+            finds[answer[0]] = finds.get(answer[0], 0) + 1
+            later += answer[5] > 1
         count += 1
     print("check answers by number:", dict(sorted(numbers.items())))
     print("write answers by number:", dict(sorted(writes.items())))
+    print("gaps answers by number:", dict(sorted(finds.items())), "accepted not with the first choice:", later)
     print(f"{count} inputs, {differing} differences")
     return differing
 
 
 if __name__ == "__main__":
     kind, path = sys.argv[1:]
-    sys.exit(1 if {"cases": compare_cases, "cards": compare_cards, "stored": compare_stored, "dump": compare_dump}[kind](path) else 0)
+    kinds = {
+        "cases": compare_cases,
+        "cards": compare_cards,
+        "stored": compare_stored,
+        "stored-gaps": compare_stored_gaps,
+        "dump": compare_dump,
+    }
+    sys.exit(1 if kinds[kind](path) else 0)

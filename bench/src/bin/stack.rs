@@ -25,6 +25,17 @@ fn levels(count: usize, deep_last: bool, constraints: usize) -> String {
     format!("N,{constraints},0,2,3,0,0,{n}\nI,0\nM,0,32{subtasks},{constraints}\n{lines}M,1,0,0\nM,0,0,0\nP\n{nodes}")
 }
 
+/// As many choices of gaps as there may be with one cue: 19 empty tasks at the end of as many chains down to level 64, with 64 constraints on each
+/// node. The first of them needs gap 1.
+fn nineteen() -> String {
+    let lines = |constraints: usize| (0..constraints).map(|p| format!("b,{p},0\n")).collect::<String>();
+    let chain = format!("{}E,2,0\n", "D,1\n".repeat(62));
+    let (goal, link, end) = (format!("M,1,20{},0,1\nO,19,0\n", ",2".repeat(19)), "M,2,1,2,64\n", "M,2,0,64\n");
+    let nodes = format!("D,0\n{}L,0,1\n", chain.repeat(19));
+    let n = nodes.lines().count();
+    format!("N,64,1,2,3,1,1,{n}\nI,0\nA,0,0,0,0\n{goal}{link}{0}{end}{0}P,0\n{nodes}", lines(64))
+}
+
 /// Paints the stack below this frame, calls, and counts from the lowest byte that lost its paint.
 #[inline(never)]
 fn touched(call: &mut dyn FnMut()) -> usize {
@@ -39,7 +50,7 @@ fn touched(call: &mut dyn FnMut()) -> usize {
     PAINTED - kept + GAP
 }
 
-fn measured(text: String) -> (u32, usize, usize, usize) {
+fn measured(text: String) -> (u32, [usize; 4]) {
     let run = move || {
         let (mut states, mut nodes, mut work) = (vec![0; STATES], vec![Node::default(); NODES], vec![0; WORK]);
         let mut number = 0;
@@ -49,22 +60,24 @@ fn measured(text: String) -> (u32, usize, usize, usize) {
         let mut output = vec![0; text.len()];
         let write =
             touched(&mut || _ = cuecheck::write(text.as_bytes(), &mut states, &mut nodes, &mut work, &mut output));
-        (number, check, replay, write)
+        let gaps = touched(&mut || _ = cuecheck::find_gaps(text.as_bytes(), &mut states, &mut nodes, &mut work));
+        (number, [check, replay, write, gaps])
     };
     std::thread::Builder::new().stack_size(8 * PAINTED).spawn(run).expect("a thread").join().expect("a measure")
 }
 
 fn main() {
-    println!("{:<34}{:>8}{:>10}{:>10}{:>10}", "case", "answer", "check", "replay", "write");
+    println!("{:<34}{:>8}{:>10}{:>10}{:>10}{:>10}", "case", "answer", "check", "replay", "write", "gaps");
     let cases = [
         ("64 levels, the deep one first", levels(64, false, 0)),
         ("64 levels, the deep one last", levels(64, true, 0)),
         ("64 levels, 64 constraints", levels(64, true, 64)),
         ("65 levels, the deep one last", levels(65, true, 0)),
         ("2 levels", levels(2, true, 0)),
+        ("a cue, 19 empty tasks on level 64", nineteen()),
     ];
     for (name, text) in cases {
-        let (number, check, replay, write) = measured(text);
-        println!("{name:<34}{number:>8}{check:>10}{replay:>10}{write:>10}");
+        let (number, [check, replay, write, gaps]) = measured(text);
+        println!("{name:<34}{number:>8}{check:>10}{replay:>10}{write:>10}{gaps:>10}");
     }
 }

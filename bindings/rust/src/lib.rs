@@ -66,6 +66,27 @@ pub struct Tidied {
     pub length: u32,
 }
 
+/// What the call that finds the gaps answers: number 0 with k, n and how many choices of gaps were tried, or a row of the table in README.md with all
+/// three 0.
+#[repr(C)]
+#[derive(Clone, Copy, Debug, PartialEq, Eq)]
+pub struct Found {
+    pub number: u32,
+    pub line: u32,
+    pub item: u32,
+    pub cues: u32,
+    pub nodes: u32,
+    pub tried: u32,
+}
+
+/// k, n and how many choices of gaps were tried: one more than there are ahead of the one found.
+#[derive(Clone, Copy, Debug, PartialEq, Eq)]
+pub struct Placed {
+    pub cues: u32,
+    pub nodes: u32,
+    pub tried: u32,
+}
+
 /// A row of the table in README.md.
 #[derive(Clone, Copy, Debug, PartialEq, Eq)]
 pub struct Refusal {
@@ -92,7 +113,16 @@ impl Written {
     }
 }
 
+impl Found {
+    pub fn result(self) -> Result<Placed, Refusal> {
+        match self.number {
+            0 => Ok(Placed { cues: self.cues, nodes: self.nodes, tried: self.tried }),
+            number => Err(Refusal { number, line: self.line, item: self.item }),
+        }
+    }
+}
+
 #[cfg(feature = "linked")]
 mod linked;
 #[cfg(feature = "linked")]
-pub use linked::{check, replay, step, write};
+pub use linked::{check, find_gaps, replay, step, write};

@@ -1,6 +1,6 @@
 //! The calls. This is the only file with unsafe code: each passes a slice's own pointer and length, which is what the declarations ask for.
 
-use crate::{Node, Reply, Set, Written};
+use crate::{Found, Node, Reply, Set, Written};
 
 // Not bundled into this crate: a new archive only needs the programs to be linked again.
 #[link(name = "capi", kind = "static", modifiers = "-bundle")]
@@ -35,6 +35,16 @@ extern "C" {
         output: *mut u8,
         output_len: usize,
     ) -> Written;
+    fn cuecheck_find_gaps(
+        text: *const u8,
+        text_len: usize,
+        states: *mut u64,
+        states_len: usize,
+        nodes: *mut Node,
+        nodes_len: usize,
+        work: *mut u32,
+        work_len: usize,
+    ) -> Found;
     fn cuecheck_step(
         state: *mut Set,
         needed: *const Set,
@@ -86,6 +96,26 @@ pub fn write(text: &[u8], states: &mut [u64], nodes: &mut [Node], work: &mut [u3
             work.len(),
             output.as_mut_ptr(),
             output.len(),
+        )
+    }
+}
+
+/// Looks for gaps: the ones that the text claims must be readable and in range, and are set aside. Numbers 1 to 9 as for `check`, then 15 if there are
+/// over 1,000,000 choices (item the number of empty tasks). Else the choices are tried in dictionary order, the first empty task slowest, and the first
+/// with which the text would be accepted is answered: the lists as by the check of that text, each gap in its node's record. 16 if there is none, item
+/// the number of choices.
+pub fn find_gaps(text: &[u8], states: &mut [u64], nodes: &mut [Node], work: &mut [u32]) -> Found {
+    // SAFETY: as in `check`.
+    unsafe {
+        cuecheck_find_gaps(
+            text.as_ptr(),
+            text.len(),
+            states.as_mut_ptr(),
+            states.len(),
+            nodes.as_mut_ptr(),
+            nodes.len(),
+            work.as_mut_ptr(),
+            work.len(),
         )
     }
 }

@@ -4,7 +4,7 @@
 #[path = "../../src/plain.rs"]
 mod plain;
 
-use plain::{Node, Reply, Set, Written, STATES_ASKED, WORK_ASKED};
+use plain::{Found, Node, Reply, Set, Written, STATES_ASKED, WORK_ASKED};
 use std::slice::{from_raw_parts, from_raw_parts_mut};
 
 /// # Safety
@@ -62,6 +62,27 @@ pub unsafe extern "C" fn cuecheck_write(
     let Written { number, line, item, cues, nodes, length } = plain::write(text, states, nodes, work, output);
     let Reply { number, line, item, cues, nodes } = spoiled(Reply { number, line, item, cues, nodes }, states, work);
     Written { number, line, item, cues, nodes, length }
+}
+
+/// # Safety
+/// Each pointer is valid for its length, and no two lists overlap.
+#[no_mangle]
+pub unsafe extern "C" fn cuecheck_find_gaps(
+    text: *const u8,
+    text_len: usize,
+    states: *mut u64,
+    states_len: usize,
+    nodes: *mut Node,
+    nodes_len: usize,
+    work: *mut u32,
+    work_len: usize,
+) -> Found {
+    let (text, states, work) =
+        (from_raw_parts(text, text_len), from_raw_parts_mut(states, states_len), from_raw_parts_mut(work, work_len));
+    let nodes = from_raw_parts_mut(nodes, nodes_len);
+    let Found { number, line, item, cues, nodes, tried } = plain::find_gaps(text, states, nodes, work);
+    let Reply { number, line, item, cues, nodes } = spoiled(Reply { number, line, item, cues, nodes }, states, work);
+    Found { number, line, item, cues, nodes, tried }
 }
 
 /// # Safety

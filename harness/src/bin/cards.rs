@@ -1,19 +1,19 @@
 //! Runs both plain renderings and, with the feature linked (see compare_check.rs for the command), the library on the worked
 //! cases of document 02's cards. A case is a folder with `call`, `case`, `expect` and perhaps `expect.output`; of a card's
-//! folder those are run that call check, replay or write and hold now.
+//! folder those are run that call check, replay, write or gaps and hold now.
 //!
 //! cards FOLDER...
 
 use cuecheck::WORDS;
 use harness::lists::{Dirt, Lengths, Lists};
-use harness::plain::{Node, Reply, Written};
+use harness::plain::{Found, Node, Reply, Written};
 use harness::{fast, plain};
 use std::collections::BTreeMap;
 use std::fs::{read, read_to_string};
 use std::path::{Path, PathBuf};
 
 /// How many cards have landed.
-const LANDED: u32 = 3;
+const LANDED: u32 = 4;
 
 /// The calls of one rendering.
 struct Rendering {
@@ -21,13 +21,27 @@ struct Rendering {
     check: fn(&[u8], &mut [u64], &mut [Node], &mut [u32]) -> Reply,
     replay: fn(&[u8], &mut [u64], &mut [u32]) -> Reply,
     write: fn(&[u8], &mut [u64], &mut [Node], &mut [u32], &mut [u8]) -> Written,
+    find_gaps: fn(&[u8], &mut [u64], &mut [Node], &mut [u32]) -> Found,
+}
+
+/// The calls of a module.
+macro_rules! rendering {
+    ($name:literal, $module:ident) => {
+        Rendering {
+            name: $name,
+            check: $module::check,
+            replay: $module::replay,
+            write: $module::write,
+            find_gaps: $module::find_gaps,
+        }
+    };
 }
 
 const RENDERINGS: &[Rendering] = &[
-    Rendering { name: "plain", check: plain::check, replay: plain::replay, write: plain::write },
-    Rendering { name: "fast", check: fast::check, replay: fast::replay, write: fast::write },
+    rendering!("plain", plain),
+    rendering!("fast", fast),
     #[cfg(feature = "linked")]
-    Rendering { name: "linked", check: cuecheck::check, replay: cuecheck::replay, write: cuecheck::write },
+    rendering!("linked", cuecheck),
 ];
 
 /// The answer with states and records, the text put out, and whether all that is left of the lists is zero.
@@ -77,7 +91,7 @@ impl Case {
         let words: BTreeMap<&str, &str> = call.lines().filter_map(|line| line.split_once(' ')).collect();
         let (since, until) = words["holds"].split_once('-').expect("from and to");
         let holds = (since.parse().expect("a card")..=until.parse().expect("a card")).contains(&LANDED);
-        if !holds || !["check", "replay", "write"].contains(&words["call"]) {
+        if !holds || !["check", "replay", "write", "gaps"].contains(&words["call"]) {
             return None;
         }
         let length = |list: &str, asked: usize| words.get(list).map_or(asked, |n| n.parse().expect("a length"));
@@ -107,15 +121,21 @@ impl Case {
         let (states, nodes, work, output) = lists.lend_all(self.lengths, self.output);
         // The replay call is lent no records.
         let nodes = if self.call == "replay" { &mut [] } else { nodes };
-        let written = match &self.call[..] {
-            "check" => without_text((rendering.check)(&self.text, states, nodes, work)),
-            "replay" => without_text((rendering.replay)(&self.text, states, work)),
-            _ => (rendering.write)(&self.text, states, nodes, work, output),
+        let mut length = 0;
+        let (reply, own) = match &self.call[..] {
+            "check" => ((rendering.check)(&self.text, states, nodes, work), None),
+            "replay" => ((rendering.replay)(&self.text, states, work), None),
+            "gaps" => found((rendering.find_gaps)(&self.text, states, nodes, work)),
+            _ => {
+                let written = (rendering.write)(&self.text, states, nodes, work, output);
+                length = written.length;
+                without_text(written)
+            }
         };
-        let Written { number, line, item, cues, nodes: count, length } = written;
-        let mut answer = match number {
-            0 if self.call == "write" => format!("Y,{cues},{count},{length}\n"),
-            0 => format!("Y,{cues},{count}\n"),
+        let Reply { number, line, item, cues, nodes: count } = reply;
+        let mut answer = match (number, own) {
+            (0, Some(own)) => format!("Y,{cues},{count},{own}\n"),
+            (0, None) => format!("Y,{cues},{count}\n"),
             _ => format!("R,{number},{line},{item}\n"),
         };
         let rows = if number == 0 { cues as usize + 1 } else { 0 };
@@ -132,8 +152,13 @@ impl Case {
     }
 }
 
-fn without_text(Reply { number, line, item, cues, nodes }: Reply) -> Written {
-    Written { number, line, item, cues, nodes, length: 0 }
+/// The answer, and the number that is the call's own.
+fn without_text(Written { number, line, item, cues, nodes, length }: Written) -> (Reply, Option<u32>) {
+    (Reply { number, line, item, cues, nodes }, Some(length))
+}
+
+fn found(Found { number, line, item, cues, nodes, tried }: Found) -> (Reply, Option<u32>) {
+    (Reply { number, line, item, cues, nodes }, Some(tried))
 }
 
 fn numbers(node: Node) -> [u64; 5] {

@@ -1,8 +1,9 @@
-//! Compares the fast rendering with the clear one, and shows how often each answer came up.
+//! Compares the fast rendering with the clear one, all calls or one (check, replay, write, gaps, step), and shows how often each
+//! answer came up.
 //!
-//! compare_plain COUNT SEED
+//! compare_plain COUNT SEED [CALL]
 
-use harness::compare::{self, Call, WriteCall};
+use harness::compare::{self, Call, FindCall, WriteCall};
 use harness::fast;
 use std::collections::BTreeMap;
 
@@ -15,18 +16,28 @@ fn main() {
         let (states, _, work) = lists.lend(lengths);
         fast::replay(text, states, work)
     };
-    for (name, plain, fast) in [("check", compare::PLAIN_CHECK, check), ("replay", compare::PLAIN_REPLAY, replay)] {
-        println!("{name}");
-        show(compare::run(plain, fast, "fast"));
-    }
     let write: WriteCall = |text, lists, lengths, output| {
         let (states, nodes, work, output) = lists.lend_all(lengths, output);
         fast::write(text, states, nodes, work, output)
     };
-    println!("write");
-    show(compare::run_write(compare::PLAIN_WRITE, write, "fast"));
-    println!("step");
-    compare::run_step(fast::step, "fast");
+    let find: FindCall = |text, lists, lengths| {
+        let (states, nodes, work) = lists.lend(lengths);
+        fast::find_gaps(text, states, nodes, work)
+    };
+    let wanted = std::env::args().nth(3).filter(|word| word != "trace");
+    for call in ["check", "replay", "write", "gaps", "step"] {
+        if wanted.as_ref().is_some_and(|wanted| wanted != call) {
+            continue;
+        }
+        println!("{call}");
+        match call {
+            "check" => show(compare::run(compare::PLAIN_CHECK, check, "fast")),
+            "replay" => show(compare::run(compare::PLAIN_REPLAY, replay, "fast")),
+            "write" => show(compare::run_write(compare::PLAIN_WRITE, write, "fast")),
+            "gaps" => show(compare::run_find(compare::PLAIN_FIND, find, "fast")),
+            _ => compare::run_step(fast::step, "fast"),
+        }
+    }
 }
 
 fn show(answers: BTreeMap<u32, u64>) {

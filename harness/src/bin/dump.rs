@@ -4,12 +4,13 @@
 //!
 //! A record, all numbers little-endian: the text, three list lengths, the check call's answer,
 //! states, nodes and work, the replay call's answer, states and work, the length of an output, the
-//! write call's answer, states, nodes, work and output. A list is its count and its members; the
-//! zeros at the end of a lent list are left out, but not those of the output.
+//! write call's answer, states, nodes, work and output, then 0, or 1 and the answer, states, nodes and
+//! work of the call that finds the gaps. A list is its count and its members; the zeros at the end of a
+//! lent list are left out, but not those of the output.
 
-use harness::gen::Inputs;
+use harness::gen::{gaps, Inputs};
 use harness::lists::{draw_output, Dirt, Lengths, Lists, OUTPUT};
-use harness::plain::{check, replay, write, Node, Reply, Written};
+use harness::plain::{check, find_gaps, replay, write, Found, Node, Reply, Written};
 use std::io::{BufWriter, Result, Write};
 
 fn main() -> Result<()> {
@@ -23,7 +24,11 @@ fn main() -> Result<()> {
     let mut lists = Lists::with_output();
     for number in 0..count.parse().expect("a count") {
         let mut rng = inputs.rng(number);
-        let text = if rng.percent(50) { inputs.text(&mut rng) } else { inputs.text_to_write(&mut rng) };
+        let text = match rng.below(4) {
+            0 => inputs.text(&mut rng),
+            1 => inputs.text_to_write(&mut rng),
+            _ => inputs.text_to_find(&mut rng),
+        };
         let lengths = if rng.percent(85) { Lengths::EXACT } else { Lengths::draw(&mut rng) };
         write_list(&mut out, &text, |byte| vec![byte])?;
         for length in [lengths.states, lengths.nodes, lengths.work] {
@@ -54,6 +59,16 @@ fn main() -> Result<()> {
         write_list(&mut out, &flat(nodes), |number| number.to_le_bytes().to_vec())?;
         write_list(&mut out, work, |number| number.to_le_bytes().to_vec())?;
         write_list(&mut out, output, |byte| vec![byte])?;
+        let finds = gaps::affordable(&text);
+        out.write_all(&u32::from(finds).to_le_bytes())?;
+        if finds {
+            lists.soil(Dirt::draw(&mut rng));
+            let (states, nodes, work) = lists.lend(lengths);
+            write_found(&mut out, find_gaps(&text, states, nodes, work))?;
+            write_list(&mut out, states, |word| word.to_le_bytes().to_vec())?;
+            write_list(&mut out, &flat(nodes), |number| number.to_le_bytes().to_vec())?;
+            write_list(&mut out, work, |number| number.to_le_bytes().to_vec())?;
+        }
     }
     out.flush()
 }
@@ -67,6 +82,12 @@ fn write_written(out: &mut impl Write, answer: Written) -> Result<()> {
     let Written { number, line, item, cues, nodes, length } = answer;
     write_answer(out, Reply { number, line, item, cues, nodes })?;
     out.write_all(&length.to_le_bytes())
+}
+
+fn write_found(out: &mut impl Write, answer: Found) -> Result<()> {
+    let Found { number, line, item, cues, nodes, tried } = answer;
+    write_answer(out, Reply { number, line, item, cues, nodes })?;
+    out.write_all(&tried.to_le_bytes())
 }
 
 fn write_answer(out: &mut impl Write, answer: Reply) -> Result<()> {

@@ -7,7 +7,7 @@ use std::mem::MaybeUninit;
 
 /// Tries every node's constraints in order: numbers 10 to 13.
 pub fn first_broken(case: &Case, rows: &[Set], nodes: &[Node], spans: &[u32]) -> Checked<()> {
-    let mut columns = Columns { rows, columns: [const { MaybeUninit::uninit() }; PROPOSITIONS], made: [0; WORDS] };
+    let mut columns = Columns::new(rows);
     let mut next_span = 0;
     for (at, node) in nodes.iter().enumerate().filter(|(_, node)| node.letter != 3) {
         let method = &case.methods[node.label as usize];
@@ -38,11 +38,7 @@ impl Scene<'_> {
             12 => self.is_so(self.span_of(from).last(), constraint.asked()),
             _ => {
                 let (first, end) = (self.span_of(from).last(), self.span_of(to).first());
-                match end.saturating_sub(first) {
-                    0 => true,
-                    1 => self.is_so(first, constraint.asked()),
-                    _ => columns.is_so_throughout(first, end - 1, constraint.asked()),
-                }
+                columns.is_so_before(first, end, constraint.asked())
             }
         }
     }
@@ -92,13 +88,34 @@ const COLUMN: usize = STRETCHES + 2;
 /// For each proposition a column, made when it is first asked for, with either sign. A bit is set if the proposition is
 /// false in that state; in the last two words, if it is false, or true, in any state of that word. All of them are more
 /// than the lent work space holds.
-struct Columns<'a> {
+pub struct Columns<'a> {
     rows: &'a [Set],
     columns: [MaybeUninit<[u32; COLUMN]>; PROPOSITIONS],
     made: Set,
 }
 
-impl Columns<'_> {
+impl<'a> Columns<'a> {
+    #[inline(always)]
+    pub fn new(rows: &'a [Set]) -> Columns<'a> {
+        Columns { rows, columns: [const { MaybeUninit::uninit() }; PROPOSITIONS], made: [0; WORDS] }
+    }
+
+    /// Whether a state is as asked.
+    #[inline(always)]
+    pub fn is_so(&self, state: u32, asked: Signed) -> bool {
+        asked.is_so_in(&self.rows[state as usize])
+    }
+
+    /// Whether each state from `first` on and before `end` is as asked, if there is any.
+    #[inline(always)]
+    pub fn is_so_before(&mut self, first: u32, end: u32, asked: Signed) -> bool {
+        match end.saturating_sub(first) {
+            0 => true,
+            1 => self.is_so(first, asked),
+            _ => self.is_so_throughout(first, end - 1, asked),
+        }
+    }
+
     /// Whether each state from `first` to `last` is as asked.
     #[inline(never)]
     fn is_so_throughout(&mut self, first: u32, last: u32, asked: Signed) -> bool {
