@@ -1,0 +1,2 @@
+-- Laws of the search, for the proofs here.
+pub mod Skipping
