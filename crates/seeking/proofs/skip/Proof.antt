@@ -4,7 +4,7 @@ use mathlib.Core.Bool.{Bool}
 use native.Mathlib.Omega.{arith}
 use borrow.Author.Needs.{needs}
 use borrow.Author.Tests.{not-true, not-false}
-use Rattle.choices.specs.Searching.{Next, next, over, nextOf, advanced}
+use Rattle.choices.specs.Searching.{next, over, nextOf, advanced}
 use Rattle.seeking.proofs.Skipping.{blame-inside, nearer, goes, none-left}
 use Rattle.seeking.proofs.skip.Statement.{statement}
 use Rattle.seeking.proofs.skip.Tie as tie
