@@ -128,7 +128,8 @@ returns-2 c =
     let l = m .before .before .before .before .before .before .before .before .before .before .before .before in
     let a = l .before .before .before .before .before .before .before .before .before .args in (
       λ e. let z : _≡_ {A = ℕ} 0 1 = cc in absurd (omega arith),
-      ended (inRow (a .states .now)) (a .k) (a .spare) (a .pool .now) (a .choice .now) (a .why .now) (l .loop .choice) (l .loop .why) (l .loop .inv .0) (m .match .set) (because m)
+      ended (inRow (a .states .now)) (a .k) (a .spare) (a .pool .now) (a .choice .now)
+          (a .why .now) (l .loop .choice) (l .loop .why) (l .loop .inv .0) (m .match .set) (because m)
           (v .skip .result) (v .skip .last .0) (v .skip .last .1 .0) (c .if1 .taken) (v .skip .ensures .1),
     )
 
@@ -141,7 +142,8 @@ loop-less c =
     let m = v .before .before .before in
     let l = m .before .before .before .before .before .before .before .before .before .before .before .before in
     let a = l .before .before .before .before .before .before .before .before .before .args in
-    fewer (inRow (a .states .now)) (a .k) (a .spare) (a .pool .now) (a .choice .now) (a .why .now) (l .loop .choice) (l .loop .why) (l .loop .inv .0) (m .match .set) (because m)
+    fewer (inRow (a .states .now)) (a .k) (a .spare) (a .pool .now) (a .choice .now)
+    (a .why .now) (l .loop .choice) (l .loop .why) (l .loop .inv .0) (m .match .set) (because m)
     (v .skip .result) (v .skip .last .0) (c .if1 .left) (v .skip .ensures .0 .1)
 
 loop-again : tie.Need-loop-again Inv-loop μ-loop
@@ -150,7 +152,8 @@ loop-again c =
     let m = v .before .before .before in
     let l = m .before .before .before .before .before .before .before .before .before .before .before .before in
     let a = l .before .before .before .before .before .before .before .before .before .args in (
-      moved (inRow (a .states .now)) (a .k) (a .spare) (a .pool .now) (a .choice .now) (a .why .now) (l .loop .choice) (l .loop .why) (l .loop .inv .0) (m .match .set) (because m)
+      moved (inRow (a .states .now)) (a .k) (a .spare) (a .pool .now) (a .choice .now)
+          (a .why .now) (l .loop .choice) (l .loop .why) (l .loop .inv .0) (m .match .set) (because m)
           (v .skip .result) (v .skip .last .0) (v .skip .last .1 .0) (c .if1 .left) (v .skip .ensures .0 .1) (v .skip .kept .1 .0) (v .skip .ensures .1),
       search needs,
       search needs,

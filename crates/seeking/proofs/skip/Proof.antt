@@ -16,7 +16,8 @@ advance-requires : tie.Need-advance-requires
 advance-requires c κs =
     let l = c .before .before .before in
     let a = l .before .before .before .before .before in
-    (a .pre .0, blame-inside (a .args .k) (a .args .set) (l .learn .result) (a .args .choice .now) (a .args .why .now) (l .learn .last .1 .0) (l .learn .ensures))
+    let g = a .args in
+    (a .pre .0, blame-inside (g .k) (g .set) (l .learn .result) (g .choice .now) (g .why .now) (l .learn .last .1 .0) (l .learn .ensures))
 
 same-length : tie.Need-same-length
 same-length c = search needs
