@@ -112,9 +112,8 @@ impl Entry {
 
 struct Search<'a> {
     columns: Columns<'a>,
-    /// The entries by the last of their empty tasks, and of each bucket the one that broke last.
+    /// The entries by the last of their empty tasks; in each bucket those that broke lately come first.
     buckets: [Vec<Entry>; EMPTY],
-    broke: [usize; EMPTY],
     empty: usize,
     last_gap: u32,
     choice: Choice,
@@ -132,7 +131,6 @@ impl<'a> Search<'a> {
         Search {
             columns: Columns::new(rows),
             buckets: Default::default(),
-            broke: [0; EMPTY],
             empty,
             last_gap,
             choice: [0; 32],
@@ -215,16 +213,11 @@ impl<'a> Search<'a> {
     /// Because of which tasks the choice fails, if it does: what speaks only of tasks ahead of the one that changed is known to hold.
     #[inline(always)]
     fn failing(&mut self, changed: usize) -> Option<u32> {
-        let Search { buckets, broke, choice, columns, .. } = self;
-        for (bucket, broke) in buckets.iter().zip(broke).take(self.empty).skip(changed) {
-            let broken = match bucket.get(*broke) {
-                None => continue,
-                Some(entry) if !entry.holds(choice, columns) => Some(*broke),
-                _ => bucket.iter().position(|entry| !entry.holds(choice, columns)),
-            };
-            if let Some(at) = broken {
-                *broke = at;
-                return Some(bucket[at].empty());
+        let Search { buckets, choice, columns, .. } = self;
+        for bucket in buckets.iter_mut().take(self.empty).skip(changed) {
+            if let Some(at) = bucket.iter().position(|entry| !entry.holds(choice, columns)) {
+                bucket[..=at].rotate_right(1);
+                return Some(bucket[0].empty());
             }
         }
         if self.may_overrun {
