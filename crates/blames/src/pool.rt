@@ -1,6 +1,6 @@
 // Entries in buckets, and the first that is broken.
 ghost use mathlib.Core.Path.{_≡_};
-ghost use mathlib.Core.Bool.{Bool};
+ghost use mathlib.Core.Bool.{Bool, true};
 ghost use mathlib.Core.List.{List};
 ghost use Prim.Native.Nat.{ℕ, _+_, _*_, _<_, _≤_};
 ghost use lib.ListN.{length};
@@ -8,7 +8,7 @@ ghost use Rattle.rules.specs.Constraint.{Holds};
 ghost use Rattle.rules.specs.Gaps.{Within};
 ghost use Rattle.rows.specs.Rows.{inRow};
 ghost use Rattle.columns.specs.Columns.{Columns};
-ghost use Rattle.blames.specs.Entries.{entryAt, SlotInside, EntrySound, PoolFits, PoolSound};
+ghost use Rattle.blames.specs.Entries.{entryAt, SlotInside, EntryFits, EntrySound, PoolFits, PoolSound};
 ghost use Rattle.blames.specs.Tests.{Broken, Says};
 use crate::entry::Entry;
 use crate::entry::keeps_entry;
@@ -22,16 +22,19 @@ pub const BUCKET: usize = 128;
 // How many numbers hold all of them, six to an entry.
 pub const POOL: usize = 6 * POSITIONS * BUCKET;
 
+// How many numbers hold the turns, one to a slot.
+pub const ORDER: usize = POSITIONS * BUCKET;
+
 // What a test says of a choice: nothing against it; or the set of positions because of which it fails.
 pub enum Cause {
     None,
     Because { set: u32 },
 }
 
-// Which slot is broken, if one is.
+// Which slot is broken, if one is, and in which turn it was tried.
 enum Hit {
     None,
-    At { slot: usize },
+    At { slot: usize, turn: usize },
 }
 
 // The entry of a slot.
@@ -74,26 +77,37 @@ fn last_of(set: u32) -> usize
     (31 - u32::leading_zeros(set)) as usize
 }
 
+// Whether an entry fits: its indexes lie between the first gap and the last one, its positions below those that there are.
+pub fn fits(k: u32, positions: u32, x: Entry) -> bool
+    requires { ⌜ (k ≤ 1000) × (positions ≤ 19) ⌝ }
+    ensures { λ r. ⌜ (r ≡ true → EntryFits k positions x) ⌝ }
+{
+    if x.start < 1 {
+        return false;
+    }
+    if 2 * k + 1 < x.start {
+        return false;
+    }
+    if 2 * k + 1 < x.end {
+        return false;
+    }
+    let set = x.ends | x.starts;
+    if subsets::all(positions) < set {
+        return false;
+    }
+    true
+}
+
 // An entry put into the bucket of its last position, if it fits and there is room.
 pub fn push(pool: &mut [u32], counts: &mut [u32], k: u32, positions: u32, x: Entry)
     requires { ⌜ (k ≤ 1000) × (positions ≤ 19) × (length (now pool) ≡ 14592) × (length (now counts) ≡ 19) ⌝ }
     ensures { λ _. ⌜ (PoolFits k positions (now (pool .entry)) → PoolFits k positions (now (pool .exit))) ⌝ }
-    ensures { λ _. ⌜ ((holds : Holds) (passing : List ℕ → Bool) → PoolSound holds passing k positions (now (pool .entry)) → EntrySound holds passing k positions x → PoolSound holds passing k positions (now (pool .exit))) ⌝ }
+    ensures { λ _. ⌜ ((holds : Holds) (passing : List ℕ → Bool) → PoolSound holds passing k positions (now (pool .entry)) → (EntryFits k positions x → EntrySound holds passing k positions x) → PoolSound holds passing k positions (now (pool .exit))) ⌝ }
 {
-    if x.start < 1 {
+    if !fits(k, positions, x) {
         return;
     }
-    if 2 * k + 1 < x.start {
-        return;
-    }
-    if 2 * k + 1 < x.end {
-        return;
-    }
-    let set = x.ends | x.starts;
-    if subsets::all(positions) < set {
-        return;
-    }
-    let bucket = last_of(set);
+    let bucket = last_of(x.ends | x.starts);
     if POSITIONS <= bucket {
         return;
     }
@@ -105,12 +119,34 @@ pub fn push(pool: &mut [u32], counts: &mut [u32], k: u32, positions: u32, x: Ent
     put_entry(pool, bucket * BUCKET + count, x);
 }
 
-// The broken one of a bucket's entries: the one that broke last is tried first.
+// Each bucket's slots in turn, before any is broken. Nothing is promised: any order is right.
+pub fn in_order(order: &mut [u32]) {
+    let mut i: usize = 0;
+    while i < order.len() {
+        order[i] = (i % BUCKET) as u32;
+        i += 1;
+    }
+}
+
+// The slot of turn i comes first, those before it one turn later. Nothing is promised: any order is right.
+fn to_front(turns: &mut [u32], i: usize)
+    requires { ⌜ i < length (now turns) ⌝ }
+{
+    let front = turns[i];
+    let mut j = i;
+    while 0 < j {
+        turns[j] = turns[j - 1];
+        j -= 1;
+    }
+    turns[0] = front;
+}
+
+// The first broken one of a bucket's entries, in their turns.
 fn broken_in(
     pool: &[u32],
     first: usize,
     count: usize,
-    hot: usize,
+    turns: &[u32],
     choice: &[u32],
     k: u32,
     states: &[u64],
@@ -118,33 +154,34 @@ fn broken_in(
     built: &mut [u64],
 ) -> Hit
     requires { ⌜ (k ≤ 1000) × Within k (now choice) × (length (now choice) ≤ 32) × PoolFits k (length (now choice)) (now pool) ⌝ }
-    requires { ⌜ 6 * (first + count) ≤ length (now pool) ⌝ }
+    requires { ⌜ (6 * (first + count) ≤ length (now pool)) × (count ≤ length (now turns)) ⌝ }
     requires { ⌜ Columns (now states) (k + 1) (now columns) (now built) ⌝ }
-    ensures { λ r. ⌜ Broken (inRow (now (states .entry))) (now (pool .entry)) (now (choice .entry)) first r ⌝ }
+    ensures { λ r. ⌜ Broken (inRow (now (states .entry))) (now (pool .entry)) (now (choice .entry)) (length (now (turns .entry))) r ⌝ }
     ensures { λ _. ⌜ Columns (now (states .entry)) (k + 1) (now (columns .exit)) (now (built .exit)) ⌝ }
 {
-    if hot < count {
-        let x = entry_at(pool, first + hot);
-        if !keeps_entry(x, choice, k, states, columns, built) {
-            return Hit::At { slot: first + hot };
-        }
-    }
     let mut i: usize = 0;
     while i < count {
-        let x = entry_at(pool, first + i);
-        if !keeps_entry(x, choice, k, states, columns, built) {
-            return Hit::At { slot: first + i };
+        let place = turns[i] as usize;
+        if place < count {
+            let x = entry_at(pool, first + place);
+            if !keeps_entry(x, choice, k, states, columns, built) {
+                return Hit::At {
+                    slot: first + place,
+                    turn: i,
+                };
+            }
         }
         i += 1;
     }
     Hit::None
 }
 
-// The first broken entry from a bucket on, by its positions. What it says where it finds none is left open: the caller tries such a choice whole.
+// The first broken entry from a bucket on, by its positions; its slot's turn in its bucket is the first from then on. What is said where none is
+// found is left open: the caller tries such a choice whole.
 pub fn test(
     pool: &[u32],
     counts: &[u32],
-    hot: &mut [u32],
+    order: &mut [u32],
     from: usize,
     choice: &[u32],
     k: u32,
@@ -153,7 +190,7 @@ pub fn test(
     built: &mut [u64],
 ) -> Cause
     requires { ⌜ (k ≤ 1000) × Within k (now choice) × (length (now choice) ≤ 19) × PoolFits k (length (now choice)) (now pool) ⌝ }
-    requires { ⌜ (length (now pool) ≡ 14592) × (length (now counts) ≡ 19) × (length (now hot) ≡ 19) ⌝ }
+    requires { ⌜ (length (now pool) ≡ 14592) × (length (now counts) ≡ 19) × (length (now order) ≡ 2432) ⌝ }
     requires { ⌜ Columns (now states) (k + 1) (now columns) (now built) ⌝ }
     ensures { λ r. ⌜ Says (inRow (now (states .entry))) (now (pool .entry)) (now (choice .entry)) r ⌝ }
     ensures { λ _. ⌜ Columns (now (states .entry)) (k + 1) (now (columns .exit)) (now (built .exit)) ⌝ }
@@ -161,13 +198,14 @@ pub fn test(
     let mut s = from;
     while s < choice.len() {
         let first = s * BUCKET;
+        let past = first + BUCKET;
         let full = counts[s] as usize;
         let count = if full < BUCKET { full } else { BUCKET };
         let hit = broken_in(
             pool,
             first,
             count,
-            hot[s] as usize,
+            &order[first..past],
             choice,
             k,
             states,
@@ -175,8 +213,8 @@ pub fn test(
             built,
         );
         match hit {
-            Hit::At { slot } => {
-                hot[s] = (slot - first) as u32;
+            Hit::At { slot, turn } => {
+                to_front(&mut order[first..past], turn);
                 let x = entry_at(pool, slot);
                 return Cause::Because {
                     set: x.ends | x.starts,
