@@ -59,7 +59,7 @@ pub fn seek(
     why: &mut [u32],
     pool: &[u32],
     counts: &[u32],
-    hot: &mut [u32],
+    order: &mut [u32],
     k: u32,
     spare: u32,
     states: &[u64],
@@ -67,14 +67,14 @@ pub fn seek(
     built: &mut [u64],
 ) -> bool
     requires { ⌜ (k ≤ 1000) × Within k (now choice) × (length (now choice) ≤ 19) × (length (now why) ≡ length (now choice)) ⌝ }
-    requires { ⌜ PoolFits k (length (now choice)) (now pool) × (length (now pool) ≡ 14592) × (length (now counts) ≡ 19) × (length (now hot) ≡ 19) ⌝ }
+    requires { ⌜ PoolFits k (length (now choice)) (now pool) × (length (now pool) ≡ 14592) × (length (now counts) ≡ 19) × (length (now order) ≡ 2432) ⌝ }
     requires { ⌜ Columns (now states) (k + 1) (now columns) (now built) ⌝ }
     ensures within { λ r. ⌜ (r ≡ true → Within k (now (choice .exit))) ⌝ }
     ensures sought { λ r. ⌜ ((passing : List ℕ → Bool) → PoolSound (inRow (now (states .entry))) passing k (length (now (choice .entry))) (now (pool .entry)) → LongFails passing k (length (now (choice .entry))) spare → Known passing k (now (why .entry)) (now (choice .entry)) → Sought passing k (now (choice .entry)) r (now (choice .exit)) (now (why .exit))) ⌝ }
 {
     let mut from: usize = 0;
     loop {
-        let set = match blames::test(pool, counts, hot, from, choice, k, states, columns, built) {
+        let set = match blames::test(pool, counts, order, from, choice, k, states, columns, built) {
             Cause::Because { set } => set,
             Cause::None => match too_long(choice, k, spare) {
                 Cause::Because { set } => set,

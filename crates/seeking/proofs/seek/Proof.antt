@@ -15,15 +15,15 @@ use Rattle.seeking.proofs.seek.Statement.{statement}
 use Rattle.seeking.proofs.seek.Tie as tie
 
 abbrev Inv-loop : tie.InvT-loop
-Inv-loop choice₀ why₀ pool counts hot₀ k spare states columns₀ built₀ from₀ choice why hot columns built from =
+Inv-loop choice₀ why₀ pool counts order₀ k spare states columns₀ built₀ from₀ choice why order columns built from =
     Searched (inRow states) k spare pool choice₀ why₀ choice why
-    × (length hot ≡ length hot₀)
+    × (length order ≡ length order₀)
     × (length columns ≡ length columns₀)
     × (length built ≡ length built₀)
     × Columns states (k + 1) columns built
 
 abbrev μ-loop : tie.MeasureT-loop
-μ-loop choice₀ why₀ pool counts hot₀ k spare states columns₀ built₀ from₀ choice why hot columns built from = length (onFrom k choice)
+μ-loop choice₀ why₀ pool counts order₀ k spare states columns₀ built₀ from₀ choice why order columns built from = length (onFrom k choice)
 
 loop-holds : tie.Need-loop-holds Inv-loop μ-loop
 loop-holds c =
