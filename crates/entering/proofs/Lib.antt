@@ -1,0 +1,3 @@
+-- Laws of what the constraints say of every choice of gaps.
+pub mod Cuts
+pub mod Told
