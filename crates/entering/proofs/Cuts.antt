@@ -6,7 +6,8 @@ use mathlib.Core.List.{List·Memᴰ as Mem}
 use Prim.Native.Nat.{ℕ, zero, suc, _+_, _<_}
 use native.Mathlib.Omega.{arith}
 use lib.ListN.{length, getD, take, drop}
-use Rattle.rules.specs.Case.{NodeLine, Constraint, Case}
+use Rattle.rules.specs.Case.{NodeLine, Case}
+use Rattle.rules.specs.Fields.{lineFields, linesFields, nodeLine}
 use Rattle.rules.specs.Tree.{Tree, leaf, empty, task, Trees, noTree, more, preorder, preorders, rootLine}
 use Rattle.rules.specs.Constraint.{constraintsOf}
 use Rattle.rules.specs.Gaps.{emptyCount}
@@ -26,6 +27,13 @@ map-drop : {A B : Type 0} (f : A → B) (n : ℕ) (l : List A) → map f (drop n
 map-drop f zero l = refl
 map-drop f (suc n) [] = refl
 map-drop f (suc n) (x ∷ l) = map-drop f n l
+
+-- The fields of lines in two lots.
+pub lines-join : (xs ys : List NodeLine) → linesFields (map nodeLine (xs ++ ys)) ≡ linesFields (map nodeLine xs) ++ linesFields (map nodeLine ys)
+lines-join [] ys = refl
+lines-join (x ∷ xs) ys =
+    ap (λ (l : List ℕ). lineFields (nodeLine x) ++ l) (lines-join xs ys)
+    ∙ sym (append-assoc (lineFields (nodeLine x)) (linesFields (map nodeLine xs)) (linesFields (map nodeLine ys)))
 
 -- ---- A node with other gaps
 

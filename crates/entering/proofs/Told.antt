@@ -18,7 +18,7 @@ use Rattle.rules.proofs.Judgement.Each.{Each, each-tail}
 use Rattle.subsets.specs.Members.{membersOf}
 use Rattle.subsets.proofs.Members.{pick-members, members-cons, members-below}
 use Rattle.parts.proofs.Letters.{only-span}
-use Rattle.entering.specs.declared.Part.{Part}
+use Rattle.entering.specs.declared.sums.Part.{Part}
 use Rattle.entering.specs.Entering.{Tells}
 use Rattle.entering.specs.Parts.{joined, partIn, joinedWith, partOfSet, noSpan, PartsTell}
 

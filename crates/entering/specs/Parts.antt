@@ -6,7 +6,7 @@ use lib.Bits.{bitOr}
 use lib.ListN.{length, getD}
 use Rattle.rules.specs.Index.{Span}
 use Rattle.subsets.specs.Members.{membersOf}
-use Rattle.entering.specs.declared.Part.{Part}
+use Rattle.entering.specs.declared.sums.Part.{Part}
 use Rattle.entering.specs.Entering.{Tells}
 
 -- Two parts together.
