@@ -1,4 +1,4 @@
--- The parts of subtasks made in turn: of all the trees, those that are left stand at a node and a place, and the parts of the others are
+-- The parts of trees made in turn: of all the trees, those that are left stand at a node and a place, and the parts of the others are
 -- stored. Assumes nothing.
 use mathlib.Core.Path.{_≡_, refl, sym, ap, subst, _∙_}
 use mathlib.Core.List.{List, _++_, map}
@@ -23,7 +23,7 @@ use Rattle.parts.specs.Spans.{nodeAfter, RowInside}
 use Rattle.constraints.proofs.Held.{RowIs, root-row, preorder-length, countOf}
 use Rattle.entering.specs.declared.sums.Part.{Part}
 use Rattle.entering.specs.Parts.{partIn}
-use Rattle.entering.specs.Subtasks.{SubtasksStand, PartSays, PartsSaid}
+use Rattle.entering.specs.Trees.{TreesStand, PartSays, PartsSaid}
 use Rattle.entering.proofs.Cuts.{lines-join}
 
 abbrev fieldsOf : List NodeLine → List ℕ
@@ -31,7 +31,7 @@ fieldsOf ns = linesFields (map nodeLine ns)
 
 -- ---- The first of trees that stand
 
-module _ {fields work : List ℕ} {n place before count : ℕ} {x : Tree} {xs : Trees} (w : SubtasksStand fields work n place before count (more x xs)) where
+module _ {fields work : List ℕ} {n place before count : ℕ} {x : Tree} {xs : Trees} (w : TreesStand fields work n place before count (more x xs)) where
   this-row : RowIs work n (span x) (n + size x)
   this-row = root-row work x n (w .rows .0)
 
@@ -72,7 +72,7 @@ module _ {fields work : List ℕ} {n place before count : ℕ} {x : Tree} {xs : 
   pub this-empties : before + emptyCount (linesOf x) ≤ 32
   this-empties = let a = all-empties in omega (arith, empties-lines x)
 
-  later-stand : {place′ : ℕ} → place′ ≡ place + length (fieldsOf (linesOf x)) → SubtasksStand fields work (n + size x) place′ (before + emptiesIn x) (count - 1) xs
+  later-stand : {place′ : ℕ} → place′ ≡ place + length (fieldsOf (linesOf x)) → TreesStand fields work (n + size x) place′ (before + emptiesIn x) (count - 1) xs
   later-stand e =
       let a = all-nodes in
       let b = all-empties in
@@ -124,14 +124,14 @@ module _ (sums : List ℕ) (j : ℕ) (q : Part) where
 
 pub record Summing (fields work : List ℕ) (cues first count : ℕ) (ts : Trees) (sums : List ℕ) (n place before j : ℕ) : Type 0 where
   pub left : Trees
-  pub due : SubtasksStand fields work n place before (count - j) left
+  pub due : TreesStand fields work n place before (count - j) left
   pub rest : (new : List ℕ) → ((i : ℕ) → i < 3 * j → getD new i 0 ≡ getD sums i 0) → PartsSaid cues before left new j → PartsSaid cues first ts new 0
 
 pub summing-starts : {fields work : List ℕ} {first count : ℕ} {ts : Trees} {n place : ℕ} (cues : ℕ) (sums : List ℕ)
-    → SubtasksStand fields work n place first count ts → Summing fields work cues first count ts sums n place first 0
+    → TreesStand fields work n place first count ts → Summing fields work cues first count ts sums n place first 0
 summing-starts {fields} {work} {first} {count} {ts} {n} {place} cues sums w =
     let e : count ≡ count - 0 = omega arith in
-    record { left = ts; due = subst (λ (c : ℕ). SubtasksStand fields work n place first c ts) e w; rest = λ new same said. said }
+    record { left = ts; due = subst (λ (c : ℕ). TreesStand fields work n place first c ts) e w; rest = λ new same said. said }
 
 module _ {fields work : List ℕ} {cues first count : ℕ} {ts : Trees} {sums : List ℕ} {n place before j : ℕ}
     (p : Summing fields work cues first count ts sums n place before j) where
@@ -140,14 +140,14 @@ module _ {fields work : List ℕ} {cues first count : ℕ} {ts : Trees} {sums : 
     pub this : Tree
     pub later : Trees
     pub lefts : p .left ≡ more this later
-    pub stand : SubtasksStand fields work n place before (count - j) (more this later)
+    pub stand : TreesStand fields work n place before (count - j) (more this later)
 
   pub tree-due : j < count → Due
   tree-due some = go (p .left) refl
     where
       go : (xs : Trees) → p .left ≡ xs → Due
       go noTree e = let c = p .due .counted in let z = ap countOf e in absurd (omega arith)
-      go (more x xs) e = record { this = x; later = xs; lefts = e; stand = subst (SubtasksStand fields work n place before (count - j)) e (p .due) }
+      go (more x xs) e = record { this = x; later = xs; lefts = e; stand = subst (TreesStand fields work n place before (count - j)) e (p .due) }
 
   -- Its part is stored.
   pub summing-on : (x : Due) → 3 * j + 2 < length sums → (q : Part) → PartSays cues before (linesOf (x .this)) q → (after next empties : ℕ) → after ≡ nodeAfter work n
@@ -159,9 +159,9 @@ module _ {fields work : List ℕ} {cues first count : ℕ} {ts : Trees} {sums : 
       let left : count - j - 1 ≡ count - (j + 1) = omega arith in
       record {
         left = x .later;
-        due = subst (λ (m : ℕ). SubtasksStand fields work m next (before + empties) (count - (j + 1)) (x .later)) node
-            (subst (λ (m : ℕ). SubtasksStand fields work (n + size (x .this)) next m (count - (j + 1)) (x .later)) gaps
-            (subst (λ (m : ℕ). SubtasksStand fields work (n + size (x .this)) next (before + emptiesIn (x .this)) m (x .later)) left (later-stand (x .stand) b)));
+        due = subst (λ (m : ℕ). TreesStand fields work m next (before + empties) (count - (j + 1)) (x .later)) node
+            (subst (λ (m : ℕ). TreesStand fields work (n + size (x .this)) next m (count - (j + 1)) (x .later)) gaps
+            (subst (λ (m : ℕ). TreesStand fields work (n + size (x .this)) next (before + emptiesIn (x .this)) m (x .later)) left (later-stand (x .stand) b)));
         rest = λ new same said.
             p .rest new (λ i h. same i (omega arith) ∙ stored-below sums j q i h)
             (subst (λ (xs : Trees). PartsSaid cues before xs new j) (sym (x .lefts)) (

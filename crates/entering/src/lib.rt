@@ -50,7 +50,7 @@ fn part_of(sum: Sum, first: u32) -> Part {
 }
 
 // The parts of so many subtasks, the first of them node `node`, whose line stands at `at`, after `first` empty tasks.
-fn sum_subtasks(
+fn sum_trees(
     fields: &[u32],
     work: &[u32],
     node: u32,
@@ -236,7 +236,7 @@ fn enter_node(
     let nodes = parts::after_at(work, x.n) - x.n;
     let own = part_of(gaps::sum_lines(fields, x.at, nodes as usize, k), x.first);
     let mut sums = [0u32; SUMS];
-    sum_subtasks(fields, work, x.n + 1, x.at + node_size(x.letter), x.first, subtasks, k, &mut sums);
+    sum_trees(fields, work, x.n + 1, x.at + node_size(x.letter), x.first, subtasks, k, &mut sums);
     enter_lines(fields, counted + 1, count, own, &sums, k, choice, pool, counts, states, columns, built);
 }
 

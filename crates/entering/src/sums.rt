@@ -6,7 +6,7 @@ ghost use Rattle.rules.specs.State.{bit};
 ghost use Rattle.rules.specs.Tree.{Trees};
 ghost use Rattle.gaps.specs.Sums.{inRun};
 ghost use Rattle.entering.specs.Parts.{joined, partIn, partOfSet};
-ghost use Rattle.entering.specs.Subtasks.{SubtasksStand, PartsSaid};
+ghost use Rattle.entering.specs.Trees.{TreesStand, PartsSaid};
 use gaps::Sum;
 
 // What a part of a task says of its span: the least and the greatest cue below it, and the positions of the empty tasks there.
@@ -28,8 +28,8 @@ pub fn part_of(sum: Sum, first: u32) -> Part
     }
 }
 
-// The parts of so many subtasks, the first of them node `node`, whose line stands at `at`, after `first` empty tasks.
-pub fn sum_subtasks(
+// The parts of so many trees, as those of a task's subtasks, the first of them node `node`, whose line stands at `at`, after `first` empty tasks.
+pub fn sum_trees(
     fields: &[u32],
     work: &[u32],
     node: u32,
@@ -40,8 +40,8 @@ pub fn sum_subtasks(
     sums: &mut [u32],
 )
     requires { ⌜ (cues ≤ 1000) × (3 * count ≤ length (now sums)) ⌝ }
-    requires { ⌜ ((ts : Trees) × SubtasksStand (now fields) (now work) node at first count ts) ⌝ }
-    ensures { λ _. ⌜ ((ts : Trees) → SubtasksStand (now (fields .entry)) (now (work .entry)) node at first count ts → PartsSaid cues first ts (now (sums .exit)) 0) ⌝ }
+    requires { ⌜ ((ts : Trees) × TreesStand (now fields) (now work) node at first count ts) ⌝ }
+    ensures { λ _. ⌜ ((ts : Trees) → TreesStand (now (fields .entry)) (now (work .entry)) node at first count ts → PartsSaid cues first ts (now (sums .exit)) 0) ⌝ }
 {
     let mut n = node;
     let mut place = at;

@@ -1,4 +1,4 @@
--- The lines of a task's subtasks among the fields, their rows, and what the parts made of them say. Assumes nothing.
+-- The lines of trees in a row among the fields, the rows of their nodes, and what the parts made of them say. Assumes nothing.
 use mathlib.Core.Path.{_≡_}
 use mathlib.Core.List.{List, map}
 use Prim.Native.Nat.{ℕ, _+_, _≤_}
@@ -19,8 +19,8 @@ use Rattle.gaps.specs.Sums.{lowOf, highOf, inRun}
 use Rattle.entering.specs.declared.sums.Part.{Part}
 use Rattle.entering.specs.Parts.{partIn}
 
--- The trees of so many subtasks: their rows from a node on, their lines from a place on, after `first` empty tasks.
-pub record SubtasksStand (fields work : List ℕ) (node at first count : ℕ) (ts : Trees) : Type 0 where
+-- So many trees, as those of a task's subtasks: their rows from a node on, their lines from a place on, after `first` empty tasks.
+pub record TreesStand (fields work : List ℕ) (node at first count : ℕ) (ts : Trees) : Type 0 where
   pub header : Header
   pub few-cues : header .cues ≤ 1000
   pub rows : HeldAll work ts node

@@ -1,7 +1,7 @@
--- `sum_subtasks`: the trees that are left stand at a node and a place, and the parts of the others are stored (Summing). Assumes nothing.
+-- `sum_trees`: the trees that are left stand at a node and a place, and the parts of the others are stored (Summing). Assumes nothing.
 use Prim.Native.Nat.{ℕ, _+_, _-_, _*_, _<_}
 use Rattle.entering.proofs.Summing.{Summing, this-inside, this-after, this-lines, this-good, this-few, this-empties, summing-starts, Due, tree-due, summing-on, summing-ends}
-use Rattle.entering.specs.Subtasks.{SubtasksStand, PartSays}
+use Rattle.entering.specs.Trees.{TreesStand, PartSays}
 use Rattle.gaps.specs.Sums.{inRun}
 use Rattle.records.specs.Records.{NodesStand}
 use Rattle.rules.proofs.Judgement.Preorder.{linesOf}
@@ -11,13 +11,13 @@ use borrow.Author.Needs.{needs}
 use lib.ListN.{length, length-set}
 use mathlib.Core.Path.{_≡_, refl, sym, ap, subst, _∙_}
 use native.Mathlib.Omega.{arith}
-use Rattle.entering.proofs.sums.sum_subtasks.Statement.{statement}
-use Rattle.entering.proofs.sums.sum_subtasks.Tie as tie
+use Rattle.entering.proofs.sums.sum_trees.Statement.{statement}
+use Rattle.entering.proofs.sums.sum_trees.Tie as tie
 
 abbrev Inv-loop : tie.InvT-loop
 Inv-loop fields work node at first count cues sums₀ n₀ place₀ before₀ j₀ sums n place before j =
     (length sums ≡ length sums₀)
-    × ((ts : Trees) → SubtasksStand fields work node at first count ts → Summing fields work cues first count ts sums n place before j)
+    × ((ts : Trees) → TreesStand fields work node at first count ts → Summing fields work cues first count ts sums n place before j)
 
 abbrev μ-loop : tie.MeasureT-loop
 μ-loop fields work node at first count cues sums₀ n₀ place₀ before₀ j₀ sums n place before j = count - j
@@ -29,7 +29,7 @@ module _ (c : tie.In-loop Inv-loop μ-loop) where
 
   abbrev Stand : Trees → Type 0
   Stand ts =
-      SubtasksStand (start .args .fields .now) (start .args .work .now) (start .args .node) (start .args .at) (start .args .first) (start .args .count) ts
+      TreesStand (start .args .fields .now) (start .args .work .now) (start .args .node) (start .args .at) (start .args .first) (start .args .count) ts
 
   due-of : (ts : Trees) (w : Stand ts) → Due (c .before .loop .inv .1 ts w)
   due-of ts w = tree-due (c .before .loop .inv .1 ts w) (c .loop-test .taken)
@@ -159,8 +159,8 @@ same-length c = c .before .loop .inv .0
 returns : tie.Need-returns Inv-loop μ-loop
 returns c = λ ts w. summing-ends (c .before .loop .inv .1 ts w) (c .loop-test .left)
 
-pub sum-subtasks-spec : {M : Type 1} → statement M
-sum-subtasks-spec =
+pub sum-trees-spec : {M : Type 1} → statement M
+sum-trees-spec =
     tie.close
     (tie.spec
     Inv-loop
