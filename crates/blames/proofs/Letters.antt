@@ -6,7 +6,7 @@ use mathlib.Core.Bool.{Bool, true, false}
 use mathlib.Core.List.{List}
 use Prim.Native.Nat.{ℕ, _-_}
 use borrow.Author.Tests.{eq-eqb, ne-eqb}
-use lib.Dec.{eqb, ltb}
+use lib.Dec.{ltb}
 use Rattle.rules.specs.declared.Sign.{Sign}
 use Rattle.rules.specs.Index.{Span, Part, partOf, only, roundedUp, roundedDown, c, f, isBefore}
 use Rattle.rules.specs.Case.{Constraint, O, B, F, W, signOf, isEither, constraintOf}
@@ -93,8 +93,8 @@ module _ (holds : Holds) (at : Part → Span) (first second third : ℕ) (x : En
   unfolding keeps isBefore
   same-O d e t = of-kind d e (ap₂ ltb (down-at (only first) (t .2)) (up-at (only second) (t .1)))
 
-  pub keeps-edges : Names itself (x .p) → StartsAt at itself (edges x gs .start) → EndsAt at itself (edges x gs .end)
-      → entryKeeps holds x gs ≡ keeps holds at itself
+  pub keeps-edges : let d = constraintOf (x .letter) first second third in
+      Names d (x .p) → StartsAt at d (edges x gs .start) → EndsAt at d (edges x gs .end) → entryKeeps holds x gs ≡ keeps holds at d
   keeps-edges named starts ends = go (isEither (x .letter) 87 119) (isEither (x .letter) 70 102) (isEither (x .letter) 66 98) refl refl refl
     where
       fitting : {d : Constraint} → itself ≡ d → Fitting d

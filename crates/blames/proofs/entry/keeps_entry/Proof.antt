@@ -6,11 +6,11 @@ use Rattle.rules.specs.Case.{O, B, F, W, signOf, isEither}
 use Rattle.index.specs.Spans.{spanOf}
 use Rattle.rows.specs.Rows.{inRow}
 use Rattle.parts.proofs.Letters.{numbered-W, numbered-F, numbered-B, numbered-O}
-use Rattle.blames.specs.Entries.{edges, meant, EntryFits}
+use Rattle.blames.specs.Entries.{meant}
 use Rattle.blames.proofs.Edges.{EdgesFit, edges-fit}
 use Rattle.blames.proofs.Letters.{silent-keeps, order-kept, before-kept, after-kept, between-kept}
 use lib.ListN.{length}
-use mathlib.Core.Bool.{true, false}
+use mathlib.Core.Bool.{false}
 use mathlib.Core.Logic.{_≢_}
 use mathlib.Core.Path.{_≡_, refl, sym, subst, _∙_}
 use native.Mathlib.Omega.{arith}
@@ -86,10 +86,6 @@ up-most : (s : tie.After-span-of) → c (spanOf (s .span-of .result)) ≤ start 
 unfolding c roundedUp
 up-most s = let t = fit s .start-most in omega arith
 
-down-most : (s : tie.After-span-of) → f (spanOf (s .span-of .result)) ≤ start s .args .k
-unfolding f roundedDown
-down-most s = let t = fit s .end-most in omega arith
-
 keeps-between-requires : tie.Need-keeps-between-requires
 keeps-between-requires c κs = let s = c .before .before .before .before in (start s .pre .1, up-most s)
 
@@ -111,11 +107,12 @@ is-either-requires-2 : tie.Need-is-either-requires-2
 is-either-requires-2 c κs = refl
 
 keeps-after-requires : tie.Need-keeps-after-requires
-unfolding wordCount
+unfolding wordCount f roundedDown
 keeps-after-requires c κs =
     let s = c .before .before .before .before in
     let k = start s .pre .1 .there in
-    omega (arith, down-most s)
+    let t = fit s in
+    omega (arith, t .start-most, t .end-most)
 
 returns-3 : tie.Need-returns-3
 returns-3 c =

@@ -7,7 +7,7 @@ use Rattle.blames.proofs.Walks.{Going, within-at, going-starts, next-be
 use lib.ListN.{length, getD}
 use mathlib.Core.List.{headD}
 use mathlib.Core.Logic.{⊎-elim}
-use mathlib.Core.Path.{_≡_, refl, sym, ap, subst, _∙_}
+use mathlib.Core.Path.{_≡_, refl, sym, ap, subst}
 use native.Mathlib.Omega.{arith}
 use borrow.Author.Needs.{needs}
 use Rattle.blames.proofs.entry.least.Statement.{statement}

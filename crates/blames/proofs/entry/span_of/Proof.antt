@@ -1,9 +1,8 @@
 -- `span_of`: the least and the greatest, as a span. Assumes nothing.
-use Rattle.rules.specs.Index.{Span}
 use Rattle.index.specs.Spans.{indexIn}
 use Rattle.blames.specs.Entries.{edges}
 use Prim.Native.Nat.{ℕ}
-use mathlib.Core.Path.{_≡_, ap, ap₂, _∙_}
+use mathlib.Core.Path.{ap, ap₂, _∙_}
 use borrow.Author.Needs.{needs}
 use Rattle.blames.proofs.entry.span_of.Statement.{statement}
 use Rattle.blames.proofs.entry.span_of.Tie as tie

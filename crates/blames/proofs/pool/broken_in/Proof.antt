@@ -1,5 +1,5 @@
 -- `broken_in`: a slot that is named is one whose entry did not keep its test; the columns stay those of the states. Assumes nothing.
-use Prim.Native.Nat.{ℕ, _+_, _*_, _-_, _≤_, _<_}
+use Prim.Native.Nat.{ℕ, _+_, _-_, _<_}
 use Rattle.columns.specs.Columns.{Columns}
 use Rattle.rows.specs.Rows.{inRow}
 use Rattle.blames.specs.declared.entry.Entry.{Entry}

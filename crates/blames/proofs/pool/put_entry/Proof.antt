@@ -1,5 +1,5 @@
 -- `put_entry`: six stores, in the slot alone. Assumes nothing.
-use Rattle.blames.specs.Entries.{entrySize, entryAt}
+use Rattle.blames.specs.Entries.{entrySize}
 use Rattle.blames.proofs.Slots.{put-same, put-other}
 use Prim.Native.Nat.{_<_}
 use lib.ListN.{length-set}
