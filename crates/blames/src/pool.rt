@@ -1,6 +1,6 @@
 // Entries in buckets, and the first that is broken.
 ghost use mathlib.Core.Path.{_≡_};
-ghost use mathlib.Core.Bool.{Bool};
+ghost use mathlib.Core.Bool.{Bool, true};
 ghost use mathlib.Core.List.{List};
 ghost use Prim.Native.Nat.{ℕ, _+_, _*_, _<_, _≤_};
 ghost use lib.ListN.{length};
@@ -8,7 +8,7 @@ ghost use Rattle.rules.specs.Constraint.{Holds};
 ghost use Rattle.rules.specs.Gaps.{Within};
 ghost use Rattle.rows.specs.Rows.{inRow};
 ghost use Rattle.columns.specs.Columns.{Columns};
-ghost use Rattle.blames.specs.Entries.{entryAt, SlotInside, EntrySound, PoolFits, PoolSound};
+ghost use Rattle.blames.specs.Entries.{entryAt, SlotInside, EntryFits, EntrySound, PoolFits, PoolSound};
 ghost use Rattle.blames.specs.Tests.{Broken, Says};
 use crate::entry::Entry;
 use crate::entry::keeps_entry;
