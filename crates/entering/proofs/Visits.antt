@@ -24,6 +24,7 @@ use Rattle.fields.specs.Directory.{nodeSize}
 use Rattle.fields.proofs.Standing.{stands-left, stands-as}
 use Rattle.tree.specs.Layout.{size, sizes}
 use Rattle.rows.specs.Rows.{inRow}
+use Rattle.records.specs.Records.{NodesStand}
 use Rattle.constraints.specs.declared.method.Line.{Line}
 use Rattle.constraints.specs.Methods.{meant}
 use Rattle.constraints.specs.Ready.{Ready, nodeOfTree}
@@ -146,6 +147,11 @@ module _ {k : Case} {t : Tree} {fields : List ℕ} {cues e : ℕ} {states work :
       (subst (λ (l : List NodeLine). Mem z l) (take-append-drop (x .n) (k .nodes))
       (in-right (take (x .n) (k .nodes)) (subst (λ (l : List NodeLine). Mem z l) (sym split) (in-left rest m))))
 
+  -- Its own line lies inside the fields.
+  pub line-inside : x .at + nodeSize (x .letter) ≤ length fields
+  line-inside =
+      subst (λ (l : ℕ). x .at + nodeSize l ≤ length fields) (sym (v .lettered)) (line-here r (x .n) (v .node .below) (x .at) (v .counts .here) .past)
+
   -- Its lines stand, and those of its subtasks.
   pub whole-stands : e ≤ 32 → TreesStand fields work (x .n) (x .at) (x .first) 1 (more y noTree)
   unfolding size emptiesIn
@@ -224,3 +230,34 @@ module _ {k : Case} {t : Tree} {fields : List ℕ} {cues e : ℕ} {states work :
         (meant d)
         (subst (λ (l : List Constraint). Mem (meant d) l) (sym (constraints-with k gs (x .first) y ∙ w .brings)) m)
         (entry-breaks tells small (k .head) gs choice (inRow states) (holdsIn (statesOf k)) agree d (good (meant d) m) fits broken)
+
+-- ---- The nodes in order
+
+module _ {k : Case} {t : Tree} {fields : List ℕ} {header : Header} {planLine nodes : ℕ} {states work : List ℕ}
+    (r : Ready k t fields header planLine nodes states work) where
+  pub nodes-stand : NodesStand fields nodes (header .nodes) (k .nodes)
+  nodes-stand = record { here = r .finds .nodesHere; counted = is-sound r .nodes-length ∙ ap (λ (h : Header). h .nodes) (sym (r .head)) }
+
+  pub few-all : header .nodes ≤ 3000
+  few-all = subst (λ (h : Header). h .nodes ≤ 3000) (sym (r .head)) (is-sound r .head-good .few-nodes)
+
+  -- The node whose line is due.
+  pub visited : (n at first e : ℕ) → n < header .nodes → Counting emptyCount fields (k .nodes) at n first → emptyCount (k .nodes) ≡ e
+      → Visiting k t fields (header .cues) e states work
+      (record { n = n; at = at; letter = getD fields at 0; label = getD fields (at + 1) 0; first = first })
+  visited n at first e due counts all =
+      let below : n < size t = omega (arith, size-is r, ap (λ (h : Header). h .nodes) (r .head)) in
+      record {
+        node = record {
+          header = header;
+          planLine = planLine;
+          nodes = nodes;
+          ready = r;
+          counted = ap (λ (h : Header). h .cues + 1) (r .head);
+          below = below;
+          labels = line-here r n below at (counts .here) .labels;
+        };
+        lettered = refl;
+        counts = counts;
+        empties = all;
+      }

@@ -73,7 +73,26 @@ fn entry_of(d: Line, own: Part, sums: &[u32]) -> Entry
     }
 }
 
-// An entry put among the others. One that no empty task touches is tested once, here: it is kept only if it is broken.
+// Whether no empty task touches an entry, and it holds: then it holds with every choice.
+fn is_settled(
+    x: Entry,
+    choice: &[u32],
+    k: u32,
+    states: &[u64],
+    columns: &mut [u64],
+    built: &mut [u64],
+) -> bool
+    requires { ⌜ (k ≤ 1000) × Within k (now choice) × (length (now choice) ≤ 19) × EntryFits k (length (now choice)) x ⌝ }
+    requires { ⌜ Columns (now states) (k + 1) (now columns) (now built) ⌝ }
+    ensures { λ _. ⌜ Columns (now (states .entry)) (k + 1) (now (columns .exit)) (now (built .exit)) ⌝ }
+{
+    if x.ends | x.starts == 0 {
+        return blames::keeps_entry(x, choice, k, states, columns, built);
+    }
+    false
+}
+
+// An entry put among the others, if it fits and is not settled already.
 fn enter(
     pool: &mut [u32],
     counts: &mut [u32],
@@ -95,10 +114,8 @@ fn enter(
     if !blames::fits(k, positions, x) {
         return;
     }
-    if x.ends | x.starts == 0 {
-        if blames::keeps_entry(x, choice, k, states, columns, built) {
-            return;
-        }
+    if is_settled(x, choice, k, states, columns, built) {
+        return;
     }
     blames::push(pool, counts, k, positions, x);
 }
