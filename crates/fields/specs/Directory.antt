@@ -9,7 +9,7 @@ use lib.ListN.{length, getD}
 use Rattle.rules.specs.State.{actionAt}
 use Rattle.rules.specs.Result.{found}
 use Rattle.rules.specs.Case.{Case, methodAt, readCase}
-use Rattle.rules.specs.Fields.{lineFields, linesFields, initialLine, actionLine, methodLines, cuesLine, nodeLine}
+use Rattle.rules.specs.Fields.{lineFields, linesFields, initialLine, actionLine, methodLines, cuesLine, nodeLine, fieldsOf}
 use Rattle.rules.specs.Verdict.{textMost}
 use Rattle.fields.specs.Standing.{Stands}
 
@@ -39,6 +39,10 @@ pub record Finds (k : Case) (fields directory : List ℕ) (initial plan nodes : 
       → Stands fields (getD directory (methodsFrom + m) 0) (linesFields (methodLines (methodAt (k .methods) m)))
   pub planHere : Stands fields plan (lineFields (cuesLine (k .plan)))
   pub nodesHere : Stands fields nodes (linesFields (map nodeLine (k .nodes)))
+
+-- The node lines, whose first stands at a place, come last among the fields.
+abbrev pub NodesLast : Case → ℕ → Type 0
+NodesLast k nodes = nodes + length (linesFields (map nodeLine (k .nodes))) ≡ length (fieldsOf k)
 
 -- How many fields a node line has, by its letter: D has two, E and L three.
 unfoldable pub nodeSize : ℕ → ℕ

@@ -9,12 +9,10 @@ use Rattle.rules.specs.declared.Header.{Header}
 use Rattle.rules.specs.declared.Answer.{Answer}
 use Rattle.rules.specs.Result.{Result, found, refused}
 use Rattle.rules.specs.Case.{Case, readCase}
-use Rattle.rules.specs.Fields.{fieldsOf}
 use Rattle.rules.specs.Tree.{Tree, mayClaim, walkTree, leastUnclaimed}
 use Rattle.rules.specs.Verdict.{Found, stateNeed, workNeed, textMost, statesOf, filled, statesAfter}
 use Rattle.rules.proofs.Judgement.Sound.{Sound, sound}
-use Rattle.fields.specs.Standing.{Stands}
-use Rattle.fields.specs.Directory.{Finds, directorySize}
+use Rattle.fields.specs.Directory.{Finds, NodesLast, directorySize}
 use Rattle.reading.specs.Whole.{ReadsAs}
 use Rattle.reading.specs.declared.CaseRead.{CaseRead}
 use Rattle.reading.specs.declared.CaseRead.the-variants.{Case as CaseIs, Refused as CaseRefused}
@@ -58,13 +56,11 @@ answers-as {g = g} {m = m} {r = r} {states = states} {work = work} e size x =
 module _ (text fields work : List ℕ) {r : CaseRead} (as-read : ReadsAs (readCase text) r fields work) where
   pub read-opens : (h : Header) (l i p ns : ℕ) → r ≡ CaseIs h l i p ns → length text ≤ textMost → workNeed ≤ length work
       → (k : Case) × (readCase text ≡ found k) × Opens k fields (record { header = h; «plan_line» = l; plan = p; nodes = ns }) i work
-      × Stands fields 0 (fieldsOf k)
   read-opens h l i p ns e short room = go (readCase text) refl as-read
     where
       go : (x : Result Case) → readCase text ≡ x → ReadsAs x r fields work
           → (k : Case) × (readCase text ≡ found k) × Opens k fields (record { header = h; «plan_line» = l; plan = p; nodes = ns }) i work
-          × Stands fields 0 (fieldsOf k)
-      go (found k) q (initial, plan, nodes, answer, stands, finds) =
+      go (found k) q (initial, plan, nodes, answer, stands, finds, last) =
           let same : CaseIs h l i p ns ≡ CaseIs (k .head) (k .planLine) initial plan nodes = sym e ∙ answer in
           let head : h ≡ k .head = cc in
           let line : l ≡ k .planLine = cc in
@@ -80,9 +76,10 @@ module _ (text fields work : List ℕ) {r : CaseRead} (as-read : ReadsAs (readCa
               finds = subst (λ (n : ℕ). Finds k fields work i p n) lines
                   (subst (λ (n : ℕ). Finds k fields work i n nodes) cues
                   (subst (λ (n : ℕ). Finds k fields work n plan nodes) first finds));
+              stands = stands;
+              last = subst (NodesLast k) lines last;
               workRoom = room;
             },
-            stands,
           )
       go (refused b) q w = let z : _≡_ {A = ℕ} 0 1 = cc in absurd (omega arith)
 
@@ -117,6 +114,8 @@ module _ {k : Case} {fields : List ℕ} {o : Opened} {initial : ℕ} {work : Lis
         planned = x .planned;
         read = x .read;
         finds = finds-kept k fields work v initial (o .plan) (o .nodes) (open-sound .head-good) e (x .finds);
+        stands = x .stands;
+        last = x .last;
         workRoom = omega arith;
       }
 

@@ -1,5 +1,5 @@
 -- The verdict row by row: what the rows up to here have answered settles it, or leaves it to the rows after. Assumes nothing.
-use mathlib.Core.Path.{_≡_, ap, _∙_, subst}
+use mathlib.Core.Path.{_≡_, refl, ap, _∙_, subst}
 use mathlib.Core.Bool.{Bool, true, false}
 use mathlib.Core.List.{List}
 use mathlib.Core.Option.{Option, none, some}
@@ -20,38 +20,47 @@ use Rattle.fields.specs.Standing.{Stands}
 use Rattle.fields.specs.Directory.{IsRead}
 use Rattle.judge.specs.declared.Admission.{Admission}
 use Rattle.judge.specs.declared.Admission.the-variants.{Passed, Refused}
-use Rattle.judge.specs.Phases.{FieldsHeld, Admits}
-use Rattle.rules.proofs.Judgement.Rows.{fromConstraints, fromClaims, fromTree, fromRun, fromText}
+use Rattle.judge.specs.Phases.{FieldsHeld, Admits, fromClaimed}
+use Rattle.rules.proofs.Judgement.Rows.{fromConstraints, fromTree, fromRun, fromText}
 
--- ---- Rows 6 to 13
+-- ---- Rows 6 to 9
 
-module _ (k : Case) where
+module _ (rest : Case → Tree → Found Tree) (k : Case) where
   abbrev onTree : Result (Tree × List ℕ) → Found Tree
-  onTree x = x >>= λ (t, claimed). fromClaims k t claimed
+  onTree x = x >>= λ (t, claimed). allClaimed k claimed >> rest k t
 
-  pub tree-refused : (a : Answer) → walkTree k (mayClaim (k .plan)) ≡ refused a → fromTree k ≡ refused a
-  unfolding fromTree
+  pub tree-refused : (a : Answer) → walkTree k (mayClaim (k .plan)) ≡ refused a → fromClaimed rest k ≡ refused a
   tree-refused a e = ap onTree e
 
   module _ (t : Tree) (claimed : List ℕ) (walks : walkTree k (mayClaim (k .plan)) ≡ found (t, claimed)) where
-    claims-are : (o : Option ℕ) → leastUnclaimed claimed (k .head .cues) 1 ≡ o → fromTree k ≡ (unless (Unclaimed (k .planLine)) o >> fromConstraints k t)
-    unfolding fromTree allClaimed
-    claims-are o e = ap onTree walks ∙ ap (λ (x : Option ℕ). unless (Unclaimed (k .planLine)) x >> fromConstraints k t) e
+    claims-are : (o : Option ℕ) → leastUnclaimed claimed (k .head .cues) 1 ≡ o → fromClaimed rest k ≡ (unless (Unclaimed (k .planLine)) o >> rest k t)
+    unfolding allClaimed
+    claims-are o e = ap onTree walks ∙ ap (λ (x : Option ℕ). unless (Unclaimed (k .planLine)) x >> rest k t) e
 
-    pub claims-refused : (i : ℕ) → leastUnclaimed claimed (k .head .cues) 1 ≡ some i → fromTree k ≡ refused (Unclaimed (k .planLine) i)
+    pub claims-refused : (i : ℕ) → leastUnclaimed claimed (k .head .cues) 1 ≡ some i → fromClaimed rest k ≡ refused (Unclaimed (k .planLine) i)
     claims-refused i e = claims-are (some i) e
 
-    module _ (claims : leastUnclaimed claimed (k .head .cues) 1 ≡ none) where
-      constraints-are : (o : Option Answer) → firstBroken k (holdsIn (statesOf k)) (k .planLine + 1) (preorder t) ≡ o
-          → fromTree k ≡ (unless (λ r. r) o >> found (k, t))
-      unfolding noneBroken
-      constraints-are o e = claims-are none claims ∙ ap (λ (x : Option Answer). _>>_ {B = Case × Tree} (unless (λ r. r) x) (found (k, t))) e
+    pub claims-right : leastUnclaimed claimed (k .head .cues) 1 ≡ none → fromClaimed rest k ≡ rest k t
+    claims-right e = claims-are none e
 
-      pub constraints-refused : (a : Answer) → firstBroken k (holdsIn (statesOf k)) (k .planLine + 1) (preorder t) ≡ some a → fromTree k ≡ refused a
-      constraints-refused a e = constraints-are (some a) e
+-- ---- Rows 10 to 13
 
-      pub tree-right : firstBroken k (holdsIn (statesOf k)) (k .planLine + 1) (preorder t) ≡ none → fromTree k ≡ found (k, t)
-      tree-right e = constraints-are none e
+module _ (k : Case) (t : Tree) (claimed : List ℕ) (walks : walkTree k (mayClaim (k .plan)) ≡ found (t, claimed))
+    (claims : leastUnclaimed claimed (k .head .cues) 1 ≡ none) where
+  pub tree-claimed : fromTree k ≡ fromConstraints k t
+  unfolding fromTree
+  tree-claimed = claims-right fromConstraints k t claimed walks claims
+
+  constraints-are : (o : Option Answer) → firstBroken k (holdsIn (statesOf k)) (k .planLine + 1) (preorder t) ≡ o
+      → fromTree k ≡ (unless (λ r. r) o >> found (k, t))
+  unfolding noneBroken
+  constraints-are o e = tree-claimed ∙ ap (λ (x : Option Answer). _>>_ {B = Case × Tree} (unless (λ r. r) x) (found (k, t))) e
+
+  pub constraints-refused : (a : Answer) → firstBroken k (holdsIn (statesOf k)) (k .planLine + 1) (preorder t) ≡ some a → fromTree k ≡ refused a
+  constraints-refused a e = constraints-are (some a) e
+
+  pub tree-right : firstBroken k (holdsIn (statesOf k)) (k .planLine + 1) (preorder t) ≡ none → fromTree k ≡ found (k, t)
+  tree-right e = constraints-are none e
 
 -- ---- Row 5
 
@@ -123,22 +132,18 @@ module _ (states nodes work : ℕ) (text : List ℕ) {r : Admission} (said : Adm
   pub admit-refuses : (a : Answer) → r ≡ Refused a → check (checkLists states nodes work) text ≡ refused a
   admit-refuses a e = subst (Admits states nodes work text) e said
 
--- ---- The fields
+-- ---- From the rows ahead to the constraints
 
--- Whatever the rows after reading answer, a case that they accept is the one that was read.
-pub fields-held : (k : Case) (fields : List ℕ) → IsRead k → Stands fields 0 (fieldsOf k) → FieldsHeld (fromRun fromTree k) fields
-unfolding FieldsHeld fromRun fromTree
-fields-held k fields r s = go (planRuns k) (walkTree k (mayClaim (k .plan)))
+-- The check's rows are those up to 9, with the constraints for the rest.
+pub check-goes-on : (text : List ℕ) → fromText fromTree text ≡ fromText (fromClaimed fromConstraints) text
+unfolding fromTree
+check-goes-on text = refl
+
+-- Whatever the constraints answer, a case that they accept is the one that was read.
+pub fields-held : (k : Case) (t : Tree) (fields : List ℕ) → IsRead k → Stands fields 0 (fieldsOf k) → FieldsHeld (fromConstraints k t) fields
+unfolding FieldsHeld
+fields-held k t fields r s = go (noneBroken k t)
   where
-    last : (t : Tree) (o : Result (Unit {0})) → FieldsHeld (o >> found (k, t)) fields
-    last t (found u) = (r, s)
-    last t (refused a) = tt
-
-    claims : (t : Tree) (o : Result (Unit {0})) → FieldsHeld (o >> fromConstraints k t) fields
-    claims t (found u) = last t (noneBroken k t)
-    claims t (refused a) = tt
-
-    go : (o : Result (Unit {0})) (w : Result (Tree × List ℕ)) → FieldsHeld (o >> onTree k w) fields
-    go (found u) (found (t, claimed)) = claims t (allClaimed k claimed)
-    go (found u) (refused a) = tt
-    go (refused a) w = tt
+    go : (o : Result (Unit {0})) → FieldsHeld (o >> found (k, t)) fields
+    go (found u) = (r, s)
+    go (refused a) = tt

@@ -6,16 +6,19 @@ use Prim.Native.Nat.{ℕ, _*_, _≤_}
 use lib.ListN.{length, take, replicate}
 use Rattle.rules.specs.declared.Answer.{Answer}
 use Rattle.rules.specs.State.{firstStop}
-use Rattle.rules.specs.Result.{found, refused}
-use Rattle.rules.specs.Case.{Case}
+use Rattle.rules.specs.Result.{found, refused, _>>=_, _>>_}
+use Rattle.rules.specs.Case.{Case, readCase}
 use Rattle.rules.specs.Tree.{Tree, mayClaim, walkTree, leastUnclaimed}
 use Rattle.rules.specs.Fields.{fieldsOf}
-use Rattle.rules.specs.Verdict.{Found, stateNeed, nodeNeed, workNeed, textMost, checkLists, check, statesOf, filled, answerOf, statesAfter}
+use Rattle.rules.specs.Verdict.{Found, stateNeed, nodeNeed, workNeed, textMost, checkLists, check, allClaimed, statesOf, filled, answerOf, statesAfter}
+use Rattle.rules.proofs.Judgement.Rows.{fromText}
 use Rattle.fields.specs.Standing.{Stands}
-use Rattle.fields.specs.Directory.{IsRead, Finds}
+use Rattle.fields.specs.Directory.{IsRead, Finds, NodesLast}
 use Rattle.tree.specs.Layout.{size, rows, marksOf, marksIn, rowsIn}
 use Rattle.records.specs.Records.{RecordsHeld}
 use Rattle.judge.specs.declared.Opened.{Opened}
+use Rattle.judge.specs.declared.Opening.{Opening}
+use Rattle.judge.specs.declared.Opening.the-variants.{Case as CaseOpen, Refused as CaseRefused}
 use Rattle.judge.specs.declared.Admission.{Admission}
 use Rattle.judge.specs.declared.Admission.the-variants.{Passed, Refused}
 
@@ -48,6 +51,8 @@ pub record Opens (k : Case) (fields : List ℕ) (o : Opened) (initial : ℕ) (wo
   pub planned : o .«plan_line» ≡ k .planLine
   pub read : IsRead k
   pub finds : Finds k fields work initial (o .plan) (o .nodes)
+  pub stands : Stands fields 0 (fieldsOf k)
+  pub last : NodesLast k (o .nodes)
   pub workRoom : workNeed ≤ length work
 
 pub record HasRead (k : Case) (fields : List ℕ) (o : Opened) (initial : ℕ) (states work : List ℕ) : Type 0 where
@@ -81,3 +86,30 @@ pub record Walked (k : Case) (fields : List ℕ) (o : Opened) (states work : Lis
 pub record Claimed (k : Case) (fields : List ℕ) (o : Opened) (states work : List ℕ) : Type 0 where
   pub walked : Walked k fields o states work
   pub claims : leastUnclaimed (walked .claimed) (k .head .cues) 1 ≡ none
+
+-- ---- The rows from reading to 9, ahead of any that follow
+
+-- Rows 6 to 9, then the rest.
+abbrev pub fromClaimed : {A : Type 0} → (Case → Tree → Found A) → Case → Found A
+fromClaimed rest k = walkTree k (mayClaim (k .plan)) >>= λ (t, claimed). allClaimed k claimed >> rest k t
+
+-- Rows up to 9 of a case that was read: all are passed, and what they say with any rest is what that says; or they refuse it, and the state
+-- list, of a size, is zero.
+abbrev pub GoesOn : ((Case → Tree → Found Tree) → Found Tree) → Case → List ℕ → ℕ → Opening → List ℕ → List ℕ → Type 0
+GoesOn rows k fields size (CaseOpen o) states work =
+    (c : Claimed k fields o states work) × ((rest : Case → Tree → Found Tree) → rows rest ≡ rest k (c .walked .tree))
+GoesOn rows k fields size (CaseRefused a) states work = ((rest : Case → Tree → Found Tree) → rows rest ≡ refused a) × (states ≡ replicate size 0)
+
+-- What the rows from reading to 9 leave of a text: its fields, those of a case that passes them, whatever the rest says.
+pub record Passes (text fields : List ℕ) (o : Opened) (states work : List ℕ) (k : Case) : Type 0 where
+  pub claimed : Claimed k fields o states work
+  pub reads : readCase text ≡ found k
+  pub stands : Stands fields 0 (fieldsOf k)
+  pub last : NodesLast k (o .nodes)
+  pub rows : (rest : Case → Tree → Found Tree) → fromText (fromClaimed rest) text ≡ rest k (claimed .walked .tree)
+
+-- Or the refusal, whatever the rest says, and a state list that is zero.
+abbrev pub OpensAs : List ℕ → List ℕ → ℕ → Opening → List ℕ → List ℕ → Type 0
+OpensAs text fields size (CaseOpen o) states work = (k : Case) × Passes text fields o states work k
+OpensAs text fields size (CaseRefused a) states work =
+    ((rest : Case → Tree → Found Tree) → fromText (fromClaimed rest) text ≡ refused a) × (states ≡ replicate size 0)

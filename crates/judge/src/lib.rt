@@ -1,7 +1,8 @@
 // The core of the check call, over plain lists: the rows of 01's table in their order. What it leaves in the work space are the columns of
 // the node records, which the call then gathers into the node list.
 ghost use mathlib.Core.Path.{_≡_};
-ghost use Prim.Native.Nat.{_<_};
+ghost use mathlib.Core.List.{List};
+ghost use Prim.Native.Nat.{ℕ, _<_};
 ghost use lib.ListN.{length, replicate};
 ghost use Rattle.rules.specs.Case.{Case};
 ghost use Rattle.rules.specs.Verdict.{check, checkLists, answerOf, statesAfter};
@@ -9,7 +10,7 @@ ghost use Rattle.rules.proofs.Judgement.Rows.{fromText, fromRun, fromTree};
 ghost use Rattle.records.specs.Records.{RecordsHeld};
 ghost use Rattle.fields.specs.Directory.{Roomy};
 ghost use Rattle.columns.specs.Columns.{Blank};
-ghost use Rattle.judge.specs.Phases.{Answers, FieldsHeld, Cleared, Admits, HasRead, Ran as HasRun, Walked, Claimed};
+ghost use Rattle.judge.specs.Phases.{Answers, FieldsHeld, Cleared, Admits, HasRead, Ran as HasRun, Walked, Claimed, fromClaimed, GoesOn, OpensAs};
 use columns::PER_WORD;
 use constraints::Kept;
 use fields::FIELDS;
@@ -38,6 +39,12 @@ pub struct Opened {
     pub nodes: usize,
 }
 
+// What the rows from reading to 9 say: the case passes them, or they refuse it.
+pub enum Opening {
+    Case { case: Opened },
+    Refused { answer: Answer },
+}
+
 // A refusal: the state list is zero throughout; the node list is the caller's.
 fn refuse(states: &mut [u64], answer: Answer) -> Answer
     ensures answer { λ r. ⌜ r ≡ answer ⌝ }
@@ -45,6 +52,15 @@ fn refuse(states: &mut [u64], answer: Answer) -> Answer
 {
     rows::clear(states);
     answer
+}
+
+// The same of the rows that open a case.
+fn refuse_case(states: &mut [u64], answer: Answer) -> Opening
+    ensures answer { λ r. ⌜ r ≡ Opening.Refused answer ⌝ }
+    ensures states { λ r. ⌜ now (states .exit) ≡ replicate (length (now (states .entry))) 0 ⌝ }
+{
+    rows::clear(states);
+    Opening::Refused { answer }
 }
 
 // Rows 10 to 13, of a tree whose positions are all claimed, with columns of which none is built; then the records.
@@ -113,15 +129,15 @@ fn judge_constraints(fields: &[u32], o: Opened, states: &mut [u64], work: &mut [
     }
 }
 
-// Row 9, of a tree that is right; then the rest.
-fn judge_claims(fields: &[u32], o: Opened, states: &mut [u64], work: &mut [u32]) -> Answer
-    requires { ⌜ ((k : Case) × Walked k (now fields) o (now states) (now work)) ⌝ }
-    ensures { λ r. ⌜ ((k : Case) → Walked k (now (fields .entry)) o (now (states .entry)) (now (work .entry)) → Answers (fromTree k) (length (now (states .entry))) r (now (states .exit)) (now (work .exit))) ⌝ }
+// Row 9, of a tree that is right.
+fn open_claims(o: Opened, states: &mut [u64], work: &[u32]) -> Opening
+    requires { ⌜ ((k : Case) × (f : List ℕ) × Walked k f o (now states) (now work)) ⌝ }
+    ensures { λ r. ⌜ ((k : Case) (f : List ℕ) → Walked k f o (now (states .entry)) (now (work .entry)) → GoesOn (λ rest. fromClaimed rest k) k f (length (now (states .entry))) r (now (states .exit)) (now (work .entry))) ⌝ }
 {
     let header = o.header;
     match tree::least_unclaimed(work, header.cues) {
-        Unclaimed::None => judge_constraints(fields, o, states, work),
-        Unclaimed::At { position } => refuse(
+        Unclaimed::None => Opening::Case { case: o },
+        Unclaimed::At { position } => refuse_case(
             states,
             Answer::Unclaimed {
                 line: o.plan_line,
@@ -131,37 +147,37 @@ fn judge_claims(fields: &[u32], o: Opened, states: &mut [u64], work: &mut [u32])
     }
 }
 
-// Rows 6 to 8, of a plan that runs; then the rest. The walk starts from marks that are zero.
-fn judge_nodes(fields: &[u32], o: Opened, states: &mut [u64], work: &mut [u32]) -> Answer
+// Rows 6 to 8, of a plan that runs; then row 9. The walk starts from marks that are zero.
+fn open_nodes(fields: &[u32], o: Opened, states: &mut [u64], work: &mut [u32]) -> Opening
     requires { ⌜ ((k : Case) × HasRun k (now fields) o (now states) (now work)) ⌝ }
-    ensures { λ r. ⌜ ((k : Case) → HasRun k (now (fields .entry)) o (now (states .entry)) (now (work .entry)) → Answers (fromTree k) (length (now (states .entry))) r (now (states .exit)) (now (work .exit))) ⌝ }
+    ensures { λ r. ⌜ ((k : Case) → HasRun k (now (fields .entry)) o (now (states .entry)) (now (work .entry)) → GoesOn (λ rest. fromClaimed rest k) k (now (fields .entry)) (length (now (states .entry))) r (now (states .exit)) (now (work .exit))) ⌝ }
 {
     let header = o.header;
     let plan = o.plan;
     let nodes = o.nodes;
     rows::clear_work(&mut work[MARKS..SUBTASKS]);
     match tree::walk_tree(fields, header, o.plan_line, plan, nodes, work) {
-        TreeWalk::Right => judge_claims(fields, o, states, work),
-        TreeWalk::Refused { answer } => refuse(states, answer),
+        TreeWalk::Right => open_claims(o, states, work),
+        TreeWalk::Refused { answer } => refuse_case(states, answer),
     }
 }
 
-// Row 5, of a case that was read; then the rest.
-fn judge_run(
+// Row 5, of a case that was read; then rows 6 to 9.
+fn open_run(
     fields: &[u32],
     o: Opened,
     initial: usize,
     states: &mut [u64],
     work: &mut [u32],
-) -> Answer
+) -> Opening
     requires { ⌜ ((k : Case) × HasRead k (now fields) o initial (now states) (now work)) ⌝ }
-    ensures { λ r. ⌜ ((k : Case) → HasRead k (now (fields .entry)) o initial (now (states .entry)) (now (work .entry)) → Answers (fromRun fromTree k) (length (now (states .entry))) r (now (states .exit)) (now (work .exit))) ⌝ }
+    ensures { λ r. ⌜ ((k : Case) → HasRead k (now (fields .entry)) o initial (now (states .entry)) (now (work .entry)) → GoesOn (λ rest. fromRun (fromClaimed rest) k) k (now (fields .entry)) (length (now (states .entry))) r (now (states .exit)) (now (work .exit))) ⌝ }
 {
     let header = o.header;
     let plan = o.plan;
     match running::run(fields, work, header, initial, plan, states) {
-        Ran::All => judge_nodes(fields, o, states, work),
-        Ran::Stopped { cue } => refuse(
+        Ran::All => open_nodes(fields, o, states, work),
+        Ran::Stopped { cue } => refuse_case(
             states,
             Answer::Inapplicable {
                 line: o.plan_line,
@@ -171,12 +187,11 @@ fn judge_run(
     }
 }
 
-// Rows 3 and 4, with lists that are long enough and a text that is not too long; then the rest. Refused, the state list is still zero; the
-// fields of an accepted case are left to the caller.
-pub fn judge_text(text: &[u8], states: &mut [u64], work: &mut [u32], fields: &mut [u32]) -> Answer
+// Rows 3 and 4, with lists that are long enough and a text that is not too long; then rows 5 to 9. Refused, the state list is still zero; the
+// fields and the directory of a case that passes are left to the caller, with the tree's rows.
+pub fn open_text(text: &[u8], states: &mut [u64], work: &mut [u32], fields: &mut [u32]) -> Opening
     requires { ⌜ Cleared (now text) (now states) (now work) × Roomy (now text) (now fields) ⌝ }
-    ensures answers { λ r. ⌜ Answers (fromText fromTree (now (text .entry))) (length (now (states .entry))) r (now (states .exit)) (now (work .exit)) ⌝ }
-    ensures fields { λ r. ⌜ FieldsHeld (fromText fromTree (now (text .entry))) (now (fields .exit)) ⌝ }
+    ensures { λ r. ⌜ OpensAs (now (text .entry)) (now (fields .exit)) (length (now (states .entry))) r (now (states .exit)) (now (work .exit)) ⌝ }
 {
     match reading::read_case(text, fields, work) {
         CaseRead::Case {
@@ -192,9 +207,22 @@ pub fn judge_text(text: &[u8], states: &mut [u64], work: &mut [u32], fields: &mu
                 plan,
                 nodes,
             };
-            judge_run(fields, o, initial, states, work)
+            open_run(fields, o, initial, states, work)
         }
-        CaseRead::Refused { answer } => answer,
+        CaseRead::Refused { answer } => Opening::Refused { answer },
+    }
+}
+
+// Rows 3 to 13, with lists that are long enough and a text that is not too long. Refused, the state list is zero; the fields of an accepted
+// case are left to the caller.
+pub fn judge_text(text: &[u8], states: &mut [u64], work: &mut [u32], fields: &mut [u32]) -> Answer
+    requires { ⌜ Cleared (now text) (now states) (now work) × Roomy (now text) (now fields) ⌝ }
+    ensures answers { λ r. ⌜ Answers (fromText fromTree (now (text .entry))) (length (now (states .entry))) r (now (states .exit)) (now (work .exit)) ⌝ }
+    ensures fields { λ r. ⌜ FieldsHeld (fromText fromTree (now (text .entry))) (now (fields .exit)) ⌝ }
+{
+    match open_text(text, states, work, fields) {
+        Opening::Case { case } => judge_constraints(fields, case, states, work),
+        Opening::Refused { answer } => answer,
     }
 }
 
@@ -216,7 +244,7 @@ fn judge_any(text: &[u8], states: &mut [u64], work: &mut [u32]) -> Answer
 }
 
 // The same, with as much room for the fields as a text of this length may need.
-fn judge_lent(text: &[u8], states: &mut [u64], work: &mut [u32]) -> Answer
+pub fn judge_lent(text: &[u8], states: &mut [u64], work: &mut [u32]) -> Answer
     requires { ⌜ Cleared (now text) (now states) (now work) ⌝ }
     ensures { λ r. ⌜ Answers (fromText fromTree (now (text .entry))) (length (now (states .entry))) r (now (states .exit)) (now (work .exit)) ⌝ }
 {

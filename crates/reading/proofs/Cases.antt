@@ -22,7 +22,7 @@ use Rattle.lines.specs.Ranges.{knownOf}
 use Rattle.text.specs.declared.Cursor.{Cursor}
 use Rattle.text.specs.Cursor.{cursor}
 use Rattle.fields.specs.Standing.{Stands}
-use Rattle.fields.specs.Directory.{Roomy, methodsFrom, directorySize, Finds}
+use Rattle.fields.specs.Directory.{Roomy, methodsFrom, directorySize, Finds, NodesLast}
 use Rattle.fields.proofs.Standing.{stands-left, stands-right, stands-as, sets-stand, sets-append, stands-at}
 use Rattle.reading.specs.declared.CaseRead.{CaseRead}
 use Rattle.reading.specs.declared.CaseRead.the-variants.{Refused as CaseRefused}
@@ -276,15 +276,30 @@ module _ (text : List ℕ) (past : ℕ) (w d : List ℕ) (feeds : (p : ℕ) → 
       pub body-due : Due text past v s
       body-due = due-next lineFields text past w v start s first g first-due (line-goes text noHeader T.header 0 1 0 0 (omega arith) (omega arith)) q z
 
+      body-from : s .from ≡ 0 + length (lineFields (headerLine h))
+      body-from = read .2 ∙ ap (λ (x : Valued). 0 + length (lineFields x)) (sym is)
+
       whole-stands : (k : Case) (r : CaseRead) (u e : List ℕ) → Filled h k (s .from) v d r u e → Stands u 0 (lineFields (headerLine h) ++ bodyFields k)
       whole-stands k r u e f =
           let head = lineFields (headerLine h) in
-          let size : s .from ≡ 0 + length head = read .2 ∙ ap (λ (x : Valued). 0 + length (lineFields x)) (sym is) in
+          let size : s .from ≡ 0 + length head = body-from in
           let all : u ≡ sets w 0 (head ++ bodyFields k)
           = stored h k (s .from) v d u e r f ∙ (λ j. sets (stored-header j) (size j) (bodyFields k)) ∙ sym (sets-append head (bodyFields k) w 0) in
           subst (λ (l : List ℕ). Stands l 0 (head ++ bodyFields k)) (sym all)
           (sets-stand w 0 (head ++ bodyFields k)
           (let n = length-append head (bodyFields k) in let m = whole-size h k (s .from) v d u e r f in let o = f .room in let l = kept in omega arith))
+
+      whole-is : (k : Case) (r : CaseRead) (u e : List ℕ) → Filled h k (s .from) v d r u e → fieldsOf k ≡ lineFields (headerLine h) ++ bodyFields k
+      whole-is k r u e f = fields-are k ∙ ap (λ (y : Header). lineFields (headerLine y) ++ bodyFields k) (f .head)
+
+      nodes-last : (k : Case) (r : CaseRead) (u e : List ℕ) → Filled h k (s .from) v d r u e → NodesLast k (nodesAt k (s .from))
+      nodes-last k r u e f =
+          let head = lineFields (headerLine h) in
+          let nodes : length (linesFields (map nodeLine (k .nodes))) ≡ length (joined (nodeFields k)) = ap length (lines-joined nodeLine (k .nodes)) in
+          let all : length (fieldsOf k) ≡ length head + length (bodyFields k) = ap length (whole-is k r u e f) ∙ length-append head (bodyFields k) in
+          let size = body-from in
+          let end = whole-size h k (s .from) v d u e r f in
+          omega arith
 
       pub case-read : (h′ : Header) → h′ ≡ headerIn (drop 1 v) → (r : CaseRead) (u e : List ℕ)
           → BodyLeft h′ (s .from) v d (toTheEnd text (readBody text h′ (s .line) (s .start .at))) r u e → ReadsAs (readCase text) r u e
@@ -303,8 +318,7 @@ module _ (text : List ℕ) (past : ℕ) (w d : List ℕ) (feeds : (p : ℕ) → 
             planAt k (s .from),
             nodesAt k (s .from),
             f .answer,
-            stands-as u 0 (lineFields (headerLine h) ++ bodyFields k) (fieldsOf k)
-                (sym (fields-are k ∙ ap (λ (y : Header). lineFields (headerLine y) ++ bodyFields k) (f .head)))
-                (whole-stands k r u e f),
+            stands-as u 0 (lineFields (headerLine h) ++ bodyFields k) (fieldsOf k) (sym (whole-is k r u e f)) (whole-stands k r u e f),
             filled-finds h k (s .from) v d u e r f (sound text k c) roomy,
+            nodes-last k r u e f,
           )

@@ -9,7 +9,7 @@ use Rattle.rules.specs.Result.{Result, found, refused, _>>=_, _>>_}
 use Rattle.rules.specs.Case.{Case, Read, noSurplus}
 use Rattle.rules.specs.Fields.{lineFields, initialLine, actionLine, cuesLine, nodeLine, fieldsOf}
 use Rattle.fields.specs.Standing.{Stands}
-use Rattle.fields.specs.Directory.{methodsFrom, Finds}
+use Rattle.fields.specs.Directory.{methodsFrom, Finds, NodesLast}
 use Rattle.reading.specs.declared.CaseRead.{CaseRead}
 use Rattle.reading.specs.declared.CaseRead.the-variants.{Case as CaseIs, Refused as CaseRefused}
 use Rattle.reading.specs.Groups.{joined, methodFields, starts}
@@ -64,8 +64,9 @@ abbrev pub BodyLeft : Header → ℕ → List ℕ → List ℕ → Result Case �
 BodyLeft h from before directory (found k) r now places = Filled h k from before directory r now places
 BodyLeft h from before directory (refused a) r now places = r ≡ CaseRefused a
 
--- What reading a case answers and leaves: the fields of the case, and where its lines stand among them.
+-- What reading a case answers and leaves: the fields of the case, and where its lines stand among them, those of its nodes last.
 abbrev pub ReadsAs : Result Case → CaseRead → List ℕ → List ℕ → Type 0
 ReadsAs (refused a) r fields directory = r ≡ CaseRefused a
 ReadsAs (found k) r fields directory =
     (initial plan nodes : ℕ) × (r ≡ CaseIs (k .head) (k .planLine) initial plan nodes) × Stands fields 0 (fieldsOf k) × Finds k fields directory initial plan nodes
+    × NodesLast k nodes

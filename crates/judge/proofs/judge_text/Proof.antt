@@ -1,39 +1,28 @@
--- `judge_text`: the text reads as a case, and the run follows; or it is refused, and the state list is zero as it was. Assumes nothing.
-use Rattle.fields.specs.Directory.{directorySize}
-use Rattle.judge.proofs.Phases.{refused-all, answers-as, read-opens, read-refuses}
-use Rattle.judge.proofs.Verdicts.{text-refused, text-reads, fields-held}
-use Rattle.judge.specs.Phases.{FieldsHeld}
+-- `judge_text`: the rows up to 9 open the case, and the constraints follow; or they refuse it. Assumes nothing.
+use Rattle.judge.proofs.Openings.{opening-passes, opening-refuses, passes-check, passes-fields}
+use Rattle.judge.proofs.Phases.{refused-all, answers-as}
+use Rattle.judge.proofs.Verdicts.{check-goes-on}
 use Rattle.judge.proofs.judge_text.Statement.{statement}
 use Rattle.judge.proofs.judge_text.Tie as tie
-use Rattle.rules.proofs.Judgement.Rows.{fromTree}
+use Rattle.judge.specs.Phases.{FieldsHeld}
+use Rattle.rules.proofs.Judgement.Rows.{fromConstraints}
 use Rattle.rules.specs.Tree.{Tree}
-use Rattle.rules.specs.Verdict.{Found, textMost, workNeed}
+use Rattle.rules.specs.Verdict.{Found}
 use borrow.Author.Needs.{needs}
-use lib.ListN.{length}
-use mathlib.Core.Path.{_≡_, refl, sym, subst}
-use native.Mathlib.Omega.{arith}
+use mathlib.Core.Path.{refl, sym, subst, _∙_}
 
-read-case-requires : tie.Need-read-case-requires
-unfolding workNeed textMost directorySize
-read-case-requires c κs =
-    let p = c .before .before .before .before .before .before .pre in
-    let room = p .0 .workRoom in
-    (p .0 .short, p .1, omega arith)
+open-text-requires : tie.Need-open-text-requires
+open-text-requires c κs = search needs
 
-enum-known-header : tie.Need-enum-known-header
-enum-known-header c = search needs
+enum-known-case : tie.Need-enum-known-case
+enum-known-case c = search needs
 
-judge-run-requires : tie.Need-judge-run-requires
-judge-run-requires c κs =
-    let s = c .before .before .before .before .before .before .before .before .before .before .before .before .before .before .before .before .before in
-    let a = s .args in
-    let b = c .before .before .before .before .before .before .before .before .before .before .read-case in
-    let x = c .before .before .before .before .header .given in
-    let kept : length (b .last .1 .1 .0) ≡ length (a .work .now) = b .kept .1 .1 .0 in
-    let room = s .pre .0 .workRoom in
-    let (k, reads, opens, stands) = read-opens (a .text .now) (b .last .1 .0) (b .last .1 .1 .0) (b .ensures) (x .0 .0) (x .0 .1 .0) (x .0 .1 .1 .0) (x .0 .1 .1 .1 .0)
-    (x .0 .1 .1 .1 .1 .0) (x .1) (s .pre .0 .short) (omega arith) in
-    (k, record { opens = opens; stateRoom = s .pre .0 .stateRoom; statesZero = s .pre .0 .statesZero })
+judge-constraints-requires : tie.Need-judge-constraints-requires
+judge-constraints-requires c κs =
+    let b = c .before .before .before .before .before .before .before .before .before .before .before .before .open-text in
+    let x = c .before .before .before .before .case .given in
+    let (k, p) = opening-passes _ (b .last .1 .1 .1 .0) _ (b .result) (b .last .1 .0) (b .last .1 .1 .0) (b .ensures) (x .0 .0) (x .1) in
+    (k, p .claimed)
 
 enum-known-answer : tie.Need-enum-known-answer
 enum-known-answer c = search needs
@@ -49,19 +38,10 @@ same-length-3 c = search needs
 
 returns : tie.Need-returns
 returns c =
-    let s = c .before .before .before .before .before .before .before .before .before .before .before .before .before .before .before .before .before .before .before .before .before .before in
-    let a = s .args in
-    let b = c .before .before .before .before .before .before .before .before .before .before .before .before .before .before .before .read-case in
-    let x = c .before .before .before .before .before .before .before .before .before .header .given in
-    let kept : length (b .last .1 .1 .0) ≡ length (a .work .now) = b .kept .1 .1 .0 in
-    let room = s .pre .0 .workRoom in
-    let (k, reads, opens, stands) = read-opens (a .text .now) (b .last .1 .0) (b .last .1 .1 .0) (b .ensures) (x .0 .0) (x .0 .1 .0) (x .0 .1 .1 .0) (x .0 .1 .1 .1 .0)
-    (x .0 .1 .1 .1 .1 .0) (x .1) (s .pre .0 .short) (omega arith) in
-    let same = sym (text-reads fromTree (a .text .now) k (s .pre .0 .short) reads) in (
-      answers-as same refl
-          (c .before .before .before .before .judge-run .ensures k (record { opens = opens; stateRoom = s .pre .0 .stateRoom; statesZero = s .pre .0 .statesZero })),
-      subst (λ (f : Found Tree). FieldsHeld f (b .last .1 .0)) same (fields-held k (b .last .1 .0) (opens .read) stands),
-    )
+    let b = c .before .before .before .before .before .before .before .before .before .before .before .before .before .before .before .before .before .open-text in
+    let x = c .before .before .before .before .before .before .before .before .before .case .given in
+    let (k, p) = opening-passes _ (b .last .1 .1 .1 .0) _ (b .result) (b .last .1 .0) (b .last .1 .1 .0) (b .ensures) (x .0 .0) (x .1) in
+    (answers-as (sym (passes-check p)) (b .kept .1 .0) (c .before .before .before .before .judge-constraints .ensures k (p .claimed)), passes-fields p)
 
 same-length-4 : tie.Need-same-length-4
 same-length-4 c = search needs
@@ -69,24 +49,26 @@ same-length-4 c = search needs
 same-length-5 : tie.Need-same-length-5
 same-length-5 c = search needs
 
+same-length-6 : tie.Need-same-length-6
+same-length-6 c = search needs
+
 returns-2 : tie.Need-returns-2
 unfolding FieldsHeld
 returns-2 c =
-    let s = c .before .before .before .before .before .before .before .before .before .before .before .before .before .before in
-    let a = s .args in
-    let b = c .before .before .before .before .before .before .before .read-case in
+    let a = c .before .before .before .before .before .before .before .before .before .before .before .before .before .before .before .before .before .args in
+    let b = c .before .before .before .before .before .before .before .before .before .open-text in
     let x = c .before .answer .given in
-    let refuses = read-refuses (a .text .now) (b .last .1 .0) (b .last .1 .1 .0) (b .ensures) (x .0 .0) (x .1) in
-    let same = text-refused fromTree (a .text .now) (x .0 .0) (s .pre .0 .short) refuses in
-    (refused-all (x .0 .0) same refl (s .pre .0 .statesZero), subst (λ (f : Found Tree). FieldsHeld f (b .last .1 .0)) (sym same) tt)
+    let (refuses, zeros) = opening-refuses _ (b .last .1 .1 .1 .0) _ (b .result) (b .last .1 .0) (b .last .1 .1 .0) (b .ensures) (x .0 .0) (x .1) in
+    let same = check-goes-on (a .text .now) ∙ refuses fromConstraints in
+    (refused-all (x .0 .0) same refl zeros, subst (λ (f : Found Tree). FieldsHeld f (b .last .1 .1 .1 .0)) (sym same) tt)
 
 pub judge-text-spec : {M : Type 1} → statement M
 judge-text-spec =
     tie.close
     (tie.spec
-    read-case-requires
-    enum-known-header
-    judge-run-requires
+    open-text-requires
+    enum-known-case
+    judge-constraints-requires
     enum-known-answer
     same-length
     same-length-2
@@ -94,4 +76,5 @@ judge-text-spec =
     returns
     same-length-4
     same-length-5
+    same-length-6
     returns-2)

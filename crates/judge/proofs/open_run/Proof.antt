@@ -1,16 +1,18 @@
--- `judge_run`: every cue applies, and the tree follows; or one does not, and the state list is cleared. Assumes nothing.
+-- `open_run`: every cue applies, and the tree follows; or one does not, and the state list is cleared. Assumes nothing.
 use Prim.Native.Nat.{ℕ}
-use Rattle.judge.proofs.Phases.{refused-all, answers-as, open-left, open-few, run-stops, run-passes}
-use Rattle.judge.proofs.Verdicts.{run-refused, run-right}
-use Rattle.judge.proofs.judge_run.Statement.{statement}
-use Rattle.judge.proofs.judge_run.Tie as tie
-use Rattle.rules.proofs.Judgement.Rows.{fromTree}
+use Rattle.judge.proofs.Openings.{goes-refused, goes-ran}
+use Rattle.judge.proofs.Phases.{open-left, open-few, run-stops, run-passes}
+use Rattle.judge.proofs.Verdicts.{run-refused}
+use Rattle.judge.proofs.open_run.Statement.{statement}
+use Rattle.judge.proofs.open_run.Tie as tie
+use Rattle.judge.specs.Phases.{fromClaimed}
+use Rattle.judge.specs.declared.Opening.the-variants.{Refused}
 use Rattle.rules.specs.State.{wordCount}
 use Rattle.rules.specs.Verdict.{stateNeed}
 use Rattle.rules.specs.declared.Answer.the-variants.{Inapplicable}
 use borrow.Author.Needs.{needs}
 use lib.ListN.{replicate}
-use mathlib.Core.Path.{ap, sym, _∙_}
+use mathlib.Core.Path.{ap, _∙_}
 use native.Mathlib.Omega.{arith}
 
 run-requires : tie.Need-run-requires
@@ -24,8 +26,8 @@ run-requires c κs =
 enum-told : tie.Need-enum-told
 enum-told c = search needs
 
-judge-nodes-requires : tie.Need-judge-nodes-requires
-judge-nodes-requires c κs =
+open-nodes-requires : tie.Need-open-nodes-requires
+open-nodes-requires c κs =
     let s = c .before .before .before .before .before .before .before .before .before .before .before .before .before in
     let a = s .args in
     let (k, p) = s .pre in
@@ -35,8 +37,8 @@ judge-nodes-requires c κs =
 enum-known-cue : tie.Need-enum-known-cue
 enum-known-cue c = search needs
 
-refuse-requires : tie.Need-refuse-requires
-refuse-requires c κs = search needs
+refuse-case-requires : tie.Need-refuse-case-requires
+refuse-case-requires c κs = search needs
 
 same-length : tie.Need-same-length
 same-length c = search needs
@@ -46,13 +48,12 @@ same-length-2 c = search needs
 
 returns : tie.Need-returns
 returns c =
-    let s = c .before .before .before .before .before .before .before .before .before .before .before .before .before .before .before .before .before .before in
-    let a = s .args in
+    let a = c .before .before .before .before .before .before .before .before .before .before .before .before .before .before .before .before .before .before .args in
     let b = c .before .before .before .before .before .before .before .before .before .before .before .run in
     λ k p.
     let passes = run-passes (p .opens) (b .ensures k (open-left (p .opens))) (c .before .before .before .before .before .before .before .enum-told .given .1) (p .statesZero) (p .stateRoom) (b .kept .1 .1 .1 .1 .1 .0) in
-    answers-as (sym (run-right fromTree k (passes .runs))) (b .kept .1 .1 .1 .1 .1 .0)
-    (c .before .before .before .before .judge-nodes .ensures k (record { initial = a .initial; opens = p .opens; run = passes }))
+    goes-ran k _ _ _ (c .before .before .before .before .open-nodes .result) _ _ (passes .runs) (b .kept .1 .1 .1 .1 .1 .0)
+    (c .before .before .before .before .open-nodes .ensures k (record { initial = a .initial; opens = p .opens; run = passes }))
 
 same-length-3 : tie.Need-same-length-3
 same-length-3 c = search needs
@@ -64,22 +65,22 @@ returns-2 : tie.Need-returns-2
 returns-2 c =
     let b = c .before .before .before .before .before .before .before .before .before .run in
     let x = c .before .before .before .before .before .cue .given in
-    let z = c .before .before .refuse in
+    let z = c .before .before .refuse-case in
     λ k p.
     let stops = run-stops (p .opens) (b .ensures k (open-left (p .opens))) (x .0 .0) (x .1) in
-    refused-all (Inapplicable (k .planLine) (x .0 .0)) (run-refused fromTree k (x .0 .0) stops)
-    (z .ensures .0 ∙ ap (λ (n : ℕ). Inapplicable n (x .0 .0)) (p .opens .planned))
+    goes-refused _ k _ _ _ _ _ (Inapplicable (k .planLine) (x .0 .0)) (λ rest. run-refused (fromClaimed rest) k (x .0 .0) stops)
+    (z .ensures .0 ∙ ap (λ (n : ℕ). Refused (Inapplicable n (x .0 .0))) (p .opens .planned))
     (z .ensures .1 ∙ ap (λ (n : ℕ). replicate n 0) (b .kept .1 .1 .1 .1 .1 .0))
 
-pub judge-run-spec : {M : Type 1} → statement M
-judge-run-spec =
+pub open-run-spec : {M : Type 1} → statement M
+open-run-spec =
     tie.close
     (tie.spec
     run-requires
     enum-told
-    judge-nodes-requires
+    open-nodes-requires
     enum-known-cue
-    refuse-requires
+    refuse-case-requires
     same-length
     same-length-2
     returns
