@@ -1,0 +1,5 @@
+pub mod Rows
+pub mod First
+pub mod Fails
+pub mod Prints
+pub mod Counts
