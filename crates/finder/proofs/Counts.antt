@@ -42,7 +42,7 @@ few-empties zero e h n = absurd (n (power-none e))
 few-empties (suc k) e h n = go (decLt 19 e)
   where
     go : Dec (19 < e) → e ≤ 19
-    go (yes l) = let more : 2 ^ 20 ≤ 2 ^ e = pow-mono (omega arith) in absurd (omega (arith, power-two k e))
+    go (yes l) = let most : 20 ≤ e = omega arith in let more : 2 ^ 20 ≤ 2 ^ e = pow-mono {i = 20} {j = e} most in absurd (omega (arith, power-two k e))
     go (no l) = omega arith
 
 -- ---- The number tried
@@ -67,7 +67,7 @@ module _ (k : Case) where
   pub counted-all : (cues e : ℕ) → cues ≡ k .head .cues → emptyCount (k .nodes) ≡ e → choiceCount k ≤ choiceMost → min (power cues e) 1000001 ≡ choiceCount k
   unfolding choiceCount choiceMost
   counted-all cues e c n h =
-      let same : power cues e ≡ power (k .head .cues) (emptyCount (k .nodes)) = (λ j. power (c j) (n (~ j))) in
+      let same : power cues e ≡ power (k .head .cues) (emptyCount (k .nodes)) = ap (λ (x : ℕ). power x e) c ∙ ap (power (k .head .cues)) (sym n) in
       min-eq-left (omega arith) ∙ same
 
 -- ---- One choice
@@ -79,7 +79,7 @@ none-left (x ∷ xs) e = absurd (omega arith)
 -- Every gap 0 is the only choice, so if it fails all do.
 pub only-fails : (passing : List ℕ → Bool) (k e : ℕ) → power k e ≡ 1 → passing (replicate e 0) ≡ false → AllFail passing (onFrom k (replicate e 0))
 only-fails passing k e one fails =
-    let zeros = replicate e 0 in
+    let zeros = replicate {A = ℕ} e 0 in
     let size : length (onFrom k zeros) ≡ 1 = ap length (starts k e) ∙ length-choices k e ∙ one in
     let none : later k zeros ≡ [] = none-left (later k zeros) (omega (arith, ap length (from-head k zeros))) in
     subst (AllFail passing) (sym (from-head k zeros)) (fails, subst (AllFail passing) (sym none) tt)
@@ -89,7 +89,7 @@ only-fails passing k e one fails =
 -- At every gap 0 nothing is lower.
 pub known-zeros : (passing : List ℕ → Bool) (k e : ℕ) (why : List ℕ) → Known passing k why (replicate e 0)
 known-zeros passing k e why s h d c a l =
-    absurd (omega (arith, getD-replicate e s 0 0 (omega (arith, length-replicate {A = ℕ} e 0))))
+    absurd (omega (arith, getD-replicate {A = ℕ} e s 0 0 (omega (arith, length-replicate {A = ℕ} e 0))))
 
 all-has : (n i : ℕ) → i < n → Has (2 ^ n - 1) i
 all-has n i h =

@@ -3,3 +3,5 @@ pub mod First
 pub mod Fails
 pub mod Prints
 pub mod Counts
+pub mod Verdicts
+pub mod Turns

@@ -7,13 +7,14 @@ use native.Mathlib.Omega.{arith}
 use lib.ListN.{length, take, replicate, length-append, length-replicate}
 use lib.Seq.{take-at}
 use Rattle.rules.specs.declared.Header.{Header}
-use Rattle.rules.specs.Case.{Case, Valued, NodeLine}
+use Rattle.rules.specs.Case.{Case, Valued, NodeLine, D, E, L}
 use Rattle.rules.specs.Fields.{lineFields, linesFields, headerLine, initialLine, actionLine, methodLines, cuesLine, nodeLine, linesOf, fieldsOf}
 use Rattle.rules.specs.Print.{linesText, printed}
 use Rattle.rules.specs.Ranges.{Sound}
 use Rattle.rules.specs.Verdict.{textMost}
 use Rattle.rules.specs.Gaps.{emptyCount, ChoiceOf, withGaps, caseWith, textWith, gapsOf}
 use Rattle.rules.proofs.Judgement.Sound.{sound}
+use Rattle.rules.proofs.Printing.{canonical}
 use Rattle.rules.proofs.Gaps.Texts.{reads-with}
 use Rattle.rules.proofs.Gaps.Lengths.{surplus, length-surplus}
 use Rattle.fields.specs.Standing.{Stands}
@@ -79,6 +80,12 @@ ahead-size k nodes last = omega (arith, ap length (fields-part k), length-append
 
 -- ---- The node lines among the fields
 
+empties-few : (ns : List NodeLine) → emptyCount ns ≤ length ns
+empties-few [] = omega arith
+empties-few (D m ∷ ns) = omega (arith, empties-few ns)
+empties-few (E m g ∷ ns) = omega (arith, empties-few ns)
+empties-few (L a i ∷ ns) = omega (arith, empties-few ns)
+
 module _ {k : Case} {fields : List ℕ} {o : Opened} (p : Printable k fields o) where
   pub is-sound : Sound k
   is-sound = sound (p .read .text) k (p .read .reads)
@@ -96,6 +103,9 @@ module _ {k : Case} {fields : List ℕ} {o : Opened} (p : Printable k fields o) 
   -- A case of so few numbers has few node lines.
   pub few-lines : o .header .nodes ≤ 3000
   few-lines = subst (λ (h : Header). h .nodes ≤ 3000) (sym (p .head)) (is-sound .head-good .few-nodes)
+
+  pub few-empties : emptyCount (k .nodes) ≤ 3000
+  few-empties = omega (arith, empties-few (k .nodes), is-sound .nodes-length, is-sound .head-good .few-nodes)
 
   pub few-cues : o .header .cues ≤ 1000
   few-cues = subst (λ (h : Header). h .cues ≤ 1000) (sym (p .head)) (is-sound .head-good .few-cues)
@@ -148,6 +158,10 @@ module _ {k : Case} {fields : List ℕ} {o : Opened} (p : Printable k fields o) 
       }
 
 -- ---- The text's length
+
+-- A case that was read prints as a text that is not too long.
+pub print-short : (k : Case) → IsRead k → length (printed k) ≤ textMost
+print-short k r = subst (λ (l : List ℕ). length l ≤ textMost) (canonical (r .text) k (r .reads)) (r .short)
 
 module _ (k : Case) (base : ℕ) (b : BaseOf k base) where
   pub length-with : (gs : List ℕ) → ChoiceOf k gs → length (textWith gs k) ≡ base + surplus gs
