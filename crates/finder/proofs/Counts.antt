@@ -6,7 +6,7 @@ use Prim.Native.Nat.{ℕ, zero, suc, _+_, _-_, _^_, _≤_, _<_, min}
 use native.Mathlib.Nat.{pow-zero, pow-suc, mul-one, pow-le-pow-left, min-eq-left}
 use native.Mathlib.Decide.{decLt}
 use native.Mathlib.Omega.{arith}
-use lib.ListN.{length, getD, replicate, length-replicate, getD-replicate}
+use lib.ListN.{length, getD, take, replicate, length-replicate, getD-replicate}
 use lib.Pow.{pow-mono}
 use lib.Seq.{ext-getD}
 use borrow.Author.Tests.{lt-ltb, le-leb}
@@ -37,9 +37,9 @@ unfolding power
 power-two k e = pow-le-pow-left (omega arith) e
 
 -- With a cue, more than 19 empty tasks have more than 1,000,000 choices.
-pub few-empties : (k e : ℕ) → power k e ≤ 1000000 → (power k e ≡ 1 → ⊥) → e ≤ 19
-few-empties zero e h n = absurd (n (power-none e))
-few-empties (suc k) e h n = go (decLt 19 e)
+pub empties-most : (k e : ℕ) → power k e ≤ 1000000 → (power k e ≡ 1 → ⊥) → e ≤ 19
+empties-most zero e h n = absurd (n (power-none e))
+empties-most (suc k) e h n = go (decLt 19 e)
   where
     go : Dec (19 < e) → e ≤ 19
     go (yes l) = let most : 20 ≤ e = omega arith in let more : 2 ^ 20 ≤ 2 ^ e = pow-mono {i = 20} {j = e} most in absurd (omega (arith, power-two k e))
@@ -71,6 +71,19 @@ module _ (k : Case) where
       min-eq-left (omega arith) ∙ same
 
 -- ---- One choice
+
+pub zeros-taken : (e n : ℕ) → e ≤ n → take e (replicate {A = ℕ} n 0) ≡ replicate e 0
+zeros-taken zero n h = refl
+zeros-taken (suc e) zero h = absurd (omega arith)
+zeros-taken (suc e) (suc n) h = ap {B = List ℕ} (λ r. 0 ∷ r) (zeros-taken e n (omega arith))
+
+pub zeros-choice : (k : Case) (e : ℕ) (c : List ℕ) → emptyCount (k .nodes) ≡ e → c ≡ replicate e 0 → ChoiceOf k c
+zeros-choice k e c n z =
+    subst (ChoiceOf k) (sym z) (length-replicate {A = ℕ} e 0 ∙ sym n, zeros-within (k .head .cues) e)
+
+pub only-one : (k : Case) (e : ℕ) → emptyCount (k .nodes) ≡ e → choiceCount k ≡ 1 → power (k .head .cues) e ≡ 1
+unfolding choiceCount
+only-one k e n one = ap (power (k .head .cues)) (sym n) ∙ one
 
 none-left : (l : List (List ℕ)) → length l ≡ 0 → l ≡ []
 none-left [] e = refl

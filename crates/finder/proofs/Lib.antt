@@ -5,3 +5,7 @@ pub mod Prints
 pub mod Counts
 pub mod Verdicts
 pub mod Turns
+pub mod Trying
+pub mod Seeks
+pub mod Turned
+pub mod Counting

@@ -65,7 +65,7 @@ nearer-some cues c d (suc r) n s = s .0
 
 -- ---- How a turn came out
 
-module _ (k : Case) (size : ℕ) (c d why states work : List ℕ) {r : Attempt} (t : TurnsOut k size c r d why states work) where
+module _ (k : Case) (size : ℕ) (c d why states work : List ℕ) (r : Attempt) (t : TurnsOut k size c r d why states work) where
   pub turn-accepted : (a : Answer) → r ≡ Accepted a → TurnsOut k size c (Accepted a) d why states work
   turn-accepted a e = subst (λ (x : Attempt). TurnsOut k size c x d why states work) e t
 
@@ -83,7 +83,7 @@ pub same-case : {text fields states work now states′ work′ : List ℕ} {o at
 same-case x y = let p = x .reads in let q = y .reads in cc
 
 module _ {text fields states work : List ℕ} {o : Opened} {k : Case} (first : Passes text fields o states work k) (now : List ℕ) (size : ℕ)
-    (states′ work′ : List ℕ) {r : Opening} (told : OpensAs text now size r states′ work′) where
+    (states′ work′ : List ℕ) (r : Opening) (told : OpensAs text now size r states′ work′) where
   pub opened-again : (at : Opened) → r ≡ CaseOpen at → Passes text now at states′ work′ k
   opened-again at e =
       let (l, p) = subst (λ (x : Opening). OpensAs text now size x states′ work′) e told in
@@ -92,10 +92,10 @@ module _ {text fields states work : List ℕ} {o : Opened} {k : Case} (first : P
   -- So it is not refused.
   pub never-refused : (a : Answer) → r ≡ CaseRefused a → ⊥
   never-refused a e =
-      let (no, zeros) = subst (λ (x : Opening). OpensAs text now size x states′ work′) e told in
+      let (refuses, zeros) = subst (λ (x : Opening). OpensAs text now size x states′ work′) e told in
       let rest : Case → Tree → Found Tree = λ l t. found (l, t) in
       let p = first .rows rest in
-      let q = no rest in
+      let q = refuses rest in
       let z : _≡_ {A = ℕ} 0 1 = cc in
       omega arith
 
@@ -103,14 +103,13 @@ module _ {text fields states work : List ℕ} {o : Opened} {k : Case} (first : P
 
 module _ (k : Case) (e : ℕ) (counted : emptyCount (k .nodes) ≡ e) {size : ℕ} {states work : List ℕ} where
   -- A choice is accepted.
-  pub search-finds : (zeros d why : List ℕ) (a : Answer) → zeros ≡ replicate e 0 → GoesOn (passing k) (k .head .cues) zeros d why → passing k d ≡ true
-      → Answers (checkedWith k d) size a states work
-      → Finds (λ n. fromChoices n k) (Tried k) size (record { answer = a; tried = place (k .head .cues) d + 1 }) states work
-  search-finds zeros d why a z g p told =
-      let n = place (k .head .cues) d + 1 in
+  pub search-finds : (zeros d why : List ℕ) (a : Answer) (n : ℕ) → zeros ≡ replicate e 0 → GoesOn (passing k) (k .head .cues) zeros d why
+      → passing k d ≡ true → Answers (checkedWith k d) size a states work → n ≡ place (k .head .cues) d + 1
+      → Finds (λ n. fromChoices n k) (Tried k) size (record { answer = a; tried = n }) states work
+  search-finds zeros d why a n z g p told tried =
       let s = subst (λ (x : List ℕ). Skips (passing k) (k .head .cues) x d) z (g .skips) in
       let size-is : length d ≡ emptyCount (k .nodes) = g .skips .same-length ∙ ap length z ∙ length-replicate {A = ℕ} e 0 ∙ sym counted in
-      accepted-finds n (tried-place k d (size-is, g .skips .within)) told (found-at k n e counted d s p) p
+      accepted-finds n (subst (Tried k) (sym tried) (tried-place k d (size-is, g .skips .within))) told (found-at k n e counted d s p) p
 
   -- None is.
   pub search-fails : (zeros : List ℕ) (number : ℕ) → zeros ≡ replicate e 0 → AllFail (passing k) (onFrom (k .head .cues) zeros) → number ≡ choiceCount k

@@ -1,9 +1,10 @@
 -- What the call answers and leaves: a choice that was accepted, or a refusal. Assumes nothing.
 use mathlib.Core.Path.{_≡_, refl, sym, ap, _∙_, subst}
-use mathlib.Core.Bool.{true}
+use mathlib.Core.Bool.{Bool, true, false}
 use mathlib.Core.List.{List}
 use Prim.Native.Nat.{ℕ, _<_, _≤_}
 use borrow.Author.Tests.{lt-ltb, le-ltb}
+use lib.Dec.{ltb}
 use lib.ListN.{replicate}
 use Rattle.rules.specs.declared.Answer.{Answer}
 use Rattle.rules.specs.declared.Answer.the-variants.{TooManyChoices}
@@ -61,10 +62,15 @@ finds-as {f} {g} {limited} {allowed} {n} {l} {r} {states} {work} e w s x =
 -- ---- 15
 
 module _ (k : Case) (number : ℕ) where
-  pub many-choices : choiceMost < choiceCount k → fromCount number k ≡ refused (TooManyChoices (emptyCount (k .nodes)))
+  counted : (b : Bool) → ltb choiceMost (choiceCount k) ≡ b
+      → fromCount number k
+      ≡ _>>_ {A = Unit {0}} (elim b [ true ↦ refused (TooManyChoices (emptyCount (k .nodes))) | false ↦ found tt ]) (fromChoices number k)
   unfolding fewChoices
-  many-choices h = rw (lt-ltb choiceMost (choiceCount k) h)
+  counted b e =
+      ap (λ (x : Bool). _>>_ {A = Unit {0}} (elim x [ true ↦ refused (TooManyChoices (emptyCount (k .nodes))) | false ↦ found tt ]) (fromChoices number k)) e
+
+  pub many-choices : choiceMost < choiceCount k → fromCount number k ≡ refused (TooManyChoices (emptyCount (k .nodes)))
+  many-choices h = counted true (lt-ltb choiceMost (choiceCount k) h)
 
   pub few-choices : choiceCount k ≤ choiceMost → fromCount number k ≡ fromChoices number k
-  unfolding fewChoices
-  few-choices h = rw (le-ltb choiceMost (choiceCount k) h)
+  few-choices h = counted false (le-ltb choiceMost (choiceCount k) h)
