@@ -1,10 +1,10 @@
 -- Gaps put into the E lines among the fields: the lines passed hold the gaps of the choice, the others are as they came. Assumes nothing.
 use mathlib.Core.Path.{_≡_, refl, sym, ap, ap₂, _∙_}
 use mathlib.Core.List.{List, [], _∷_, _++_, append-assoc}
-use Prim.Native.Nat.{ℕ, suc, _+_, _≤_, _<_}
+use Prim.Native.Nat.{ℕ, _+_, _≤_, _<_}
 use native.Mathlib.Numerals.{add-one}
 use native.Mathlib.Omega.{arith}
-use lib.ListN.{length, getD, take, drop, set, length-set, take-append-drop, drop-of-length-le}
+use lib.ListN.{length, getD, take, drop, set, take-append-drop, drop-of-length-le}
 use lib.Seq.{take-at, drop-at, take-add, drop-drop, take-set-le, drop-set-add}
 use Rattle.rules.specs.Case.{NodeLine, D, E, L}
 use Rattle.rules.specs.Gaps.{emptyCount, withGaps}

@@ -1,10 +1,10 @@
 -- What node lines say of a span, summed line by line. Assumes nothing.
 use mathlib.Core.Path.{_≡_, refl, ap, _∙_}
-use mathlib.Core.List.{List, [], _∷_, _++_}
+use mathlib.Core.List.{List, [], _∷_}
 use Prim.Native.Nat.{ℕ, _+_, _*_, _≤_, _<_, min, max}
 use native.Mathlib.Omega.{arith}
 use lib.ListN.{length, getD, drop, length-append, drop-of-length-le}
-use Rattle.rules.specs.Index.{ofCue, ofGap}
+use Rattle.rules.specs.Index.{ofGap}
 use Rattle.rules.specs.Case.{NodeLine, D, E, L}
 use Rattle.rules.specs.Gaps.{emptyCount}
 use Rattle.fields.specs.Standing.{Stands}
@@ -63,13 +63,12 @@ module _ (k : ℕ) (fields : List ℕ) (from count p i low high empties : ℕ) (
         next = omega (arith, d .size, g .next);
       }
 
-  pub sums-end : low ≤ 2 * k + 1 → count ≤ i → (ns : List NodeLine) → NodesStand fields from count ns 
+  pub sums-end : low ≤ 2 * k + 1 → count ≤ i → (ns : List NodeLine) → NodesStand fields from count ns
       → (low ≡ lowOf k ns) × (high ≡ highOf ns) × (empties ≡ emptyCount ns) × (p ≡ from + length (fieldsOfLines ns))
   unfolding ofGap
   sums-end few most ns w =
       let none : drop i ns ≡ [] = drop-of-length-le ns {i = i} (omega (arith, w .counted)) in
-      let g = t ns w in
-      (
+      let g = t ns w in (
         omega (arith, ap (lowOf k) none, g .least),
         omega (arith, ap highOf none, g .greatest),
         omega (arith, ap emptyCount none, g .number),

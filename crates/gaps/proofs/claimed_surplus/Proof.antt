@@ -17,20 +17,17 @@ use borrow.Author.Needs.{needs}
 use Rattle.gaps.proofs.claimed_surplus.Statement.{statement}
 use Rattle.gaps.proofs.claimed_surplus.Tie as tie
 
-module _ (fields : List ℕ) (nodes count p i n : ℕ) (t : Counted surplusOf fields nodes count p i n)
-    (some : (ns : List NodeLine) × (h : Header) × NodesStand fields nodes count ns × Each (GoodNode h) ns × (h .cues ≤ 1000)) (more : i < count) where
-  inside : Inside fields p
-  inside = go some
-    where
-      go : ((ns : List NodeLine) × (h : Header) × NodesStand fields nodes count ns × Each (GoodNode h) ns × (h .cues ≤ 1000)) → Inside fields p
-      go (ns, h, w, good, few) = due-inside fields p ns i (due-of surplusOf fields nodes count p i n t ns w more)
+-- Node lines stand there whose gaps and positions are at most 1000.
+abbrev Good : List ℕ → ℕ → ℕ → Type 0
+Good fields nodes count = (ns : List NodeLine) × (h : Header) × NodesStand fields nodes count ns × Each (GoodNode h) ns × (h .cues ≤ 1000)
 
-  gap-few : (getD fields p 0 ≡ 68 → ⊥) → getD fields (p + 2) 0 ≤ 1000
-  gap-few other = go some
-    where
-      go : ((ns : List NodeLine) × (h : Header) × NodesStand fields nodes count ns × Each (GoodNode h) ns × (h .cues ≤ 1000)) → getD fields (p + 2) 0 ≤ 1000
-      go (ns, h, w, good, few) =
-          omega (arith, place-few fields p ns i h (due-of surplusOf fields nodes count p i n t ns w more) (omega (arith, w .counted)) good other)
+module _ (fields : List ℕ) (nodes count p i n : ℕ) (t : Counted surplusOf fields nodes count p i n) where
+  inside : Good fields nodes count → i < count → Inside fields p
+  inside (ns, h, w, good, few) more = due-inside fields p ns i (due-of surplusOf fields nodes count p i n t ns w more)
+
+  gap-few : Good fields nodes count → i < count → (getD fields p 0 ≡ 68 → ⊥) → getD fields (p + 2) 0 ≤ 1000
+  gap-few (ns, h, w, good, few) more other =
+      omega (arith, place-few fields p ns i h (due-of surplusOf fields nodes count p i n t ns w more) (omega (arith, w .counted)) good other)
 
 abbrev Inv-loop : tie.InvT-loop
 Inv-loop fields nodes count at₀ i₀ digits₀ at i digits = (i ≤ count) × (digits ≤ 3 * i) × Counted surplusOf fields nodes count at i digits

@@ -1,8 +1,8 @@
 -- `count_empties`: the E lines so far, and those of the lines left, are all of them. Assumes nothing.
-use mathlib.Core.Path.{_≡_, refl}
+use mathlib.Core.Path.{refl}
 use mathlib.Core.Logic.{⊎-elim}
 use mathlib.Core.List.{List}
-use Prim.Native.Nat.{ℕ, _+_, _-_, _≤_, _<_}
+use Prim.Native.Nat.{ℕ, _-_, _≤_, _<_}
 use native.Mathlib.Omega.{arith}
 use Rattle.rules.specs.Case.{NodeLine}
 use Rattle.rules.specs.Gaps.{emptyCount}
@@ -11,9 +11,6 @@ use Rattle.gaps.proofs.Lines.{Counted, Inside, due-inside, over-empties
 use borrow.Author.Needs.{needs}
 use Rattle.gaps.proofs.count_empties.Statement.{statement}
 use Rattle.gaps.proofs.count_empties.Tie as tie
-use Rattle.gaps.proofs.count_empties.Reads as reads
-use Rattle.gaps.proofs.count_empties.Lts as lts
-use Rattle.fields.proofs.node_size.Reads as node-size-reads
 
 inside : (fields : List ℕ) (nodes count p i n : ℕ) → Counted emptyCount fields nodes count p i n
     → ((ns : List NodeLine) × NodesStand fields nodes count ns) → i < count → Inside fields p

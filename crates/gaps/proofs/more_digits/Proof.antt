@@ -1,5 +1,4 @@
 -- `more_digits`: the digits of a number below 10, 100, 1000, and of 1000. Assumes nothing.
-use Prim.Native.Nat.{ℕ}
 use native.Mathlib.Omega.{arith}
 use Rattle.gaps.proofs.Digits.{digits-one, digits-two, digits-three, digits-four}
 use Rattle.gaps.proofs.more_digits.Statement.{statement}

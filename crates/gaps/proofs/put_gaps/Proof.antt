@@ -15,9 +15,6 @@ use Rattle.gaps.proofs.Putting.{Putting, Puts, puts-start, due-now, put
 use borrow.Author.Needs.{needs}
 use Rattle.gaps.proofs.put_gaps.Statement.{statement}
 use Rattle.gaps.proofs.put_gaps.Tie as tie
-use Rattle.gaps.proofs.put_gaps.Reads as reads
-use Rattle.gaps.proofs.put_gaps.Lts as lts
-use Rattle.fields.proofs.node_size.Reads as node-size-reads
 
 module _ (start choice : List ℕ) (nodes count : ℕ) (fields : List ℕ) (p i a : ℕ) (t : Puts start choice nodes count fields p i a) (more : i < count) where
   inside : ((ns : List NodeLine) × NodesStand start nodes count ns × (emptyCount ns ≤ length choice)) → Inside fields p
@@ -175,7 +172,7 @@ returns c =
     let l = c .before .loop in
     let most = c .loop-test .left in
     λ ns s few.
-        puts-end (a .fields .now) (a .choice .now) (a .nodes) ns (s .here .rest) (l .fields) (l .at) (l .i) (l .a) (l .inv .2 ns s few) (omega (arith, s .counted))
+    puts-end (a .fields .now) (a .choice .now) (a .nodes) ns (s .here .rest) (l .fields) (l .at) (l .i) (l .a) (l .inv .2 ns s few) (omega (arith, s .counted))
 
 pub put-gaps-spec : {M : Type 1} → statement M
 put-gaps-spec =

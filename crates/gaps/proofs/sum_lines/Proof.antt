@@ -19,19 +19,17 @@ use Rattle.gaps.proofs.Summing.{Sums, due-in, sums-start, sums-on, sums
 use borrow.Author.Needs.{needs}
 use Rattle.gaps.proofs.sum_lines.Statement.{statement}
 use Rattle.gaps.proofs.sum_lines.Tie as tie
-use Rattle.gaps.proofs.sum_lines.Reads as reads
-use Rattle.gaps.proofs.sum_lines.Lts as lts
-use Rattle.fields.proofs.node_size.Reads as node-size-reads
-use Rattle.gaps.proofs.greater.Reads as greater-reads
-use Rattle.gaps.proofs.lesser.Reads as lesser-reads
 
-module _ (k : ℕ) (fields : List ℕ) (from count p i low high empties : ℕ) (t : Sums k fields from count p i low high empties) (more : i < count) where
-  inside : ((ns : List NodeLine) × (h : Header) × NodesStand fields from count ns × Each (GoodNode h) ns × (h .cues ≤ 1000)) → Inside fields p
-  inside (ns, h, w, good, few) = due-inside fields p ns i (due-in k fields from count p i low high empties t ns w more)
+-- Node lines stand there whose gaps and positions are at most 1000.
+abbrev Good : List ℕ → ℕ → ℕ → Type 0
+Good fields from count = (ns : List NodeLine) × (h : Header) × NodesStand fields from count ns × Each (GoodNode h) ns × (h .cues ≤ 1000)
 
-  cue-few : (getD fields p 0 ≡ 68 → ⊥) → ((ns : List NodeLine) × (h : Header) × NodesStand fields from count ns × Each (GoodNode h) ns × (h .cues ≤ 1000))
-      → getD fields (p + 2) 0 ≤ 1000
-  cue-few other (ns, h, w, good, few) =
+module _ (k : ℕ) (fields : List ℕ) (from count p i low high empties : ℕ) (t : Sums k fields from count p i low high empties) where
+  inside : Good fields from count → i < count → Inside fields p
+  inside (ns, h, w, good, few) more = due-inside fields p ns i (due-in k fields from count p i low high empties t ns w more)
+
+  cue-few : Good fields from count → i < count → (getD fields p 0 ≡ 68 → ⊥) → getD fields (p + 2) 0 ≤ 1000
+  cue-few (ns, h, w, good, few) more other =
       omega (arith, place-few fields p ns i h (due-in k fields from count p i low high empties t ns w more) (omega (arith, w .counted)) good other)
 
 -- What a line adds to the least and the greatest cue.
@@ -73,7 +71,7 @@ mul-letter c =
     let s = c .before .before .before in
     let a = s .args in
     let l = c .before .loop in
-    let d = inside (a .cues) (a .fields .now) (a .from) (a .count) (l .at) (l .i) (l .low) (l .high) (l .empties) (l .inv .3) (c .loop-test .taken) (s .pre .1) in
+    let d = inside (a .cues) (a .fields .now) (a .from) (a .count) (l .at) (l .i) (l .low) (l .high) (l .empties) (l .inv .3) (s .pre .1) (c .loop-test .taken) in
     omega arith
 
 shared-slice-read-letter : tie.Need-shared-slice-read-letter Inv-loop μ-loop
@@ -81,7 +79,7 @@ shared-slice-read-letter c =
     let s = c .before .before .before .before in
     let a = s .args in
     let l = c .before .before .loop in
-    let d = inside (a .cues) (a .fields .now) (a .from) (a .count) (l .at) (l .i) (l .low) (l .high) (l .empties) (l .inv .3) (c .before .loop-test .taken) (s .pre .1) in
+    let d = inside (a .cues) (a .fields .now) (a .from) (a .count) (l .at) (l .i) (l .low) (l .high) (l .empties) (l .inv .3) (s .pre .1) (c .before .loop-test .taken) in
     omega arith
 
 add-empties : tie.Need-add-empties Inv-loop μ-loop
@@ -93,7 +91,7 @@ add-index c =
     let a = s .args in
     let l = c .before .before .before .before .loop in
     let more = c .before .before .before .loop-test .taken in
-    let d = inside (a .cues) (a .fields .now) (a .from) (a .count) (l .at) (l .i) (l .low) (l .high) (l .empties) (l .inv .3) more (s .pre .1) in
+    let d = inside (a .cues) (a .fields .now) (a .from) (a .count) (l .at) (l .i) (l .low) (l .high) (l .empties) (l .inv .3) (s .pre .1) more in
     omega arith
 
 mul-index : tie.Need-mul-index Inv-loop μ-loop
@@ -102,7 +100,7 @@ mul-index c =
     let a = s .args in
     let l = c .before .before .before .before .loop in
     let more = c .before .before .before .loop-test .taken in
-    let d = inside (a .cues) (a .fields .now) (a .from) (a .count) (l .at) (l .i) (l .low) (l .high) (l .empties) (l .inv .3) more (s .pre .1) in
+    let d = inside (a .cues) (a .fields .now) (a .from) (a .count) (l .at) (l .i) (l .low) (l .high) (l .empties) (l .inv .3) (s .pre .1) more in
     let three = size-placed (getD (a .fields .now) (l .at) 0) (λ e. omega (arith, c .if2 .taken)) in
     omega arith
 
@@ -112,7 +110,7 @@ shared-slice-read-index c =
     let a = s .args in
     let l = c .before .before .before .before .before .loop in
     let more = c .before .before .before .before .loop-test .taken in
-    let d = inside (a .cues) (a .fields .now) (a .from) (a .count) (l .at) (l .i) (l .low) (l .high) (l .empties) (l .inv .3) more (s .pre .1) in
+    let d = inside (a .cues) (a .fields .now) (a .from) (a .count) (l .at) (l .i) (l .low) (l .high) (l .empties) (l .inv .3) (s .pre .1) more in
     let three = size-placed (getD (a .fields .now) (l .at) 0) (λ e. omega (arith, c .before .if2 .taken)) in
     omega arith
 
@@ -122,8 +120,8 @@ mul-index-2 c =
     let a = s .args in
     let l = c .before .before .before .before .before .loop in
     let more = c .before .before .before .before .loop-test .taken in
-    let few = cue-few (a .cues) (a .fields .now) (a .from) (a .count) (l .at) (l .i) (l .low) (l .high) (l .empties) (l .inv .3) more
-    (λ e. omega (arith, c .before .if2 .taken)) (s .pre .1) in
+    let few = cue-few (a .cues) (a .fields .now) (a .from) (a .count) (l .at) (l .i) (l .low) (l .high) (l .empties) (l .inv .3) (s .pre .1) more
+    (λ e. omega (arith, c .before .if2 .taken)) in
     omega arith
 
 lesser-requires : tie.Need-lesser-requires Inv-loop μ-loop
@@ -141,7 +139,7 @@ add-at c =
     let a = s .args in
     let l = c .before .before .before .before .before .loop in
     let more = c .before .before .before .before .loop-test .taken in
-    let d = inside (a .cues) (a .fields .now) (a .from) (a .count) (l .at) (l .i) (l .low) (l .high) (l .empties) (l .inv .3) more (s .pre .1) in
+    let d = inside (a .cues) (a .fields .now) (a .from) (a .count) (l .at) (l .i) (l .low) (l .high) (l .empties) (l .inv .3) (s .pre .1) more in
     let size = c .node-size .ensures in
     omega arith
 
