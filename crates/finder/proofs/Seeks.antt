@@ -80,6 +80,10 @@ module _ {k : Case} {fields : List ℕ} {o : Opened} {states work : List ℕ} (x
       (λ sound found. found (passing k) sound (long-fail k (length c) spare (sym (h .0)) s) known)
 
 -- Where it stopped.
+pub has-sought : (r : Bool) → not r ≡ false → r ≡ true
+has-sought true e = refl
+has-sought false e = absurd (false≢true (sym e))
+
 module _ (p : List ℕ → Bool) (cues : ℕ) (c d why : List ℕ) where
   pub sought-none : (r : Bool) → not r ≡ true → Sought p cues c r d why → Sought p cues c false d why
   sought-none true e s = absurd (false≢true e)

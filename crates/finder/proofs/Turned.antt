@@ -31,19 +31,20 @@ module _ {k : Case} {first text fields : List ℕ} {at : Opened} {states work ch
   pub going-few : at .header .cues ≤ 1000
   going-few = few-cues (claimed-printable (g .passes .claimed))
 
-  -- A choice of as many gaps, within the header's cues.
-  module _ (d : List ℕ) (size : length d ≡ length choice) (w : Within (at .header .cues) d) where
-    pub next-choice : ChoiceOf k d
-    next-choice = (size ∙ going-choice .0, subst (λ (x : Header). Within (x .cues) d) going-head w)
+  -- A choice that is gone on to: its place, by the header's cues.
+  module _ (d why′ : List ℕ) (on : GoesOn (passing k) (k .head .cues) choice d why′) where
+    pub next-within : Within (at .header .cues) d
+    next-within = subst (λ (x : Header). Within (x .cues) d) (sym going-head) (on .skips .within)
 
     module _ (few : choiceCount k ≤ choiceMost) where
       pub power-few : power (at .header .cues) (length d) ≤ 1000000
       unfolding choiceCount choiceMost
       power-few =
-          omega (arith, ap (λ (x : Header). power (x .cues) (length d)) going-head, ap (power (k .head .cues)) (next-choice .0))
+          let size : length d ≡ emptyCount (k .nodes) = on .skips .same-length ∙ going-choice .0 in
+          omega (arith, ap (λ (x : Header). power (x .cues) (length d)) going-head, ap (power (k .head .cues)) size)
 
       pub place-few : place (at .header .cues) d < 1000000
-      place-few = omega (arith, power-few, place-below (at .header .cues) d w)
+      place-few = omega (arith, power-few, place-below (at .header .cues) d next-within)
 
   -- ---- Nothing is left
 

@@ -1,6 +1,7 @@
 // The find-the-gaps call (02, Card 4) over plain lists: the rows of the check down to 9, then the choices of gaps in dictionary order, and of the
 // first with which the text would be accepted what its check leaves. The columns of the node records are left in the work space.
 ghost use mathlib.Core.Path.{_≡_};
+ghost use mathlib.Core.Bool.{true};
 ghost use mathlib.Core.List.{List};
 ghost use Prim.Native.Nat.{_+_, _≤_, _<_, min};
 ghost use lib.ListN.{length, replicate};
@@ -179,7 +180,7 @@ fn seek_with(
 ) -> bool
     requires { ⌜ ((k : Case) × Claimed k (now fields) o (now states) (now work) × ChoiceOf k (now choice)) ⌝ }
     requires { ⌜ (length (now choice) ≤ 19) × (length (now why) ≡ length (now choice)) × Blank (now columns) (now built) ⌝ }
-    ensures within { λ _. ⌜ Within (o .header .cues) (now (choice .exit)) ⌝ }
+    ensures within { λ r. ⌜ (r ≡ true → Within (o .header .cues) (now (choice .exit))) ⌝ }
     ensures sought { λ r. ⌜ ((k : Case) → Claimed k (now (fields .entry)) o (now (states .entry)) (now (work .entry)) → ChoiceOf k (now (choice .entry)) → SpareOf k spare → Known (passing k) (k .head .cues) (now (why .entry)) (now (choice .entry)) → Sought (passing k) (k .head .cues) (now (choice .entry)) r (now (choice .exit)) (now (why .exit))) ⌝ }
 {
     let header = o.header;
@@ -230,7 +231,7 @@ fn seek_few(
 ) -> bool
     requires { ⌜ ((k : Case) × Claimed k (now fields) o (now states) (now work) × ChoiceOf k (now choice)) ⌝ }
     requires { ⌜ (length (now choice) ≤ 19) × (length (now why) ≡ length (now choice)) ⌝ }
-    ensures within { λ _. ⌜ Within (o .header .cues) (now (choice .exit)) ⌝ }
+    ensures within { λ r. ⌜ (r ≡ true → Within (o .header .cues) (now (choice .exit))) ⌝ }
     ensures sought { λ r. ⌜ ((k : Case) → Claimed k (now (fields .entry)) o (now (states .entry)) (now (work .entry)) → ChoiceOf k (now (choice .entry)) → SpareOf k spare → Known (passing k) (k .head .cues) (now (why .entry)) (now (choice .entry)) → Sought (passing k) (k .head .cues) (now (choice .entry)) r (now (choice .exit)) (now (why .exit))) ⌝ }
 {
     let mut columns = [0u64; FEW_WORDS * PER_WORD];
@@ -249,7 +250,7 @@ fn seek_many(
 ) -> bool
     requires { ⌜ ((k : Case) × Claimed k (now fields) o (now states) (now work) × ChoiceOf k (now choice)) ⌝ }
     requires { ⌜ (length (now choice) ≤ 19) × (length (now why) ≡ length (now choice)) ⌝ }
-    ensures within { λ _. ⌜ Within (o .header .cues) (now (choice .exit)) ⌝ }
+    ensures within { λ r. ⌜ (r ≡ true → Within (o .header .cues) (now (choice .exit))) ⌝ }
     ensures sought { λ r. ⌜ ((k : Case) → Claimed k (now (fields .entry)) o (now (states .entry)) (now (work .entry)) → ChoiceOf k (now (choice .entry)) → SpareOf k spare → Known (passing k) (k .head .cues) (now (why .entry)) (now (choice .entry)) → Sought (passing k) (k .head .cues) (now (choice .entry)) r (now (choice .exit)) (now (why .exit))) ⌝ }
 {
     let mut columns = [0u64; WORDS * PER_WORD];
@@ -268,7 +269,7 @@ fn seek_on(
 ) -> bool
     requires { ⌜ ((k : Case) × Claimed k (now fields) o (now states) (now work) × ChoiceOf k (now choice)) ⌝ }
     requires { ⌜ (length (now choice) ≤ 19) × (length (now why) ≡ length (now choice)) ⌝ }
-    ensures within { λ _. ⌜ Within (o .header .cues) (now (choice .exit)) ⌝ }
+    ensures within { λ r. ⌜ (r ≡ true → Within (o .header .cues) (now (choice .exit))) ⌝ }
     ensures sought { λ r. ⌜ ((k : Case) → Claimed k (now (fields .entry)) o (now (states .entry)) (now (work .entry)) → ChoiceOf k (now (choice .entry)) → SpareOf k spare → Known (passing k) (k .head .cues) (now (why .entry)) (now (choice .entry)) → Sought (passing k) (k .head .cues) (now (choice .entry)) r (now (choice .exit)) (now (why .exit))) ⌝ }
 {
     let header = o.header;
@@ -292,8 +293,7 @@ fn take_turn(
 ) -> Attempt
     requires { ⌜ ((k : Case) × Claimed k (now fields) o (now states) (now work) × BaseOf k base × ChoiceOf k (now choice)) ⌝ }
     requires { ⌜ (base ≤ 65535) × (length (now choice) ≤ 19) × (length (now why) ≡ length (now choice)) ⌝ }
-    ensures within { λ _. ⌜ Within (o .header .cues) (now (choice .exit)) ⌝ }
-    ensures turns { λ r. ⌜ ((k : Case) → Claimed k (now (fields .entry)) o (now (states .entry)) (now (work .entry)) → BaseOf k base → ChoiceOf k (now (choice .entry)) → Known (passing k) (k .head .cues) (now (why .entry)) (now (choice .entry)) → TurnsOut k (length (now (states .entry))) (now (choice .entry)) r (now (choice .exit)) (now (why .exit)) (now (states .exit)) (now (work .exit))) ⌝ }
+    ensures { λ r. ⌜ ((k : Case) → Claimed k (now (fields .entry)) o (now (states .entry)) (now (work .entry)) → BaseOf k base → ChoiceOf k (now (choice .entry)) → Known (passing k) (k .head .cues) (now (why .entry)) (now (choice .entry)) → TurnsOut k (length (now (states .entry))) (now (choice .entry)) r (now (choice .exit)) (now (why .exit)) (now (states .exit)) (now (work .exit))) ⌝ }
 {
     let spare = (TEXT - base) as u32;
     if !seek_on(fields, o, spare, choice, why, states, work) {

@@ -11,17 +11,13 @@ use Rattle.rules.specs.Gaps.{ChoiceOf, power}
 use Rattle.rules.specs.declared.Header.{Header}
 use Rattle.choices.specs.Searching.{place, onFrom}
 use Rattle.finder.proofs.Counts.{counted-all}
-use Rattle.finder.proofs.Turned.{going-choice, going-head, going-few, power-few, place-few, over-fails, none-after, some-after, fewer-after}
+use Rattle.finder.proofs.Turned.{going-choice, going-head, going-few, next-within, power-few, place-few, over-fails, none-after, some-after, fewer-after}
 use Rattle.finder.proofs.Turns.{Going, goes-start, goes-on, turn-accepted, turn-failed, turn-over, opened-again, never-refused, search-finds, search-fails}
 use Rattle.finder.proofs.Verdicts.{finds-as}
 use Rattle.finder.proofs.find_first.Statement.{statement}
 use Rattle.finder.proofs.find_first.Tie as tie
 use Rattle.finder.specs.Finding.{passing, BaseOf}
 use Rattle.judge.specs.Phases.{Passes}
-
-stub : ⊥
-stub = ?
-
 
 abbrev Inv-loop : tie.InvT-loop
 Inv-loop text fields₀ base choice₀ why₀ states₀ work₀ at₀ fields choice why states work at =
@@ -66,9 +62,11 @@ place-of-requires c κs =
     let g = l .inv .5 k x b (s .pre .1 .5) h in
     let t = c .before .before .before .before .before .before .before .before .before .before .before .before .before .before .take-turn in
     let d = t .last .1 .1 .1 .0 in
-    let turn = t .ensures .1 k (g .passes .claimed) b (going-choice g h) (g .goes .known) in
+    let turn = t .ensures k (g .passes .claimed) b (going-choice g h) (g .goes .known) in
     let same : length d ≡ length (l .choice) = t .kept .1 .1 .1 .0 in
-    (t .ensures .0, power-few g h d same (t .ensures .0) few)
+    let y = c .before .before .answer .given in
+    let (goes, good, told) = turn-accepted k (length (l .states)) (l .choice) d (t .last .1 .1 .1 .1 .0) (t .last .1 .1 .1 .1 .1 .0) (t .last .1 .1 .1 .1 .1 .1 .0) (t .result) turn (y .0 .0) (y .1) in
+    (next-within g h d (t .last .1 .1 .1 .1 .0) goes, power-few g h d (t .last .1 .1 .1 .1 .0) goes few)
 
 add-t30 : tie.Need-add-t30 Inv-loop μ-loop
 add-t30 c =
@@ -79,9 +77,11 @@ add-t30 c =
     let g = l .inv .5 k x b (s .pre .1 .5) h in
     let t = c .before .before .before .before .before .before .before .before .before .before .before .before .before .before .before .take-turn in
     let d = t .last .1 .1 .1 .0 in
-    let turn = t .ensures .1 k (g .passes .claimed) b (going-choice g h) (g .goes .known) in
+    let turn = t .ensures k (g .passes .claimed) b (going-choice g h) (g .goes .known) in
     let same : length d ≡ length (l .choice) = t .kept .1 .1 .1 .0 in
-    omega (arith, place-few g h d same (t .ensures .0) few, c .place-of .ensures)
+    let y = c .before .before .before .answer .given in
+    let (goes, good, told) = turn-accepted k (length (l .states)) (l .choice) d (t .last .1 .1 .1 .1 .0) (t .last .1 .1 .1 .1 .1 .0) (t .last .1 .1 .1 .1 .1 .1 .0) (t .result) turn (y .0 .0) (y .1) in
+    omega (arith, place-few g h d (t .last .1 .1 .1 .1 .0) goes few, c .place-of .ensures)
 
 same-length : tie.Need-same-length Inv-loop μ-loop
 same-length c = search needs
@@ -106,7 +106,7 @@ returns c k x b h few =
     let g = l .inv .5 k x b (s .pre .1 .5) h in
     let t = c .before .before .before .before .before .before .before .before .before .before .before .before .before .before .before .take-turn in
     let d = t .last .1 .1 .1 .0 in
-    let turn = t .ensures .1 k (g .passes .claimed) b (going-choice g h) (g .goes .known) in
+    let turn = t .ensures k (g .passes .claimed) b (going-choice g h) (g .goes .known) in
     let same : length d ≡ length (l .choice) = t .kept .1 .1 .1 .0 in
     let y = c .before .before .before .answer .given in
     let (goes, good, told) = turn-accepted k (length (l .states)) (l .choice) d (t .last .1 .1 .1 .1 .0) (t .last .1 .1 .1 .1 .1 .0) (t .last .1 .1 .1 .1 .1 .1 .0) (t .result) turn (y .0 .0) (y .1) in
@@ -151,7 +151,7 @@ returns-2 c k x b h few =
     let g = l .inv .5 k x b (s .pre .1 .5) h in
     let t = c .before .before .before .before .before .before .before .before .before .before .before .before .before .before .before .before .take-turn in
     let d = t .last .1 .1 .1 .0 in
-    let turn = t .ensures .1 k (g .passes .claimed) b (going-choice g h) (g .goes .known) in
+    let turn = t .ensures k (g .passes .claimed) b (going-choice g h) (g .goes .known) in
     let same : length d ≡ length (l .choice) = t .kept .1 .1 .1 .0 in
     let count = counted-all k (l .at .header .cues) (length d) (ap (λ (x : Header). x .cues) (going-head g h)) (sym (same ∙ going-choice g h .0)) few in
     let all = over-fails g h (length (l .states)) d (t .last .1 .1 .1 .1 .0) (t .last .1 .1 .1 .1 .1 .0) (t .last .1 .1 .1 .1 .1 .1 .0)
@@ -187,9 +187,9 @@ skip-requires c κs =
     let g = l .inv .5 k x b (s .pre .1 .5) h in
     let t = c .before .before .before .before .before .before .before .before .before .before .before .before .before .before .before .take-turn in
     let d = t .last .1 .1 .1 .0 in
-    let turn = t .ensures .1 k (g .passes .claimed) b (going-choice g h) (g .goes .known) in
+    let turn = t .ensures k (g .passes .claimed) b (going-choice g h) (g .goes .known) in
     let same : length d ≡ length (l .choice) = t .kept .1 .1 .1 .0 in
-    ((going-few g h, t .kept .1 .1 .1 .1 .0 ∙ l .inv .2 ∙ s .pre .1 .4 ∙ sym (same ∙ l .inv .1), omega (arith, l .inv .1, s .pre .1 .3)), stub)
+    (going-few g h, t .kept .1 .1 .1 .1 .0 ∙ l .inv .2 ∙ s .pre .1 .4 ∙ sym (same ∙ l .inv .1), omega (arith, l .inv .1, s .pre .1 .3))
 
 none-passes-requires-2 : tie.Need-none-passes-requires-2 Inv-loop μ-loop
 none-passes-requires-2 c κs =
@@ -223,7 +223,7 @@ returns-3 c k x b h few =
     let g = l .inv .5 k x b (s .pre .1 .5) h in
     let t = c .before .before .before .before .before .before .before .before .before .before .before .before .before .before .before .before .before .before .before .before .before .before .before .before .before .take-turn in
     let d = t .last .1 .1 .1 .0 in
-    let turn = t .ensures .1 k (g .passes .claimed) b (going-choice g h) (g .goes .known) in
+    let turn = t .ensures k (g .passes .claimed) b (going-choice g h) (g .goes .known) in
     let same : length d ≡ length (l .choice) = t .kept .1 .1 .1 .0 in
     let failed = turn-failed k (length (l .states)) (l .choice) d (t .last .1 .1 .1 .1 .0) (t .last .1 .1 .1 .1 .1 .0) (t .last .1 .1 .1 .1 .1 .1 .0) (t .result) turn (c .before .before .before .before .before .before .before .before .before .before .before .before .before .enum-told2 .given .1) in
     let m = c .before .before .before .before .before .before .before .before .before .before .before .before .all in
@@ -245,7 +245,7 @@ open-text-requires c κs =
     let g = l .inv .5 k x b (s .pre .1 .5) h in
     let t = c .before .before .before .before .before .before .before .before .before .before .before .before .before .before .before .before .before .before .before .before .before .before .before .before .take-turn in
     let d = t .last .1 .1 .1 .0 in
-    let turn = t .ensures .1 k (g .passes .claimed) b (going-choice g h) (g .goes .known) in
+    let turn = t .ensures k (g .passes .claimed) b (going-choice g h) (g .goes .known) in
     let same : length d ≡ length (l .choice) = t .kept .1 .1 .1 .0 in
     let failed = turn-failed k (length (l .states)) (l .choice) d (t .last .1 .1 .1 .1 .0) (t .last .1 .1 .1 .1 .1 .0) (t .last .1 .1 .1 .1 .1 .1 .0) (t .result) turn (c .before .before .before .before .before .before .before .before .before .before .before .before .enum-told2 .given .1) in
     let states : length (t .last .1 .1 .1 .1 .1 .0) ≡ length (l .states) = t .kept .1 .1 .1 .1 .1 .0 in
@@ -273,7 +273,7 @@ loop-less c =
     let g = l .inv .5 k x b (s .pre .1 .5) h in
     let t = c .before .before .before .before .before .before .before .before .before .before .before .before .before .before .before .before .before .before .before .before .before .before .before .before .before .before .before .before .before .before .before .before .before .before .take-turn in
     let d = t .last .1 .1 .1 .0 in
-    let turn = t .ensures .1 k (g .passes .claimed) b (going-choice g h) (g .goes .known) in
+    let turn = t .ensures k (g .passes .claimed) b (going-choice g h) (g .goes .known) in
     let same : length d ≡ length (l .choice) = t .kept .1 .1 .1 .0 in
     let failed = turn-failed k (length (l .states)) (l .choice) d (t .last .1 .1 .1 .1 .0) (t .last .1 .1 .1 .1 .1 .0) (t .last .1 .1 .1 .1 .1 .1 .0) (t .result) turn (c .before .before .before .before .before .before .before .before .before .before .before .before .before .before .before .before .before .before .before .before .before .before .enum-told2 .given .1) in
     let m = c .before .before .before .before .before .before .before .before .before .before .before .before .before .before .before .before .before .before .before .before .before .all in
@@ -298,7 +298,7 @@ loop-again c =
       λ k x b z h.
       let g = l .inv .5 k x b z h in
       let d = t .last .1 .1 .1 .0 in
-      let turn = t .ensures .1 k (g .passes .claimed) b (going-choice g h) (g .goes .known) in
+      let turn = t .ensures k (g .passes .claimed) b (going-choice g h) (g .goes .known) in
       let failed = turn-failed k (length (l .states)) (l .choice) d (t .last .1 .1 .1 .1 .0) (t .last .1 .1 .1 .1 .1 .0) (t .last .1 .1 .1 .1 .1 .1 .0) (t .result) turn (c .before .before .before .before .before .before .before .before .before .before .before .before .before .before .before .before .before .before .before .before .before .before .enum-told2 .given .1) in
       let m = c .before .before .before .before .before .before .before .before .before .before .before .before .before .before .before .before .before .before .before .before .before .all in
       let q = c .before .before .before .before .before .before .before .before .before .before .before .before .before .before .before .before .before .before .skip in
@@ -312,19 +312,39 @@ enum-known-answer-2 : tie.Need-enum-known-answer-2 Inv-loop μ-loop
 enum-known-answer-2 c = search needs
 
 same-length-16 : tie.Need-same-length-16 Inv-loop μ-loop
-same-length-16 c = search needs
+same-length-16 c =
+    let l = c .before .before .before .before .before .before .before .before .before .before .before .before .before .before .before .before .before .before .before .before .before .before .before .before .before .before .before .before .before .before .before .before .before .before .before .before .before .before .before .before .before .loop in
+    let t = c .before .before .before .before .before .before .before .before .before .before .before .before .before .before .before .before .before .before .before .before .before .before .before .before .before .before .before .before .before .before .before .before .before .before .take-turn in
+    let o = c .before .before .before .before .before .before .before .before .before .open-text in
+    o .kept .1 .1 .1 .0 ∙ t .kept .0 ∙ l .inv .0
 
 same-length-17 : tie.Need-same-length-17 Inv-loop μ-loop
-same-length-17 c = search needs
+same-length-17 c =
+    let l = c .before .before .before .before .before .before .before .before .before .before .before .before .before .before .before .before .before .before .before .before .before .before .before .before .before .before .before .before .before .before .before .before .before .before .before .before .before .before .before .before .before .loop in
+    let t = c .before .before .before .before .before .before .before .before .before .before .before .before .before .before .before .before .before .before .before .before .before .before .before .before .before .before .before .before .before .before .before .before .before .before .take-turn in
+    let q = c .before .before .before .before .before .before .before .before .before .before .before .before .before .before .before .before .before .before .skip in
+    q .kept .0 ∙ t .kept .1 .1 .1 .0 ∙ l .inv .1
 
 same-length-18 : tie.Need-same-length-18 Inv-loop μ-loop
-same-length-18 c = search needs
+same-length-18 c =
+    let l = c .before .before .before .before .before .before .before .before .before .before .before .before .before .before .before .before .before .before .before .before .before .before .before .before .before .before .before .before .before .before .before .before .before .before .before .before .before .before .before .before .before .loop in
+    let t = c .before .before .before .before .before .before .before .before .before .before .before .before .before .before .before .before .before .before .before .before .before .before .before .before .before .before .before .before .before .before .before .before .before .before .take-turn in
+    let q = c .before .before .before .before .before .before .before .before .before .before .before .before .before .before .before .before .before .before .skip in
+    q .kept .1 .0 ∙ t .kept .1 .1 .1 .1 .0 ∙ l .inv .2
 
 same-length-19 : tie.Need-same-length-19 Inv-loop μ-loop
-same-length-19 c = search needs
+same-length-19 c =
+    let l = c .before .before .before .before .before .before .before .before .before .before .before .before .before .before .before .before .before .before .before .before .before .before .before .before .before .before .before .before .before .before .before .before .before .before .before .before .before .before .before .before .before .loop in
+    let t = c .before .before .before .before .before .before .before .before .before .before .before .before .before .before .before .before .before .before .before .before .before .before .before .before .before .before .before .before .before .before .before .before .before .before .take-turn in
+    let o = c .before .before .before .before .before .before .before .before .before .open-text in
+    o .kept .1 .0 ∙ t .kept .1 .1 .1 .1 .1 .0 ∙ l .inv .3
 
 same-length-20 : tie.Need-same-length-20 Inv-loop μ-loop
-same-length-20 c = search needs
+same-length-20 c =
+    let l = c .before .before .before .before .before .before .before .before .before .before .before .before .before .before .before .before .before .before .before .before .before .before .before .before .before .before .before .before .before .before .before .before .before .before .before .before .before .before .before .before .before .loop in
+    let t = c .before .before .before .before .before .before .before .before .before .before .before .before .before .before .before .before .before .before .before .before .before .before .before .before .before .before .before .before .before .before .before .before .before .before .take-turn in
+    let o = c .before .before .before .before .before .before .before .before .before .open-text in
+    o .kept .1 .1 .0 ∙ t .kept .1 .1 .1 .1 .1 .1 .0 ∙ l .inv .4
 
 returns-4 : tie.Need-returns-4 Inv-loop μ-loop
 returns-4 c k x b h few =

@@ -46,7 +46,7 @@ seek-requires c κs =
     let (k, x, h) = s .pre .0 in
     let e = c .before .before .before .before .before .before .before .before .before .before .before .before .before .enter-all in
     let room : length (replicate {A = ℕ} 14592 0) ≡ 14592 = length-replicate {A = ℕ} 14592 0 in
-    ((few-cues (claimed-printable x), within-cues x (a .choice .now) h, s .pre .1 .0, s .pre .1 .1), ((e .ensures .1 .0, e .kept .1 .1 .1 .1 .1 .1 .1 .0 ∙ room, e .kept .1 .1 .1 .1 .1 .1 .1 .1 .0 ∙ length-replicate {A = ℕ} 19 0, length-replicate {A = ℕ} 19 0), (e .ensures .0, stub)))
+    ((few-cues (claimed-printable x), within-cues x (a .choice .now) h, s .pre .1 .0, s .pre .1 .1), ((e .ensures .1 .0, e .kept .1 .1 .1 .1 .1 .1 .1 .0 ∙ room, e .kept .1 .1 .1 .1 .1 .1 .1 .1 .0 ∙ length-replicate {A = ℕ} 19 0, length-replicate {A = ℕ} 19 0), e .ensures .0))
 
 same-length : tie.Need-same-length
 same-length c = search needs

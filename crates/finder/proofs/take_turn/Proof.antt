@@ -6,7 +6,7 @@ use native.Mathlib.Omega.{arith}
 use borrow.Author.Needs.{needs}
 use Rattle.rules.specs.Verdict.{textMost}
 use Rattle.finder.proofs.Prints.{spare-of}
-use Rattle.finder.proofs.Seeks.{choice-of, sought-none, sought-some}
+use Rattle.finder.proofs.Seeks.{choice-of, has-sought, sought-none, sought-some}
 use Rattle.finder.proofs.Trying.{choice-passes, choice-fails, choice-zeros}
 use Rattle.finder.proofs.Turns.{claimed-printable}
 use Rattle.finder.proofs.take_turn.Statement.{statement}
@@ -47,12 +47,9 @@ returns c =
     let s = c .before .before .before .before .before .before .before .before .before .before .before .before .before .before .before .before in
     let a = s .args in
     let g = c .before .before .before .before .before .seek-on in
-    (
-      g .ensures .0,
-      λ k x b h known.
-      let spare = spare-of k (a .base) b (65535 - a .base) (omega (arith, s .pre .1 .0)) in
-      sought-none (passing k) (k .head .cues) (a .choice .now) (g .last .1 .1 .1 .0) (g .last .1 .1 .1 .1 .0) (g .result) (c .if1 .taken) (g .ensures .1 k x h spare known),
-    )
+    λ k x b h known.
+    let spare = spare-of k (a .base) b (65535 - a .base) (omega (arith, s .pre .1 .0)) in
+    sought-none (passing k) (k .head .cues) (a .choice .now) (g .last .1 .1 .1 .0) (g .last .1 .1 .1 .1 .0) (g .result) (c .if1 .taken) (g .ensures .1 k x h spare known)
 
 try-choice-requires : tie.Need-try-choice-requires
 try-choice-requires c κs =
@@ -61,7 +58,7 @@ try-choice-requires c κs =
     let g = c .before .before .before .before .before .before .before .before .before .seek-on in
     let (k, x, b, h) = s .pre .0 in
     (
-      (k, claimed-printable x, b, choice-of x (a .choice .now) (g .last .1 .1 .1 .0) h (g .kept .1 .1 .1 .0) (g .ensures .0)),
+      (k, claimed-printable x, b, choice-of x (a .choice .now) (g .last .1 .1 .1 .0) h (g .kept .1 .1 .1 .0) (g .ensures .0 (has-sought (g .result) (c .before .before .before .before .if1 .left)))),
       (x .walked .run .stateRoom, x .walked .opens .workRoom),
     )
 
@@ -89,15 +86,12 @@ returns-2 c =
     let s = c .before .before .before .before .before .before .before .before .before .before .before .before .before .before .before .before .before .before .before .before .before .before .before .before .before .before .before .before in
     let a = s .args in
     let g = c .before .before .before .before .before .before .before .before .before .before .before .before .before .before .before .before .before .seek-on in
-    (
-      g .ensures .0,
-      λ k x b h known.
-      let spare = spare-of k (a .base) b (65535 - a .base) (omega (arith, s .pre .1 .0)) in
-      let goes = sought-some (passing k) (k .head .cues) (a .choice .now) (g .last .1 .1 .1 .0) (g .last .1 .1 .1 .1 .0) (g .result) (c .before .before .before .before .before .before .before .before .before .before .before .before .if1 .left) (g .ensures .1 k x h spare known) in
-      let told = c .before .before .before .before .before .before .before .try-choice .ensures k (claimed-printable x) b (choice-of x (a .choice .now) (g .last .1 .1 .1 .0) h (g .kept .1 .1 .1 .0) (g .ensures .0)) in
-      let not = not-accepted _ (c .match .keys2) in
-      (goes, choice-fails k (g .last .1 .1 .1 .0) told not, choice-zeros k (g .last .1 .1 .1 .0) told not),
-    )
+    λ k x b h known.
+    let spare = spare-of k (a .base) b (65535 - a .base) (omega (arith, s .pre .1 .0)) in
+    let goes = sought-some (passing k) (k .head .cues) (a .choice .now) (g .last .1 .1 .1 .0) (g .last .1 .1 .1 .1 .0) (g .result) (c .before .before .before .before .before .before .before .before .before .before .before .before .if1 .left) (g .ensures .1 k x h spare known) in
+    let told = c .before .before .before .before .before .before .before .try-choice .ensures k (claimed-printable x) b (choice-of x (a .choice .now) (g .last .1 .1 .1 .0) h (g .kept .1 .1 .1 .0) (g .ensures .0 (has-sought (g .result) (c .before .before .before .before .before .before .before .before .before .before .before .before .if1 .left)))) in
+    let not = not-accepted _ (c .match .keys2) in
+    (goes, choice-fails k (g .last .1 .1 .1 .0) told not, choice-zeros k (g .last .1 .1 .1 .0) told not)
 
 same-length-11 : tie.Need-same-length-11
 same-length-11 c = search needs
@@ -120,14 +114,11 @@ returns-3 c =
     let s = c .before .before .before .before .before .before .before .before .before .before .before .before .before .before .before .before .before .before .before .before .before .before .before .before .before .before .before .before .before in
     let a = s .args in
     let g = c .before .before .before .before .before .before .before .before .before .before .before .before .before .before .before .before .before .before .seek-on in
-    (
-      g .ensures .0,
-      λ k x b h known.
-      let spare = spare-of k (a .base) b (65535 - a .base) (omega (arith, s .pre .1 .0)) in
-      let goes = sought-some (passing k) (k .head .cues) (a .choice .now) (g .last .1 .1 .1 .0) (g .last .1 .1 .1 .1 .0) (g .result) (c .before .before .before .before .before .before .before .before .before .before .before .before .before .if1 .left) (g .ensures .1 k x h spare known) in
-      let told = c .before .before .before .before .before .before .before .before .try-choice .ensures k (claimed-printable x) b (choice-of x (a .choice .now) (g .last .1 .1 .1 .0) h (g .kept .1 .1 .1 .0) (g .ensures .0)) in
-      (goes, choice-passes k (g .last .1 .1 .1 .0) told _ _ (c .enum-told .given .1), told),
-    )
+    λ k x b h known.
+    let spare = spare-of k (a .base) b (65535 - a .base) (omega (arith, s .pre .1 .0)) in
+    let goes = sought-some (passing k) (k .head .cues) (a .choice .now) (g .last .1 .1 .1 .0) (g .last .1 .1 .1 .1 .0) (g .result) (c .before .before .before .before .before .before .before .before .before .before .before .before .before .if1 .left) (g .ensures .1 k x h spare known) in
+    let told = c .before .before .before .before .before .before .before .before .try-choice .ensures k (claimed-printable x) b (choice-of x (a .choice .now) (g .last .1 .1 .1 .0) h (g .kept .1 .1 .1 .0) (g .ensures .0 (has-sought (g .result) (c .before .before .before .before .before .before .before .before .before .before .before .before .before .if1 .left)))) in
+    (goes, choice-passes k (g .last .1 .1 .1 .0) told _ _ (c .enum-told .given .1), told)
 
 pub take-turn-spec : {M : Type 1} → statement M
 take-turn-spec =
