@@ -19,6 +19,7 @@ ghost use Rattle.output.specs.Output.{HasLines};
 ghost use Rattle.seeking.specs.Seeking.{Sought};
 ghost use Rattle.judge.specs.Phases.{Answers, Cleared, Claimed, Passes, fromClaimed};
 ghost use Rattle.finder.specs.Finding.{checkedWith, passing, fromChoices, fromCount, fromGaps, Finds, Tried, LimitedBy, Printable, BaseOf, SpareOf, TurnsOut};
+use blames::ORDER;
 use blames::POOL;
 use blames::POSITIONS;
 use columns::PER_WORD;
@@ -194,7 +195,8 @@ fn seek_with(
     let nodes = o.nodes;
     let mut pool = [0u32; POOL];
     let mut counts = [0u32; POSITIONS];
-    let mut hot = [0u32; POSITIONS];
+    let mut order = [0u32; ORDER];
+    blames::in_order(&mut order);
     entering::enter_all(
         fields,
         header,
@@ -213,7 +215,7 @@ fn seek_with(
         why,
         &pool,
         &counts,
-        &mut hot,
+        &mut order,
         header.cues,
         spare,
         states,

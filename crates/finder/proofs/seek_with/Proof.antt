@@ -13,6 +13,12 @@ use Rattle.finder.specs.Finding.{passing}
 use Rattle.judge.proofs.Constrained.{constraints-ready}
 use Rattle.rows.specs.Rows.{inRow}
 
+slice-aggregate-in-order : tie.Need-slice-aggregate-in-order
+slice-aggregate-in-order c = search needs
+
+in-order-requires : tie.Need-in-order-requires
+in-order-requires c κs = search needs
+
 slice-aggregate-enter-all : tie.Need-slice-aggregate-enter-all
 slice-aggregate-enter-all c = search needs
 
@@ -21,7 +27,7 @@ slice-aggregate-enter-all-2 c = search needs
 
 enter-all-requires : tie.Need-enter-all-requires
 enter-all-requires c κs =
-    let s = c .before .before .before .before .before .before .before .before .before .before .before .before .before in
+    let s = c .before .before .before .before .before .before .before .before .before .before .before .before .before .before .before .before in
     let a = s .args in
     let (k, x, h) = s .pre .0 in
     let room : length (replicate {A = ℕ} 14592 0) ≡ 14592 = length-replicate {A = ℕ} 14592 0 in
@@ -38,12 +44,12 @@ slice-aggregate-seek-3 c = search needs
 
 seek-requires : tie.Need-seek-requires
 seek-requires c κs =
-    let s = c .before .before .before .before .before .before .before .before .before .before .before .before .before .before .before .before .before .before .before .before .before .before .before .before .before .before .before in
+    let s = c .before .before .before .before .before .before .before .before .before .before .before .before .before .before .before .before .before .before .before .before .before .before .before .before .before .before .before .before .before .before in
     let a = s .args in
     let (k, x, h) = s .pre .0 in
     let e = c .before .before .before .before .before .before .before .before .before .before .before .before .before .enter-all in
     let room : length (replicate {A = ℕ} 14592 0) ≡ 14592 = length-replicate {A = ℕ} 14592 0 in
-    ((few-cues (claimed-printable x), within-cues x (a .choice .now) h, s .pre .1 .0, s .pre .1 .1), ((e .ensures .1 .0, e .kept .1 .1 .1 .1 .1 .1 .1 .0 ∙ room, e .kept .1 .1 .1 .1 .1 .1 .1 .1 .0 ∙ length-replicate {A = ℕ} 19 0, length-replicate {A = ℕ} 19 0), e .ensures .0))
+    ((few-cues (claimed-printable x), within-cues x (a .choice .now) h, s .pre .1 .0, s .pre .1 .1), ((e .ensures .1 .0, e .kept .1 .1 .1 .1 .1 .1 .1 .0 ∙ room, e .kept .1 .1 .1 .1 .1 .1 .1 .1 .0 ∙ length-replicate {A = ℕ} 19 0, c .before .before .before .before .before .before .before .before .before .before .before .before .before .before .before .before .before .before .before .before .in-order .kept .0 ∙ length-replicate {A = ℕ} 2432 0), e .ensures .0))
 
 same-length : tie.Need-same-length
 same-length c = search needs
@@ -59,21 +65,24 @@ same-length-4 c = search needs
 
 returns : tie.Need-returns
 returns c =
-    let s = c .before .before .before .before .before .before .before .before .before .before .before .before .before .before .before .before .before .before .before .before .before .before .before .before .before .before .before .before .before .before .before .before .before .before .before .before .before in
+    let s = c .before .before .before .before .before .before .before .before .before .before .before .before .before .before .before .before .before .before .before .before .before .before .before .before .before .before .before .before .before .before .before .before .before .before .before .before .before .before .before .before in
     let a = s .args in
     let e = c .before .before .before .before .before .before .before .before .before .before .before .before .before .before .before .before .before .before .before .before .before .before .before .enter-all in
-    let g = c .before .before .before .before .before .before .before .before .before .seek in (
+    let g = c .before .before .before .before .before .before .before .before .before .seek in
+    (
       g .ensures .0,
       λ k x h spare known.
-          let sound = e .ensures .1 .1 k (x .walked .tree) (constraints-ready x) (sym (h .0)) (passing k) (breaks-fail x)
-          (pool-sound 14592 (inRow (a .states .now)) (passing k) (a .o .header .cues) (length (a .choice .now))) in
-          sought-so x (a .choice .now) (g .last .0) (a .why .now) (g .last .1 .0) (e .last .1 .1 .1 .1 .1 .1 .1 .0) (g .result) (a .spare) h spare known sound (g .ensures .1),
+      let sound = e .ensures .1 .1 k (x .walked .tree) (constraints-ready x) (sym (h .0)) (passing k) (breaks-fail x)
+      (pool-sound 14592 (inRow (a .states .now)) (passing k) (a .o .header .cues) (length (a .choice .now))) in
+      sought-so x (a .choice .now) (g .last .0) (a .why .now) (g .last .1 .0) (e .last .1 .1 .1 .1 .1 .1 .1 .0) (g .result) (a .spare) h spare known sound (g .ensures .1),
     )
 
 pub seek-with-spec : {M : Type 1} → statement M
 seek-with-spec =
     tie.close
     (tie.spec
+    slice-aggregate-in-order
+    in-order-requires
     slice-aggregate-enter-all
     slice-aggregate-enter-all-2
     enter-all-requires
