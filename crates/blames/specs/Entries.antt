@@ -8,8 +8,8 @@ use Prim.Native.Nat.{ℕ, _+_, _*_, _%_, _^_, _<_, _≤_, min, max}
 use lib.Dec.{eqb}
 use lib.Bits.{bitOr}
 use lib.ListN.{length, getD}
-use Rattle.rules.specs.Index.{Span, ofGap}
-use Rattle.rules.specs.Case.{Constraint, constraintOf}
+use Rattle.rules.specs.Index.{Span, Part, partOf, only, ofGap}
+use Rattle.rules.specs.Case.{Constraint, O, B, F, W, constraintOf}
 use Rattle.rules.specs.Constraint.{Holds, keeps}
 use Rattle.rules.specs.Gaps.{Choice}
 use Rattle.subsets.specs.Members.{membersOf}
@@ -32,6 +32,26 @@ edges x gs = record { start = lowest (x .start) (membersOf (x .starts)) gs; end 
 -- no matter which parts it names.
 abbrev pub meant : Entry → Constraint
 meant x = constraintOf (x .letter) (x .p) (x .p) (x .p)
+
+-- The part that a constraint takes the start of, the part that it takes the end of, and whether p is the proposition that it names: one that
+-- names none takes any.
+abbrev pub startPart : Constraint → Part
+startPart (O i j) = only j
+startPart (B s p u) = partOf u
+startPart (F s p u) = partOf u
+startPart (W s u p v) = partOf v
+
+abbrev pub endPart : Constraint → Part
+endPart (O i j) = only i
+endPart (B s p u) = partOf u
+endPart (F s p u) = partOf u
+endPart (W s u p v) = partOf u
+
+abbrev pub Names : Constraint → ℕ → Type 0
+Names (O i j) q = Unit {0}
+Names (B s p u) q = q ≡ p
+Names (F s p u) q = q ≡ p
+Names (W s u p v) q = q ≡ p
 
 -- Whether the constraint holds, with the gaps of a choice. An entry without a letter says nothing.
 unfoldable pub entryKeeps : Holds → Entry → List ℕ → Bool

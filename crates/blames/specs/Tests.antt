@@ -2,7 +2,7 @@
 use mathlib.Core.Path.{_≡_}
 use mathlib.Core.Bool.{false}
 use mathlib.Core.List.{List}
-use Prim.Native.Nat.{ℕ, _≤_, _<_}
+use Prim.Native.Nat.{ℕ, _≤_}
 use Rattle.rules.specs.Constraint.{Holds}
 use Rattle.blames.specs.declared.pool.Cause.{Cause}
 use Rattle.blames.specs.declared.pool.Cause.the-variants.{Because}

@@ -1,6 +1,6 @@
 // Entries in buckets, and the first that is broken.
 ghost use mathlib.Core.Path.{_≡_};
-ghost use mathlib.Core.Bool.{Bool, true, false};
+ghost use mathlib.Core.Bool.{Bool};
 ghost use mathlib.Core.List.{List};
 ghost use Prim.Native.Nat.{ℕ, _+_, _*_, _<_, _≤_};
 ghost use lib.ListN.{length};
@@ -8,7 +8,7 @@ ghost use Rattle.rules.specs.Constraint.{Holds};
 ghost use Rattle.rules.specs.Gaps.{Within};
 ghost use Rattle.rows.specs.Rows.{inRow};
 ghost use Rattle.columns.specs.Columns.{Columns};
-ghost use Rattle.blames.specs.Entries.{entryKeeps, entryAt, SlotInside, EntryFits, EntrySound, PoolFits, PoolSound, BrokenEntry};
+ghost use Rattle.blames.specs.Entries.{entryAt, SlotInside, EntrySound, PoolFits, PoolSound};
 ghost use Rattle.blames.specs.Tests.{Broken, Says};
 use crate::entry::Entry;
 use crate::entry::keeps_entry;
@@ -163,7 +163,17 @@ pub fn test(
         let first = s * BUCKET;
         let full = counts[s] as usize;
         let count = if full < BUCKET { full } else { BUCKET };
-        let hit = broken_in(pool, first, count, hot[s] as usize, choice, k, states, columns, built);
+        let hit = broken_in(
+            pool,
+            first,
+            count,
+            hot[s] as usize,
+            choice,
+            k,
+            states,
+            columns,
+            built,
+        );
         match hit {
             Hit::At { slot } => {
                 hot[s] = (slot - first) as u32;

@@ -16,7 +16,7 @@ use Rattle.rules.specs.Gaps.{emptyCount, choices, ChoiceOf, textWith, gapsOf, c
 use Rattle.rules.proofs.Judgement.Rows.{fromText, fromTree}
 use Rattle.rules.proofs.Gaps.Lengths.{surplus}
 use Rattle.fields.specs.Standing.{Stands}
-use Rattle.fields.specs.Directory.{NodesLast}
+use Rattle.fields.specs.Directory.{IsRead, NodesLast}
 use Rattle.records.specs.Records.{RecordsHeld}
 use Rattle.judge.specs.declared.Opened.{Opened}
 use Rattle.finder.specs.declared.Discovery.{Discovery}
@@ -67,8 +67,7 @@ LimitedBy text n = (k : Case) → readCase text ≡ found k → Tried k n
 
 -- The fields are those of a case that some text reads as, its node lines from `nodes` on and last.
 pub record Printable (k : Case) (fields : List ℕ) (o : Opened) : Type 0 where
-  pub text : List ℕ
-  pub reads : readCase text ≡ found k
+  pub read : IsRead k
   pub head : o .header ≡ k .head
   pub stands : Stands fields 0 (fieldsOf k)
   pub last : NodesLast k (o .nodes)

@@ -1,10 +1,13 @@
 // The find-the-gaps call (02, Card 4) over plain lists: the rows of the check down to 9, then the choices of gaps in dictionary order, and of the
 // first with which the text would be accepted what its check leaves. The columns of the node records are left in the work space.
 ghost use mathlib.Core.Path.{_≡_};
+ghost use mathlib.Core.Bool.{true};
+ghost use mathlib.Core.List.{List};
 ghost use Prim.Native.Nat.{_+_, _≤_, _<_, min};
 ghost use lib.ListN.{length, replicate};
 ghost use Rattle.rules.specs.declared.Answer.the-variants.{NoChoice};
-ghost use Rattle.rules.specs.Case.{Case};
+ghost use Rattle.rules.specs.Case.{Case, Valued};
+ghost use Rattle.rules.specs.Print.{linesText};
 ghost use Rattle.rules.specs.Verdict.{textMost, stateNeed, workNeed, checkLists};
 ghost use Rattle.rules.specs.Gaps.{emptyCount, power, Within, ChoiceOf, textWith, choiceCount, choiceMost, findGaps, Limited, beforeChoices};
 ghost use Rattle.rules.proofs.Judgement.Rows.{fromText, fromTree};
@@ -12,6 +15,7 @@ ghost use Rattle.rules.proofs.Gaps.Lengths.{surplus};
 ghost use Rattle.choices.specs.Reasons.{Known};
 ghost use Rattle.fields.specs.Directory.{Roomy};
 ghost use Rattle.columns.specs.Columns.{Blank};
+ghost use Rattle.output.specs.Output.{HasLines};
 ghost use Rattle.seeking.specs.Seeking.{Sought};
 ghost use Rattle.judge.specs.Phases.{Answers, Cleared, Claimed, Passes, fromClaimed};
 ghost use Rattle.finder.specs.Finding.{checkedWith, passing, fromChoices, fromCount, fromGaps, Finds, Tried, LimitedBy, Printable, BaseOf, SpareOf, TurnsOut};
@@ -78,7 +82,9 @@ fn check_print(
     states: &mut [u64],
     work: &mut [u32],
 ) -> Answer
+    requires { ⌜ ((xs : List Valued) × HasLines cues (now fields) end xs × (length (linesText xs) ≤ length (now output))) ⌝ }
     requires { ⌜ (stateNeed ≤ length (now states)) × (workNeed ≤ length (now work)) × (length (now output) ≤ textMost) ⌝ }
+    ensures { λ r. ⌜ ((xs : List Valued) → HasLines cues (now (fields .entry)) end xs → Answers (fromText fromTree (linesText xs)) (length (now (states .entry))) r (now (states .exit)) (now (work .exit))) ⌝ }
 {
     let length = output::put_text(fields, end, cues, output);
     rows::clear(states);
@@ -86,12 +92,20 @@ fn check_print(
 }
 
 // The same with an output of its own, for a short text and for any.
-fn check_short(fields: &[u32], end: usize, cues: u32, states: &mut [u64], work: &mut [u32]) -> Answer {
+fn check_short(fields: &[u32], end: usize, cues: u32, states: &mut [u64], work: &mut [u32]) -> Answer
+    requires { ⌜ ((xs : List Valued) × HasLines cues (now fields) end xs × (length (linesText xs) ≤ 4096)) ⌝ }
+    requires { ⌜ (stateNeed ≤ length (now states)) × (workNeed ≤ length (now work)) ⌝ }
+    ensures { λ r. ⌜ ((xs : List Valued) → HasLines cues (now (fields .entry)) end xs → Answers (fromText fromTree (linesText xs)) (length (now (states .entry))) r (now (states .exit)) (now (work .exit))) ⌝ }
+{
     let mut output = [0u8; SHORT];
     check_print(fields, end, cues, &mut output, states, work)
 }
 
-fn check_any(fields: &[u32], end: usize, cues: u32, states: &mut [u64], work: &mut [u32]) -> Answer {
+fn check_any(fields: &[u32], end: usize, cues: u32, states: &mut [u64], work: &mut [u32]) -> Answer
+    requires { ⌜ ((xs : List Valued) × HasLines cues (now fields) end xs × (length (linesText xs) ≤ textMost)) ⌝ }
+    requires { ⌜ (stateNeed ≤ length (now states)) × (workNeed ≤ length (now work)) ⌝ }
+    ensures { λ r. ⌜ ((xs : List Valued) → HasLines cues (now (fields .entry)) end xs → Answers (fromText fromTree (linesText xs)) (length (now (states .entry))) r (now (states .exit)) (now (work .exit))) ⌝ }
+{
     let mut output = [0u8; TEXT];
     check_print(fields, end, cues, &mut output, states, work)
 }
@@ -166,7 +180,7 @@ fn seek_with(
 ) -> bool
     requires { ⌜ ((k : Case) × Claimed k (now fields) o (now states) (now work) × ChoiceOf k (now choice)) ⌝ }
     requires { ⌜ (length (now choice) ≤ 19) × (length (now why) ≡ length (now choice)) × Blank (now columns) (now built) ⌝ }
-    ensures within { λ _. ⌜ Within (o .header .cues) (now (choice .exit)) ⌝ }
+    ensures within { λ r. ⌜ (r ≡ true → Within (o .header .cues) (now (choice .exit))) ⌝ }
     ensures sought { λ r. ⌜ ((k : Case) → Claimed k (now (fields .entry)) o (now (states .entry)) (now (work .entry)) → ChoiceOf k (now (choice .entry)) → SpareOf k spare → Known (passing k) (k .head .cues) (now (why .entry)) (now (choice .entry)) → Sought (passing k) (k .head .cues) (now (choice .entry)) r (now (choice .exit)) (now (why .exit))) ⌝ }
 {
     let header = o.header;
@@ -217,7 +231,7 @@ fn seek_few(
 ) -> bool
     requires { ⌜ ((k : Case) × Claimed k (now fields) o (now states) (now work) × ChoiceOf k (now choice)) ⌝ }
     requires { ⌜ (length (now choice) ≤ 19) × (length (now why) ≡ length (now choice)) ⌝ }
-    ensures within { λ _. ⌜ Within (o .header .cues) (now (choice .exit)) ⌝ }
+    ensures within { λ r. ⌜ (r ≡ true → Within (o .header .cues) (now (choice .exit))) ⌝ }
     ensures sought { λ r. ⌜ ((k : Case) → Claimed k (now (fields .entry)) o (now (states .entry)) (now (work .entry)) → ChoiceOf k (now (choice .entry)) → SpareOf k spare → Known (passing k) (k .head .cues) (now (why .entry)) (now (choice .entry)) → Sought (passing k) (k .head .cues) (now (choice .entry)) r (now (choice .exit)) (now (why .exit))) ⌝ }
 {
     let mut columns = [0u64; FEW_WORDS * PER_WORD];
@@ -236,7 +250,7 @@ fn seek_many(
 ) -> bool
     requires { ⌜ ((k : Case) × Claimed k (now fields) o (now states) (now work) × ChoiceOf k (now choice)) ⌝ }
     requires { ⌜ (length (now choice) ≤ 19) × (length (now why) ≡ length (now choice)) ⌝ }
-    ensures within { λ _. ⌜ Within (o .header .cues) (now (choice .exit)) ⌝ }
+    ensures within { λ r. ⌜ (r ≡ true → Within (o .header .cues) (now (choice .exit))) ⌝ }
     ensures sought { λ r. ⌜ ((k : Case) → Claimed k (now (fields .entry)) o (now (states .entry)) (now (work .entry)) → ChoiceOf k (now (choice .entry)) → SpareOf k spare → Known (passing k) (k .head .cues) (now (why .entry)) (now (choice .entry)) → Sought (passing k) (k .head .cues) (now (choice .entry)) r (now (choice .exit)) (now (why .exit))) ⌝ }
 {
     let mut columns = [0u64; WORDS * PER_WORD];
@@ -255,7 +269,7 @@ fn seek_on(
 ) -> bool
     requires { ⌜ ((k : Case) × Claimed k (now fields) o (now states) (now work) × ChoiceOf k (now choice)) ⌝ }
     requires { ⌜ (length (now choice) ≤ 19) × (length (now why) ≡ length (now choice)) ⌝ }
-    ensures within { λ _. ⌜ Within (o .header .cues) (now (choice .exit)) ⌝ }
+    ensures within { λ r. ⌜ (r ≡ true → Within (o .header .cues) (now (choice .exit))) ⌝ }
     ensures sought { λ r. ⌜ ((k : Case) → Claimed k (now (fields .entry)) o (now (states .entry)) (now (work .entry)) → ChoiceOf k (now (choice .entry)) → SpareOf k spare → Known (passing k) (k .head .cues) (now (why .entry)) (now (choice .entry)) → Sought (passing k) (k .head .cues) (now (choice .entry)) r (now (choice .exit)) (now (why .exit))) ⌝ }
 {
     let header = o.header;
@@ -268,7 +282,7 @@ fn seek_on(
 }
 
 // One turn: on to the first choice that nothing is known against, which is then tried whole.
-fn attempt(
+fn take_turn(
     fields: &mut [u32],
     o: Opened,
     base: usize,
@@ -277,10 +291,9 @@ fn attempt(
     states: &mut [u64],
     work: &mut [u32],
 ) -> Attempt
-    requires { ⌜ ((k : Case) × Claimed k (now fields) o (now states) (now work) × Printable k (now fields) o × BaseOf k base × ChoiceOf k (now choice)) ⌝ }
+    requires { ⌜ ((k : Case) × Claimed k (now fields) o (now states) (now work) × BaseOf k base × ChoiceOf k (now choice)) ⌝ }
     requires { ⌜ (base ≤ 65535) × (length (now choice) ≤ 19) × (length (now why) ≡ length (now choice)) ⌝ }
-    ensures within { λ _. ⌜ Within (o .header .cues) (now (choice .exit)) ⌝ }
-    ensures turns { λ r. ⌜ ((k : Case) → Claimed k (now (fields .entry)) o (now (states .entry)) (now (work .entry)) → Printable k (now (fields .entry)) o → BaseOf k base → ChoiceOf k (now (choice .entry)) → Known (passing k) (k .head .cues) (now (why .entry)) (now (choice .entry)) → TurnsOut k (length (now (states .entry))) (now (choice .entry)) r (now (choice .exit)) (now (why .exit)) (now (states .exit)) (now (work .exit))) ⌝ }
+    ensures { λ r. ⌜ ((k : Case) → Claimed k (now (fields .entry)) o (now (states .entry)) (now (work .entry)) → BaseOf k base → ChoiceOf k (now (choice .entry)) → Known (passing k) (k .head .cues) (now (why .entry)) (now (choice .entry)) → TurnsOut k (length (now (states .entry))) (now (choice .entry)) r (now (choice .exit)) (now (why .exit)) (now (states .exit)) (now (work .exit))) ⌝ }
 {
     let spare = (TEXT - base) as u32;
     if !seek_on(fields, o, spare, choice, why, states, work) {
@@ -313,11 +326,12 @@ fn find_first(
     loop {
         let header = at.header;
         let k = header.cues;
-        match attempt(fields, at, base, choice, why, states, work) {
+        match take_turn(fields, at, base, choice, why, states, work) {
             Attempt::Accepted { answer } => {
+                let place = choices::place_of(choice, k);
                 return Discovery {
                     answer,
-                    tried: choices::place_of(choice, k) + 1,
+                    tried: place + 1,
                 };
             }
             Attempt::Over => {

@@ -4,6 +4,7 @@ use mathlib.Core.Bool.{Bool, true, false}
 use mathlib.Core.List.{List}
 use mathlib.Core.Option.{Option, none, some}
 use Prim.Native.Nat.{ℕ, _+_, _≤_, _<_}
+use native.Mathlib.Omega.{arith}
 use borrow.Author.Tests.{lt-ltb, le-ltb}
 use lib.Dec.{ltb}
 use lib.ListN.{length}
@@ -15,12 +16,12 @@ use Rattle.rules.specs.Case.{Case, readCase}
 use Rattle.rules.specs.Fields.{fieldsOf}
 use Rattle.rules.specs.Tree.{Tree, preorder, mayClaim, walkTree, leastUnclaimed}
 use Rattle.rules.specs.Constraint.{holdsIn, firstBroken}
-use Rattle.rules.specs.Verdict.{Found, stateNeed, nodeNeed, workNeed, checkLists, unless, statesOf, planRuns, allClaimed, noneBroken, textMost, check}
+use Rattle.rules.specs.Verdict.{Found, stateNeed, nodeNeed, workNeed, checkLists, listsLong, textShort, unless, statesOf, planRuns, allClaimed, noneBroken, textMost, check}
 use Rattle.fields.specs.Standing.{Stands}
 use Rattle.fields.specs.Directory.{IsRead}
 use Rattle.judge.specs.declared.Admission.{Admission}
 use Rattle.judge.specs.declared.Admission.the-variants.{Passed, Refused}
-use Rattle.judge.specs.Phases.{FieldsHeld, Admits, fromClaimed}
+use Rattle.judge.specs.Phases.{rowsAhead, FieldsHeld, Admits, fromClaimed}
 use Rattle.rules.proofs.Judgement.Rows.{fromConstraints, fromTree, fromRun, fromText}
 
 -- ---- Rows 6 to 9
@@ -111,14 +112,36 @@ module _ (states nodes work : ℕ) (text : List ℕ) where
   unfolding check checkLists fromTree fromRun fromText
   lists-are o e = ap (λ (x : Result (Unit {0})). x >> fromText fromTree text) e
 
-  pub states-short : states < stateNeed → check (checkLists states nodes work) text ≡ refused (ShortList 1)
-  states-short s = lists-are (refused (ShortList 1)) (ap (λ (b : Bool). shortOf b (ltb nodes nodeNeed) (ltb work workNeed)) (lt-ltb states stateNeed s))
+  -- The rows ahead of reading, by the lists.
+  ahead-are : (o : Result (Unit {0})) → shortOf (ltb states stateNeed) (ltb nodes nodeNeed) (ltb work workNeed) ≡ o
+      → rowsAhead states nodes work text ≡ (o >> textShort text)
+  unfolding checkLists
+  ahead-are o e = ap (λ (x : Result (Unit {0})). x >> textShort text) e
 
-  pub nodes-short : stateNeed ≤ states → nodes < nodeNeed → check (checkLists states nodes work) text ≡ refused (ShortList 2)
-  nodes-short s n = lists-are (refused (ShortList 2)) (λ j. shortOf (le-ltb states stateNeed s j) (lt-ltb nodes nodeNeed n j) (ltb work workNeed))
+  pub states-short : states < stateNeed → rowsAhead states nodes work text ≡ refused (ShortList 1)
+  states-short s = ahead-are (refused (ShortList 1)) (ap (λ (b : Bool). shortOf b (ltb nodes nodeNeed) (ltb work workNeed)) (lt-ltb states stateNeed s))
 
-  pub work-short : stateNeed ≤ states → nodeNeed ≤ nodes → work < workNeed → check (checkLists states nodes work) text ≡ refused (ShortList 3)
-  work-short s n w = lists-are (refused (ShortList 3)) (λ j. shortOf (le-ltb states stateNeed s j) (le-ltb nodes nodeNeed n j) (lt-ltb work workNeed w j))
+  pub nodes-short : stateNeed ≤ states → nodes < nodeNeed → rowsAhead states nodes work text ≡ refused (ShortList 2)
+  nodes-short s n = ahead-are (refused (ShortList 2)) (λ j. shortOf (le-ltb states stateNeed s j) (lt-ltb nodes nodeNeed n j) (ltb work workNeed))
+
+  pub work-short : stateNeed ≤ states → nodeNeed ≤ nodes → work < workNeed → rowsAhead states nodes work text ≡ refused (ShortList 3)
+  work-short s n w = ahead-are (refused (ShortList 3)) (λ j. shortOf (le-ltb states stateNeed s j) (le-ltb nodes nodeNeed n j) (lt-ltb work workNeed w j))
+
+  pub text-over : stateNeed ≤ states → nodeNeed ≤ nodes → workNeed ≤ work → textMost < length text
+      → rowsAhead states nodes work text ≡ refused LongText
+  text-over s n w h =
+      ahead-are (found tt) (λ j. shortOf (le-ltb states stateNeed s j) (le-ltb nodes nodeNeed n j) (le-ltb work workNeed w j))
+      ∙ ap (λ (b : Bool). elim b [ true ↦ refused LongText | false ↦ found tt ]) (lt-ltb textMost (length text) h)
+
+  -- What they refuse the check refuses.
+  pub ahead-refused : (a : Answer) → rowsAhead states nodes work text ≡ refused a → check (checkLists states nodes work) text ≡ refused a
+  unfolding check
+  ahead-refused a e = go (listsLong (checkLists states nodes work)) (textShort text) _ e
+    where
+      go : (o p : Result (Unit {0})) (rest : Found Tree) → _>>_ {B = Unit {0}} o p ≡ refused a → (o >> (p >> rest)) ≡ refused a
+      go (found u) (found v) rest q = let z : _≡_ {A = ℕ} 0 1 = cc in absurd (omega arith)
+      go (found u) (refused r) rest q = let same : r ≡ a = cc in ap (λ (x : Answer). refused x) same
+      go (refused r) p rest q = let same : r ≡ a = cc in ap (λ (x : Answer). refused x) same
 
   pub lists-long : stateNeed ≤ states → nodeNeed ≤ nodes → workNeed ≤ work → check (checkLists states nodes work) text ≡ fromText fromTree text
   lists-long s n w = lists-are (found tt) (λ j. shortOf (le-ltb states stateNeed s j) (le-ltb nodes nodeNeed n j) (le-ltb work workNeed w j))
@@ -129,8 +152,11 @@ module _ (states nodes work : ℕ) (text : List ℕ) {r : Admission} (said : Adm
   pub admit-passes : r ≡ Passed → Admits states nodes work text Passed
   admit-passes e = subst (Admits states nodes work text) e said
 
+  pub admit-rows : (a : Answer) → r ≡ Refused a → rowsAhead states nodes work text ≡ refused a
+  admit-rows a e = subst (Admits states nodes work text) e said
+
   pub admit-refuses : (a : Answer) → r ≡ Refused a → check (checkLists states nodes work) text ≡ refused a
-  admit-refuses a e = subst (Admits states nodes work text) e said
+  admit-refuses a e = ahead-refused states nodes work text a (admit-rows a e)
 
 -- ---- From the rows ahead to the constraints
 

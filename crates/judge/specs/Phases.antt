@@ -6,11 +6,11 @@ use Prim.Native.Nat.{ℕ, _*_, _≤_}
 use lib.ListN.{length, take, replicate}
 use Rattle.rules.specs.declared.Answer.{Answer}
 use Rattle.rules.specs.State.{firstStop}
-use Rattle.rules.specs.Result.{found, refused, _>>=_, _>>_}
+use Rattle.rules.specs.Result.{Result, found, refused, _>>=_, _>>_}
 use Rattle.rules.specs.Case.{Case, readCase}
 use Rattle.rules.specs.Tree.{Tree, mayClaim, walkTree, leastUnclaimed}
 use Rattle.rules.specs.Fields.{fieldsOf}
-use Rattle.rules.specs.Verdict.{Found, stateNeed, nodeNeed, workNeed, textMost, checkLists, check, allClaimed, statesOf, filled, answerOf, statesAfter}
+use Rattle.rules.specs.Verdict.{Found, stateNeed, nodeNeed, workNeed, textMost, checkLists, listsLong, textShort, allClaimed, statesOf, filled, answerOf, statesAfter}
 use Rattle.rules.proofs.Judgement.Rows.{fromText}
 use Rattle.fields.specs.Standing.{Stands}
 use Rattle.fields.specs.Directory.{IsRead, Finds, NodesLast}
@@ -33,10 +33,13 @@ unfoldable pub FieldsHeld : Found Tree → List ℕ → Type 0
 FieldsHeld (found (k, t)) fields = IsRead k × Stands fields 0 (fieldsOf k)
 FieldsHeld (refused r) fields = Unit {0}
 
--- What rows 1 and 2 say of lists of these lengths and of a text: both are passed; or they refuse it.
+-- Rows 1 and 2, of lists of these lengths and of a text: both are passed; or they refuse it.
+abbrev pub rowsAhead : ℕ → ℕ → ℕ → List ℕ → Result (Unit {0})
+rowsAhead states nodes work text = listsLong (checkLists states nodes work) >> textShort text
+
 abbrev pub Admits : ℕ → ℕ → ℕ → List ℕ → Admission → Type 0
 Admits states nodes work text Passed = (stateNeed ≤ states) × (nodeNeed ≤ nodes) × (workNeed ≤ work) × (length text ≤ textMost)
-Admits states nodes work text (Refused r) = check (checkLists states nodes work) text ≡ refused r
+Admits states nodes work text (Refused r) = rowsAhead states nodes work text ≡ refused r
 
 -- Rows 1 and 2 are passed, and the state list is zero.
 pub record Cleared (text states work : List ℕ) : Type 0 where

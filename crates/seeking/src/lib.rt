@@ -69,7 +69,7 @@ pub fn seek(
     requires { ⌜ (k ≤ 1000) × Within k (now choice) × (length (now choice) ≤ 19) × (length (now why) ≡ length (now choice)) ⌝ }
     requires { ⌜ PoolFits k (length (now choice)) (now pool) × (length (now pool) ≡ 14592) × (length (now counts) ≡ 19) × (length (now hot) ≡ 19) ⌝ }
     requires { ⌜ Columns (now states) (k + 1) (now columns) (now built) ⌝ }
-    ensures within { λ _. ⌜ Within k (now (choice .exit)) ⌝ }
+    ensures within { λ r. ⌜ (r ≡ true → Within k (now (choice .exit))) ⌝ }
     ensures sought { λ r. ⌜ ((passing : List ℕ → Bool) → PoolSound (inRow (now (states .entry))) passing k (length (now (choice .entry))) (now (pool .entry)) → LongFails passing k (length (now (choice .entry))) spare → Known passing k (now (why .entry)) (now (choice .entry)) → Sought passing k (now (choice .entry)) r (now (choice .exit)) (now (why .exit))) ⌝ }
 {
     let mut from: usize = 0;

@@ -1,14 +1,12 @@
 -- `admit`: each row's test settles the answer, or both rows are passed. Assumes nothing.
 use Prim.Native.Nat.{ℕ, _≤_, _<_}
-use Rattle.judge.proofs.Verdicts.{states-short, nodes-short, work-short, lists-long, text-long}
+use Rattle.judge.proofs.Verdicts.{states-short, nodes-short, work-short, text-over}
 use Rattle.judge.proofs.admit.Statement.{statement}
 use Rattle.judge.proofs.admit.Tie as tie
-use Rattle.rules.proofs.Judgement.Rows.{fromTree}
 use Rattle.rules.specs.State.{wordCount}
 use Rattle.rules.specs.Verdict.{textMost, workNeed, stateNeed, nodeNeed}
 use borrow.Author.Needs.{needs}
 use lib.ListN.{length}
-use mathlib.Core.Path.{_∙_}
 use native.Mathlib.Omega.{arith}
 
 mul-if1 : tie.Need-mul-if1
@@ -46,7 +44,7 @@ returns-4 c =
     let roomy : nodeNeed ≤ a .node-room = omega (arith, c .before .before .if2 .left) in
     let long-too : workNeed ≤ a .work-room = omega (arith, c .before .if3 .left) in
     let over : textMost < length (a .text .now) = omega (arith, c .if4 .taken) in
-    lists-long (a .state-room) (a .node-room) (a .work-room) (a .text .now) long roomy long-too ∙ text-long fromTree (a .text .now) over
+    text-over (a .state-room) (a .node-room) (a .work-room) (a .text .now) long roomy long-too over
 
 returns-5 : tie.Need-returns-5
 unfolding stateNeed wordCount nodeNeed workNeed textMost

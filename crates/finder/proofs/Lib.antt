@@ -1,0 +1,11 @@
+pub mod Rows
+pub mod First
+pub mod Fails
+pub mod Prints
+pub mod Counts
+pub mod Verdicts
+pub mod Turns
+pub mod Trying
+pub mod Seeks
+pub mod Turned
+pub mod Counting

@@ -1,0 +1,39 @@
+-- `check_any`: the output has room for any text that is not too long. Assumes nothing.
+use mathlib.Core.Path.{_≡_}
+use Prim.Native.Nat.{ℕ, _≤_}
+use native.Mathlib.Omega.{arith}
+use borrow.Author.Needs.{needs}
+use lib.ListN.{length, replicate, length-replicate}
+use Rattle.rules.specs.Verdict.{textMost}
+use Rattle.finder.proofs.check_any.Statement.{statement}
+use Rattle.finder.proofs.check_any.Tie as tie
+
+slice-aggregate-check-print : tie.Need-slice-aggregate-check-print
+slice-aggregate-check-print c = search needs
+
+check-print-requires : tie.Need-check-print-requires
+unfolding textMost
+check-print-requires c κs =
+    let s = c .before .before .before .before .before .before in
+    let (xs, lines, fits) = s .pre .0 in
+    let room : length (replicate {A = ℕ} 65535 0) ≡ 65535 = length-replicate {A = ℕ} 65535 0 in
+    ((xs, lines, omega arith), (s .pre .1 .0, s .pre .1 .1, omega arith))
+
+same-length : tie.Need-same-length
+same-length c = search needs
+
+same-length-2 : tie.Need-same-length-2
+same-length-2 c = search needs
+
+returns : tie.Need-returns
+returns c = search needs
+
+pub check-any-spec : {M : Type 1} → statement M
+check-any-spec =
+    tie.close
+    (tie.spec
+    slice-aggregate-check-print
+    check-print-requires
+    same-length
+    same-length-2
+    returns)
