@@ -13,7 +13,7 @@ use Rattle.rules.specs.Case.{Constraint, O, B, F, W, signOf, isEither, constrai
 use Rattle.rules.specs.Constraint.{Holds, holdsFrom, keeps}
 use Rattle.parts.proofs.Letters.{numbered-W, numbered-F, numbered-B, numbered-O}
 use Rattle.blames.specs.declared.entry.Entry.{Entry}
-use Rattle.blames.specs.Entries.{edges, meant, startPart, endPart, Names, entryKeeps}
+use Rattle.blames.specs.Entries.{edges, meant, StartsAt, EndsAt, Names, entryKeeps}
 
 pub silent-keeps : (holds : Holds) (x : Entry) (gs : List ℕ) → x .letter ≡ 0 → entryKeeps holds x gs ≡ true
 unfolding entryKeeps
@@ -58,7 +58,7 @@ module _ (holds : Holds) (at : Part → Span) (first second third : ℕ) (x : En
 
   -- The entry has the constraint's proposition, starts where its start part does and ends where its end part does.
   abbrev Fitting : Constraint → Type 0
-  Fitting d = Names d (x .p) × (edges x gs .start ≡ at (startPart d) .start) × (edges x gs .end ≡ at (endPart d) .end)
+  Fitting d = Names d (x .p) × StartsAt at d (edges x gs .start) × EndsAt at d (edges x gs .end)
 
   of-kind : {d e : Constraint} → itself ≡ d → meant x ≡ e → keeps holds (λ part. edges x gs) e ≡ keeps holds at d → entryKeeps holds x gs ≡ keeps holds at itself
   of-kind {d} {e} p q h = lettered-keeps holds x gs n ∙ ap (keeps holds (λ part. edges x gs)) q ∙ h ∙ ap (keeps holds at) (sym p)
@@ -94,7 +94,7 @@ module _ (holds : Holds) (at : Part → Span) (first second third : ℕ) (x : En
   same-O d e t = of-kind d e (ap₂ ltb (down-at (only first) (t .2)) (up-at (only second) (t .1)))
 
   pub keeps-edges : let d = constraintOf (x .letter) first second third in
-      Names d (x .p) → edges x gs .start ≡ at (startPart d) .start → edges x gs .end ≡ at (endPart d) .end → entryKeeps holds x gs ≡ keeps holds at d
+      Names d (x .p) → StartsAt at d (edges x gs .start) → EndsAt at d (edges x gs .end) → entryKeeps holds x gs ≡ keeps holds at d
   keeps-edges named starts ends = go (isEither (x .letter) 87 119) (isEither (x .letter) 70 102) (isEither (x .letter) 66 98) refl refl refl
     where
       fitting : {d : Constraint} → itself ≡ d → Fitting d

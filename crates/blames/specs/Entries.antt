@@ -33,20 +33,20 @@ edges x gs = record { start = lowest (x .start) (membersOf (x .starts)) gs; end 
 abbrev pub meant : Entry → Constraint
 meant x = constraintOf (x .letter) (x .p) (x .p) (x .p)
 
--- The part that a constraint takes the start of, the part that it takes the end of, and whether p is the proposition that it names: one that
--- names none takes any.
-abbrev pub startPart : Constraint → Part
-startPart (O i j) = only j
-startPart (B s p u) = partOf u
-startPart (F s p u) = partOf u
-startPart (W s u p v) = partOf v
+-- Where a constraint's start part starts, and where its end part ends: of F the start is no matter, of B the end.
+abbrev pub StartsAt : (Part → Span) → Constraint → ℕ → Type 0
+StartsAt at (O i j) start = start ≡ at (only j) .start
+StartsAt at (B s p u) start = start ≡ at (partOf u) .start
+StartsAt at (F s p u) start = Unit {0}
+StartsAt at (W s u p v) start = start ≡ at (partOf v) .start
 
-abbrev pub endPart : Constraint → Part
-endPart (O i j) = only i
-endPart (B s p u) = partOf u
-endPart (F s p u) = partOf u
-endPart (W s u p v) = partOf u
+abbrev pub EndsAt : (Part → Span) → Constraint → ℕ → Type 0
+EndsAt at (O i j) end = end ≡ at (only i) .end
+EndsAt at (B s p u) end = Unit {0}
+EndsAt at (F s p u) end = end ≡ at (partOf u) .end
+EndsAt at (W s u p v) end = end ≡ at (partOf u) .end
 
+-- Whether p is the proposition that a constraint names: one that names none takes any.
 abbrev pub Names : Constraint → ℕ → Type 0
 Names (O i j) q = Unit {0}
 Names (B s p u) q = q ≡ p

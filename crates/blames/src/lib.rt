@@ -9,5 +9,6 @@ pub use pool::BUCKET;
 pub use pool::Cause;
 pub use pool::POOL;
 pub use pool::POSITIONS;
+pub use pool::fits;
 pub use pool::push;
 pub use pool::test;

@@ -1,6 +1,6 @@
 // Entries in buckets, and the first that is broken.
 ghost use mathlib.Core.Path.{_≡_};
-ghost use mathlib.Core.Bool.{Bool};
+ghost use mathlib.Core.Bool.{Bool, true};
 ghost use mathlib.Core.List.{List};
 ghost use Prim.Native.Nat.{ℕ, _+_, _*_, _<_, _≤_};
 ghost use lib.ListN.{length};
@@ -8,7 +8,7 @@ ghost use Rattle.rules.specs.Constraint.{Holds};
 ghost use Rattle.rules.specs.Gaps.{Within};
 ghost use Rattle.rows.specs.Rows.{inRow};
 ghost use Rattle.columns.specs.Columns.{Columns};
-ghost use Rattle.blames.specs.Entries.{entryAt, SlotInside, EntrySound, PoolFits, PoolSound};
+ghost use Rattle.blames.specs.Entries.{entryAt, SlotInside, EntryFits, EntrySound, PoolFits, PoolSound};
 ghost use Rattle.blames.specs.Tests.{Broken, Says};
 use crate::entry::Entry;
 use crate::entry::keeps_entry;
@@ -74,26 +74,37 @@ fn last_of(set: u32) -> usize
     (31 - u32::leading_zeros(set)) as usize
 }
 
+// Whether an entry fits: its indexes lie between the first gap and the last one, its positions below those that there are.
+pub fn fits(k: u32, positions: u32, x: Entry) -> bool
+    requires { ⌜ (k ≤ 1000) × (positions ≤ 19) ⌝ }
+    ensures { λ r. ⌜ (r ≡ true → EntryFits k positions x) ⌝ }
+{
+    if x.start < 1 {
+        return false;
+    }
+    if 2 * k + 1 < x.start {
+        return false;
+    }
+    if 2 * k + 1 < x.end {
+        return false;
+    }
+    let set = x.ends | x.starts;
+    if subsets::all(positions) < set {
+        return false;
+    }
+    true
+}
+
 // An entry put into the bucket of its last position, if it fits and there is room.
 pub fn push(pool: &mut [u32], counts: &mut [u32], k: u32, positions: u32, x: Entry)
     requires { ⌜ (k ≤ 1000) × (positions ≤ 19) × (length (now pool) ≡ 14592) × (length (now counts) ≡ 19) ⌝ }
     ensures { λ _. ⌜ (PoolFits k positions (now (pool .entry)) → PoolFits k positions (now (pool .exit))) ⌝ }
-    ensures { λ _. ⌜ ((holds : Holds) (passing : List ℕ → Bool) → PoolSound holds passing k positions (now (pool .entry)) → EntrySound holds passing k positions x → PoolSound holds passing k positions (now (pool .exit))) ⌝ }
+    ensures { λ _. ⌜ ((holds : Holds) (passing : List ℕ → Bool) → PoolSound holds passing k positions (now (pool .entry)) → (EntryFits k positions x → EntrySound holds passing k positions x) → PoolSound holds passing k positions (now (pool .exit))) ⌝ }
 {
-    if x.start < 1 {
+    if !fits(k, positions, x) {
         return;
     }
-    if 2 * k + 1 < x.start {
-        return;
-    }
-    if 2 * k + 1 < x.end {
-        return;
-    }
-    let set = x.ends | x.starts;
-    if subsets::all(positions) < set {
-        return;
-    }
-    let bucket = last_of(set);
+    let bucket = last_of(x.ends | x.starts);
     if POSITIONS <= bucket {
         return;
     }

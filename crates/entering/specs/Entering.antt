@@ -14,7 +14,7 @@ use Rattle.rules.specs.Constraint.{holdsIn, keeps, constraintsOf, partsOf}
 use Rattle.rules.specs.Verdict.{statesOf}
 use Rattle.rules.specs.Gaps.{Choice, ChoiceOf}
 use Rattle.rules.proofs.Gaps.Trees.{regapped}
-use Rattle.entering.specs.declared.Part.{Part}
+use Rattle.entering.specs.declared.sums.Part.{Part}
 
 -- A choice fails where one constraint of one node is broken with its gaps.
 abbrev pub BreaksFail : Case → Tree → (List ℕ → Bool) → Type 0

@@ -1,1 +1,5 @@
 pub mod Entering
+pub mod Parts
+pub mod Trees
+pub mod Lines
+pub mod Visits
