@@ -12,7 +12,6 @@ use lib.ListN.{length, getD}
 use Rattle.rules.specs.State.{bit}
 use Rattle.rules.specs.Index.{Span}
 use Rattle.rules.specs.Tree.{Tree, leaf, empty, task, Trees, noTree, more, preorder, preorders, span, spans, subtaskSpans}
-use Rattle.rules.specs.Gaps.{Choice}
 use Rattle.rules.proofs.Judgement.Each.{Each, each-nil, each-cons, both-true}
 use Rattle.rules.proofs.Judgement.Preorder.{linesOf}
 use Rattle.rules.proofs.Gaps.Trees.{emptiesIn, emptiesInAll, regapped, regappedAll, empties-lines}

@@ -1,8 +1,8 @@
 -- One node whose constraints are entered: its lines and its subtasks' lines stand among the fields, and what its parts say of every choice
 -- makes the entries of its constraints sound. Assumes nothing.
 use mathlib.Core.Path.{_≡_, refl, sym, ap, subst, _∙_}
-use mathlib.Core.Bool.{Bool, true}
-use mathlib.Core.List.{List, [], _∷_, _++_, map, append-nil}
+use mathlib.Core.Bool.{Bool}
+use mathlib.Core.List.{List, _∷_, _++_, map, append-nil}
 use mathlib.Core.List.{List·Memᴰ as Mem, List·Memᴰ·head as here, List·Memᴰ·tail as there, Memᴰ·append-left as in-left, Memᴰ·append-right as in-right}
 use Prim.Native.Nat.{ℕ, _+_, _≤_, _<_}
 use native.Mathlib.Omega.{arith}
@@ -11,21 +11,20 @@ use Rattle.rules.specs.declared.Header.{Header}
 use Rattle.rules.specs.declared.Sign.{Sign}
 use Rattle.rules.specs.Case.{Constraint, O, B, F, W, methodAt, NodeLine, Case}
 use Rattle.rules.specs.Fields.{linesFields, nodeLine}
-use Rattle.rules.specs.Tree.{Tree, leaf, empty, task, Trees, noTree, more, preorder, rootLine}
-use Rattle.rules.specs.Constraint.{holdsIn, constraintsOf, partsOf}
+use Rattle.rules.specs.Tree.{Tree, leaf, empty, task, noTree, more, preorder, rootLine}
+use Rattle.rules.specs.Constraint.{holdsIn, partsOf}
 use Rattle.rules.specs.Verdict.{statesOf}
 use Rattle.rules.specs.Ranges.{GoodConstraint, GoodNode}
 use Rattle.rules.specs.Gaps.{emptyCount, Choice, ChoiceOf}
 use Rattle.rules.proofs.Judgement.Each.{Each, each-at}
 use Rattle.rules.proofs.Judgement.Preorder.{linesOf, linesOfAll, lines-more}
-use Rattle.rules.proofs.Gaps.Trees.{emptiesIn, emptiesInAll, regapped, empty-append, empties-lines}
+use Rattle.rules.proofs.Gaps.Trees.{emptiesIn, regapped, empty-append, empties-lines}
 use Rattle.fields.specs.Standing.{Stands}
 use Rattle.fields.specs.Directory.{nodeSize}
 use Rattle.fields.proofs.Standing.{stands-left, stands-as}
 use Rattle.tree.specs.Layout.{size, sizes}
 use Rattle.rows.specs.Rows.{inRow}
 use Rattle.records.specs.Records.{NodesStand}
-use Rattle.constraints.specs.declared.method.Line.{Line}
 use Rattle.constraints.specs.Methods.{meant}
 use Rattle.constraints.specs.Ready.{Ready, nodeOfTree}
 use Rattle.constraints.proofs.Held.{preorder-length, held-subtrees, subtreesOf, countOf}

@@ -6,7 +6,7 @@ use Rattle.rules.specs.declared.Header.{Header}
 use Rattle.rules.specs.State.{bit}
 use Rattle.rules.specs.Case.{NodeLine}
 use Rattle.rules.specs.Fields.{linesFields, nodeLine}
-use Rattle.rules.specs.Tree.{Tree, Trees, noTree, more}
+use Rattle.rules.specs.Tree.{Trees, noTree, more}
 use Rattle.rules.specs.Refusals.{Each}
 use Rattle.rules.specs.Ranges.{GoodNode}
 use Rattle.rules.specs.Gaps.{emptyCount}

@@ -8,16 +8,15 @@ ghost use Rattle.rules.specs.Case.{Constraint};
 ghost use Rattle.rules.specs.Constraint.{Holds};
 ghost use Rattle.rules.specs.Refusals.{Each};
 ghost use Rattle.rules.specs.Gaps.{Within};
-ghost use Rattle.rows.specs.Rows.{inRow};
 ghost use Rattle.columns.specs.Columns.{Columns};
 ghost use Rattle.constraints.specs.Methods.{ConstraintsHere, meant};
 ghost use Rattle.blames.specs.Entries.{EntryFits, EntrySound, PoolFits, PoolSound};
 ghost use Rattle.entering.specs.Lines.{InSums, entryOf, EntriesSound};
-use blames::Entry;
-use constraints::Line;
 use crate::sums::Part;
 use crate::sums::part_at;
 use crate::sums::part_of_set;
+use blames::Entry;
+use constraints::Line;
 use parts::is_either;
 
 // The entry of a constraint: O takes the end of one subtask and the start of another; B the start of its set, F the end; W the end of one set and

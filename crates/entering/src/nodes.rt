@@ -67,8 +67,30 @@ fn enter_node(
     sum_trees(fields, work, x.n, x.at, x.first, 1, k, &mut whole);
     let own = part_at(&whole, 0);
     let mut sums = [0u32; 96];
-    sum_trees(fields, work, x.n + 1, x.at + node_size(x.letter), x.first, subtasks, k, &mut sums);
-    enter_lines(fields, counted + 1, count, own, &sums, k, choice, pool, counts, states, columns, built);
+    sum_trees(
+        fields,
+        work,
+        x.n + 1,
+        x.at + node_size(x.letter),
+        x.first,
+        subtasks,
+        k,
+        &mut sums,
+    );
+    enter_lines(
+        fields,
+        counted + 1,
+        count,
+        own,
+        &sums,
+        k,
+        choice,
+        pool,
+        counts,
+        states,
+        columns,
+        built,
+    );
 }
 
 // The entries of all nodes.
@@ -105,7 +127,18 @@ pub fn enter_all(
             label: fields[at + 1],
             first,
         };
-        enter_node(fields, x, header.cues, choice, work, pool, counts, states, columns, built);
+        enter_node(
+            fields,
+            x,
+            header.cues,
+            choice,
+            work,
+            pool,
+            counts,
+            states,
+            columns,
+            built,
+        );
         if letter == EMPTY {
             first += 1;
         }

@@ -5,7 +5,7 @@ use Rattle.blames.specs.Entries.{EntryFits, EntrySound, PoolFits, PoolSound}
 use Rattle.columns.specs.Columns.{Columns}
 use Rattle.constraints.specs.Methods.{ConstraintsHere, meant, Says}
 use Rattle.entering.proofs.Entered.{Entered, entered-starts, Due, due, line-among, entered-on}
-use Rattle.entering.specs.Lines.{InSums, entryOf, EntriesSound}
+use Rattle.entering.specs.Lines.{EntriesSound}
 use Rattle.rules.specs.Case.{Constraint}
 use Rattle.rules.specs.Constraint.{Holds}
 use borrow.Author.Needs.{needs}

@@ -5,7 +5,7 @@ use Rattle.entering.specs.Lines.{InSums, entryFrom, noPart}
 use Rattle.parts.proofs.Letters.{numbered-O}
 use Rattle.rules.specs.Case.{isEither}
 use Prim.Native.Nat.{_<_}
-use mathlib.Core.Bool.{true, false}
+use mathlib.Core.Bool.{false}
 use mathlib.Core.Path.{_≡_, refl, sym, ap, ap₂, subst, _∙_}
 use native.Mathlib.Omega.{arith}
 use borrow.Author.Needs.{needs}

@@ -5,11 +5,11 @@ use Rattle.entering.specs.Trees.{TreesStand, PartSays}
 use Rattle.gaps.specs.Sums.{inRun}
 use Rattle.records.specs.Records.{NodesStand}
 use Rattle.rules.proofs.Judgement.Preorder.{linesOf}
-use Rattle.rules.specs.Tree.{Tree, Trees}
+use Rattle.rules.specs.Tree.{Trees}
 use Rattle.tree.specs.Layout.{size}
 use borrow.Author.Needs.{needs}
 use lib.ListN.{length, length-set}
-use mathlib.Core.Path.{_≡_, refl, sym, ap, subst, _∙_}
+use mathlib.Core.Path.{_≡_, refl, ap, subst, _∙_}
 use native.Mathlib.Omega.{arith}
 use Rattle.entering.proofs.sums.sum_trees.Statement.{statement}
 use Rattle.entering.proofs.sums.sum_trees.Tie as tie
