@@ -169,13 +169,13 @@ fn as_found(d: Discovery) -> Found
     ensures { λ r. ⌜ (foundReport r ≡ reported (d .answer)) × (r .tried ≡ d .tried) ⌝ }
 {
     let answer = d.answer;
-    let reply = as_reply(answer);
+    let r = as_reply(answer);
     Found {
-        number: reply.number,
-        line: reply.line,
-        item: reply.item,
-        cues: reply.cues,
-        nodes: reply.nodes,
+        number: r.number,
+        line: r.line,
+        item: r.item,
+        cues: r.cues,
+        nodes: r.nodes,
         tried: d.tried,
     }
 }

@@ -100,6 +100,18 @@ enum-known-answer-14 c = search needs
 refusal-requires-14 : tie.Need-refusal-requires-14
 refusal-requires-14 c κs = search needs
 
+enum-known-answer-15 : tie.Need-enum-known-answer-15
+enum-known-answer-15 c = search needs
+
+refusal-requires-15 : tie.Need-refusal-requires-15
+refusal-requires-15 c κs = search needs
+
+enum-known-answer-16 : tie.Need-enum-known-answer-16
+enum-known-answer-16 c = search needs
+
+refusal-requires-16 : tie.Need-refusal-requires-16
+refusal-requires-16 c κs = search needs
+
 returns : tie.Need-returns
 unfolding reported
 returns c = sym (ap reported (c .before .answer .given .1))
@@ -160,6 +172,14 @@ returns-15 : tie.Need-returns-15
 unfolding reported
 returns-15 c = told _ _ _ (c .before .before .answer14 .given .1) (c .refusal14 .ensures)
 
+returns-16 : tie.Need-returns-16
+unfolding reported
+returns-16 c = told _ _ _ (c .before .before .answer15 .given .1) (c .refusal15 .ensures)
+
+returns-17 : tie.Need-returns-17
+unfolding reported
+returns-17 c = told _ _ _ (c .before .before .answer16 .given .1) (c .refusal16 .ensures)
+
 pub as-reply-spec : {M : Type 1} → statement M
 as-reply-spec =
     tie.close
@@ -193,6 +213,10 @@ as-reply-spec =
     refusal-requires-13
     enum-known-answer-14
     refusal-requires-14
+    enum-known-answer-15
+    refusal-requires-15
+    enum-known-answer-16
+    refusal-requires-16
     returns
     returns-2
     returns-3
@@ -207,4 +231,6 @@ as-reply-spec =
     returns-12
     returns-13
     returns-14
-    returns-15)
+    returns-15
+    returns-16
+    returns-17)
