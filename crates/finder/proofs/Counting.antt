@@ -19,36 +19,36 @@ use Rattle.finder.proofs.Counts.{empties-most, tried-one, zeros-taken}
 use Rattle.finder.proofs.Prints.{surplus-inside}
 
 module _ (k : Case) (header : Header) (head : header ≡ k .head) (e : ℕ) (counted : e ≡ emptyCount (k .nodes)) (n : ℕ) (is : n ≡ min (power (header .cues) e) 1000001)
-    where
-  same : power (header .cues) e ≡ choiceCount k
-  unfolding choiceCount
-  same = ap (λ (x : Header). power (x .cues) e) head ∙ ap (power (k .head .cues)) counted
+  where
+    same : power (header .cues) e ≡ choiceCount k
+    unfolding choiceCount
+    same = ap (λ (x : Header). power (x .cues) e) head ∙ ap (power (k .head .cues)) counted
 
-  pub counted-many : 1000000 < n → choiceMost < choiceCount k
-  unfolding choiceMost
-  counted-many h = omega (arith, same, min-le-left (power (header .cues) e) 1000001)
-
-  module _ (h : n ≤ 1000000) where
-    below : power (header .cues) e ≤ 1000000
-    below = go (decLt 1000000 (power (header .cues) e))
-      where
-        go : Dec (1000000 < power (header .cues) e) → power (header .cues) e ≤ 1000000
-        go (yes l) = let over : min (power (header .cues) e) 1000001 ≡ 1000001 = min-eq-right (omega arith) in absurd (omega arith)
-        go (no l) = omega arith
-
-    pub counted-few : choiceCount k ≤ choiceMost
+    pub counted-many : 1000000 < n → choiceMost < choiceCount k
     unfolding choiceMost
-    counted-few = omega (arith, same, below)
+    counted-many h = omega (arith, same, min-le-left (power (header .cues) e) 1000001)
 
-    pub counted-is : choiceCount k ≡ n
-    counted-is = sym (is ∙ min-eq-left below′ ∙ same)
-      where
-        below′ : power (header .cues) e ≤ 1000001
-        below′ = omega (arith, below)
+    module _ (h : n ≤ 1000000) where
+      below : power (header .cues) e ≤ 1000000
+      below = go (decLt 1000000 (power (header .cues) e))
+        where
+          go : Dec (1000000 < power (header .cues) e) → power (header .cues) e ≤ 1000000
+          go (yes l) = let over : min (power (header .cues) e) 1000001 ≡ 1000001 = min-eq-right (omega arith) in absurd (omega arith)
+          go (no l) = omega arith
 
-    -- With more than one choice the positions are few.
-    pub counted-positions : (n ≡ 1 → ⊥) → e ≤ 19
-    counted-positions more = empties-most (header .cues) e below (λ one. more (sym counted-is ∙ sym same ∙ one))
+      pub counted-few : choiceCount k ≤ choiceMost
+      unfolding choiceMost
+      counted-few = omega (arith, same, below)
+
+      pub counted-is : choiceCount k ≡ n
+      counted-is = sym (is ∙ min-eq-left below′ ∙ same)
+        where
+          below′ : power (header .cues) e ≤ 1000001
+          below′ = omega (arith, below)
+
+      -- With more than one choice the positions are few.
+      pub counted-positions : (n ≡ 1 → ⊥) → e ≤ 19
+      counted-positions more = empties-most (header .cues) e below (λ one. more (sym counted-is ∙ sym same ∙ one))
 
 -- ---- The text
 

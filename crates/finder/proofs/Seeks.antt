@@ -74,9 +74,9 @@ module _ {k : Case} {fields : List ℕ} {o : Opened} {states work : List ℕ} (x
       → Sought (passing k) (k .head .cues) c r d after
   sought-so c d why after pool r spare h s known =
       subst (λ (y : Header). PoolSound (inRow states) (passing k) (y .cues) (length c) pool
-          → ((p : List ℕ → Bool) → PoolSound (inRow states) p (y .cues) (length c) pool → LongFails p (y .cues) (length c) spare
-          → Known p (y .cues) why c → Sought p (y .cues) c r d after)
-          → Sought (passing k) (k .head .cues) c r d after) (sym (x .walked .opens .head))
+      → ((p : List ℕ → Bool) → PoolSound (inRow states) p (y .cues) (length c) pool → LongFails p (y .cues) (length c) spare
+      → Known p (y .cues) why c → Sought p (y .cues) c r d after)
+      → Sought (passing k) (k .head .cues) c r d after) (sym (x .walked .opens .head))
       (λ sound found. found (passing k) sound (long-fail k (length c) spare (sym (h .0)) s) known)
 
 -- Where it stopped.

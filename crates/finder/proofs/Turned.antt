@@ -61,7 +61,7 @@ module _ {k : Case} {first text fields : List ℕ} {at : Opened} {states work ch
     skipped : Skipped (passing k) (k .head .cues) d r f after
     skipped =
         subst (λ (x : Header). ((p : List ℕ → Bool) → Within (x .cues) d → Reason p (x .cues) (length d) m d → Known p (x .cues) why′ d
-            → Skipped p (x .cues) d r f after) → Skipped (passing k) (k .head .cues) d r f after) (sym going-head)
+        → Skipped p (x .cues) d r f after) → Skipped (passing k) (k .head .cues) d r f after) (sym going-head)
         (λ found. found (passing k) (t .0 .skips .within) (all-reason (passing k) (k .head .cues) m d all (t .1)) (t .0 .known)) skips
 
     upto : GoesOn (passing k) (k .head .cues) first d why′

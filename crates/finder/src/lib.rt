@@ -92,7 +92,13 @@ fn check_print(
 }
 
 // The same with an output of its own, for a short text and for any.
-fn check_short(fields: &[u32], end: usize, cues: u32, states: &mut [u64], work: &mut [u32]) -> Answer
+fn check_short(
+    fields: &[u32],
+    end: usize,
+    cues: u32,
+    states: &mut [u64],
+    work: &mut [u32],
+) -> Answer
     requires { ⌜ ((xs : List Valued) × HasLines cues (now fields) end xs × (length (linesText xs) ≤ 4096)) ⌝ }
     requires { ⌜ (stateNeed ≤ length (now states)) × (workNeed ≤ length (now work)) ⌝ }
     ensures { λ r. ⌜ ((xs : List Valued) → HasLines cues (now (fields .entry)) end xs → Answers (fromText fromTree (linesText xs)) (length (now (states .entry))) r (now (states .exit)) (now (work .exit))) ⌝ }
@@ -236,7 +242,17 @@ fn seek_few(
 {
     let mut columns = [0u64; FEW_WORDS * PER_WORD];
     let mut built = [0u64; FEW_WORDS];
-    seek_with(fields, o, spare, choice, why, states, work, &mut columns, &mut built)
+    seek_with(
+        fields,
+        o,
+        spare,
+        choice,
+        why,
+        states,
+        work,
+        &mut columns,
+        &mut built,
+    )
 }
 
 fn seek_many(
@@ -255,7 +271,17 @@ fn seek_many(
 {
     let mut columns = [0u64; WORDS * PER_WORD];
     let mut built = [0u64; WORDS];
-    seek_with(fields, o, spare, choice, why, states, work, &mut columns, &mut built)
+    seek_with(
+        fields,
+        o,
+        spare,
+        choice,
+        why,
+        states,
+        work,
+        &mut columns,
+        &mut built,
+    )
 }
 
 fn seek_on(
@@ -394,7 +420,16 @@ fn find_choices(
     let mut choice = [0u32; POSITIONS];
     let mut why = [0u32; POSITIONS];
     let e = empties as usize;
-    find_first(text, fields, o, base, &mut choice[..e], &mut why[..e], states, work)
+    find_first(
+        text,
+        fields,
+        o,
+        base,
+        &mut choice[..e],
+        &mut why[..e],
+        states,
+        work,
+    )
 }
 
 // The rows from reading on, with room for the fields.

@@ -194,8 +194,7 @@ find-first-requires c κs =
     let own = c .before .before .before .before .before .before .claimed-surplus .ensures (k .nodes) stand in
     let b = base-of (a .text .now) k (x .reads) digits own in
     let most = counted-positions k (a .o .header) (p .head) e counted n is (omega (arith, c .before .before .before .before .before .before .before .before .if1 .left)) (c .before .before .before .before .before .if2 .left) in
-    let size = start-size e 19 most in
-    (
+    let size = start-size e 19 most in (
       (k, x, b, zeros-choice k e _ (sym counted) (zeros-taken e 19 most), few),
       (s .pre .1 .0, s .pre .1 .1, omega (arith, s .pre .1 .1), omega arith, refl, start-zeros e 19 most),
     )

@@ -34,9 +34,14 @@ abbrev μ-loop : tie.MeasureT-loop
 
 loop-holds : tie.Need-loop-holds Inv-loop μ-loop
 loop-holds c =
-    let a = c .before .before .before .before .before .before .args in
-    (refl, refl, refl, refl, refl,
-    λ k x b z h. record { passes = x; goes = goes-start (passing k) (k .head .cues) (length (a .choice .now)) (a .why .now) (a .choice .now) z (h .1) })
+    let a = c .before .before .before .before .before .before .args in (
+      refl,
+      refl,
+      refl,
+      refl,
+      refl,
+      λ k x b z h. record { passes = x; goes = goes-start (passing k) (k .head .cues) (length (a .choice .now)) (a .why .now) (a .choice .now) z (h .1) },
+    )
 
 take-turn-requires : tie.Need-take-turn-requires Inv-loop μ-loop
 take-turn-requires c κs =
@@ -44,8 +49,7 @@ take-turn-requires c κs =
     let a = s .args in
     let l = c .before .before .before .before .before .before .loop in
     let (k, x, b, h, few) = s .pre .0 in
-    let g = l .inv .5 k x b (s .pre .1 .5) h in
-    (
+    let g = l .inv .5 k x b (s .pre .1 .5) h in (
       (k, g .passes .claimed, b, going-choice g h),
       (s .pre .1 .2, omega (arith, l .inv .1, s .pre .1 .3), l .inv .2 ∙ s .pre .1 .4 ∙ sym (l .inv .1)),
     )
@@ -250,8 +254,7 @@ open-text-requires c κs =
     let failed = turn-failed k (length (l .states)) (l .choice) d (t .last .1 .1 .1 .1 .0) (t .last .1 .1 .1 .1 .1 .0) (t .last .1 .1 .1 .1 .1 .1 .0) (t .result) turn (c .before .before .before .before .before .before .before .before .before .before .before .before .enum-told2 .given .1) in
     let states : length (t .last .1 .1 .1 .1 .1 .0) ≡ length (l .states) = t .kept .1 .1 .1 .1 .1 .0 in
     let work : length (t .last .1 .1 .1 .1 .1 .1 .0) ≡ length (l .work) = t .kept .1 .1 .1 .1 .1 .1 .0 in
-    let fields : length (t .last .0) ≡ length (l .fields) = t .kept .0 in
-    (
+    let fields : length (t .last .0) ≡ length (l .fields) = t .kept .0 in (
       record {
         short = s .pre .1 .1;
         stateRoom = omega (arith, g .passes .claimed .walked .run .stateRoom);
@@ -288,24 +291,23 @@ loop-again c =
     let t = c .before .before .before .before .before .before .before .before .before .before .before .before .before .before .before .before .before .before .before .before .before .before .before .before .before .before .before .before .before .before .before .before .before .before .take-turn in
     let q = c .before .before .before .before .before .before .before .before .before .before .before .before .before .before .before .before .before .before .skip in
     let o = c .before .before .before .before .before .before .before .before .before .open-text in
-    let y = c .before .case .given in
-    (
+    let y = c .before .case .given in (
       o .kept .1 .1 .1 .0 ∙ t .kept .0 ∙ l .inv .0,
       q .kept .0 ∙ t .kept .1 .1 .1 .0 ∙ l .inv .1,
       q .kept .1 .0 ∙ t .kept .1 .1 .1 .1 .0 ∙ l .inv .2,
       o .kept .1 .0 ∙ t .kept .1 .1 .1 .1 .1 .0 ∙ l .inv .3,
       o .kept .1 .1 .0 ∙ t .kept .1 .1 .1 .1 .1 .1 .0 ∙ l .inv .4,
       λ k x b z h.
-      let g = l .inv .5 k x b z h in
-      let d = t .last .1 .1 .1 .0 in
-      let turn = t .ensures k (g .passes .claimed) b (going-choice g h) (g .goes .known) in
-      let failed = turn-failed k (length (l .states)) (l .choice) d (t .last .1 .1 .1 .1 .0) (t .last .1 .1 .1 .1 .1 .0) (t .last .1 .1 .1 .1 .1 .1 .0) (t .result) turn (c .before .before .before .before .before .before .before .before .before .before .before .before .before .before .before .before .before .before .before .before .before .before .enum-told2 .given .1) in
-      let m = c .before .before .before .before .before .before .before .before .before .before .before .before .before .before .before .before .before .before .before .before .before .all in
-      let q = c .before .before .before .before .before .before .before .before .before .before .before .before .before .before .before .before .before .before .skip in
-      record {
-        passes = opened-again x (o .last .1 .1 .1 .0) (length (t .last .1 .1 .1 .1 .1 .0)) (o .last .1 .0) (o .last .1 .1 .0) (o .result) (o .ensures) (y .0 .0) (y .1);
-        goes = some-after g h (length (l .states)) d (t .last .1 .1 .1 .1 .0) (t .last .1 .1 .1 .1 .1 .0) (t .last .1 .1 .1 .1 .1 .1 .0) failed (m .result) (m .ensures) (q .result) (q .last .0) (q .last .1 .0) (q .ensures .1) (c .before .before .before .before .before .before .before .before .before .before .before .before .before .if1 .left);
-      },
+          let g = l .inv .5 k x b z h in
+          let d = t .last .1 .1 .1 .0 in
+          let turn = t .ensures k (g .passes .claimed) b (going-choice g h) (g .goes .known) in
+          let failed = turn-failed k (length (l .states)) (l .choice) d (t .last .1 .1 .1 .1 .0) (t .last .1 .1 .1 .1 .1 .0) (t .last .1 .1 .1 .1 .1 .1 .0) (t .result) turn (c .before .before .before .before .before .before .before .before .before .before .before .before .before .before .before .before .before .before .before .before .before .before .enum-told2 .given .1) in
+          let m = c .before .before .before .before .before .before .before .before .before .before .before .before .before .before .before .before .before .before .before .before .before .all in
+          let q = c .before .before .before .before .before .before .before .before .before .before .before .before .before .before .before .before .before .before .skip in
+          record {
+            passes = opened-again x (o .last .1 .1 .1 .0) (length (t .last .1 .1 .1 .1 .1 .0)) (o .last .1 .0) (o .last .1 .1 .0) (o .result) (o .ensures) (y .0 .0) (y .1);
+            goes = some-after g h (length (l .states)) d (t .last .1 .1 .1 .1 .0) (t .last .1 .1 .1 .1 .1 .0) (t .last .1 .1 .1 .1 .1 .1 .0) failed (m .result) (m .ensures) (q .result) (q .last .0) (q .last .1 .0) (q .ensures .1) (c .before .before .before .before .before .before .before .before .before .before .before .before .before .if1 .left);
+          },
     )
 
 enum-known-answer-2 : tie.Need-enum-known-answer-2 Inv-loop μ-loop

@@ -13,9 +13,6 @@ use Rattle.finder.specs.Finding.{passing}
 use Rattle.judge.proofs.Constrained.{constraints-ready}
 use Rattle.rows.specs.Rows.{inRow}
 
-stub : ⊥
-stub = ?
-
 slice-aggregate-enter-all : tie.Need-slice-aggregate-enter-all
 slice-aggregate-enter-all c = search needs
 
@@ -28,7 +25,7 @@ enter-all-requires c κs =
     let a = s .args in
     let (k, x, h) = s .pre .0 in
     let room : length (replicate {A = ℕ} 14592 0) ≡ 14592 = length-replicate {A = ℕ} 14592 0 in
-    ((k, x .walked .tree, constraints-ready x, sym (h .0)), ((within-cues x (a .choice .now) h, s .pre .1 .0), (columns-ready x (a .columns .now) (a .built .now) (s .pre .1 .2), ((room, length-replicate {A = ℕ} 19 0, pool-fits 14592 (a .o .header .cues) (length (a .choice .now))), stub))))
+    ((k, x .walked .tree, constraints-ready x, sym (h .0)), ((within-cues x (a .choice .now) h, s .pre .1 .0), (columns-ready x (a .columns .now) (a .built .now) (s .pre .1 .2), (room, length-replicate {A = ℕ} 19 0, pool-fits 14592 (a .o .header .cues) (length (a .choice .now))))))
 
 slice-aggregate-seek : tie.Need-slice-aggregate-seek
 slice-aggregate-seek c = search needs
@@ -65,13 +62,12 @@ returns c =
     let s = c .before .before .before .before .before .before .before .before .before .before .before .before .before .before .before .before .before .before .before .before .before .before .before .before .before .before .before .before .before .before .before .before .before .before .before .before .before in
     let a = s .args in
     let e = c .before .before .before .before .before .before .before .before .before .before .before .before .before .before .before .before .before .before .before .before .before .before .before .enter-all in
-    let g = c .before .before .before .before .before .before .before .before .before .seek in
-    (
+    let g = c .before .before .before .before .before .before .before .before .before .seek in (
       g .ensures .0,
       λ k x h spare known.
-      let sound = e .ensures .1 .1 k (x .walked .tree) (constraints-ready x) (sym (h .0)) (passing k) (breaks-fail x)
-      (pool-sound 14592 (inRow (a .states .now)) (passing k) (a .o .header .cues) (length (a .choice .now))) in
-      sought-so x (a .choice .now) (g .last .0) (a .why .now) (g .last .1 .0) (e .last .1 .1 .1 .1 .1 .1 .1 .0) (g .result) (a .spare) h spare known sound (g .ensures .1),
+          let sound = e .ensures .1 .1 k (x .walked .tree) (constraints-ready x) (sym (h .0)) (passing k) (breaks-fail x)
+          (pool-sound 14592 (inRow (a .states .now)) (passing k) (a .o .header .cues) (length (a .choice .now))) in
+          sought-so x (a .choice .now) (g .last .0) (a .why .now) (g .last .1 .0) (e .last .1 .1 .1 .1 .1 .1 .1 .0) (g .result) (a .spare) h spare known sound (g .ensures .1),
     )
 
 pub seek-with-spec : {M : Type 1} → statement M

@@ -56,8 +56,7 @@ try-choice-requires c κs =
     let s = c .before .before .before .before .before .before .before .before .before .before .before .before .before .before .before .before .before .before .before .before in
     let a = s .args in
     let g = c .before .before .before .before .before .before .before .before .before .seek-on in
-    let (k, x, b, h) = s .pre .0 in
-    (
+    let (k, x, b, h) = s .pre .0 in (
       (k, claimed-printable x, b, choice-of x (a .choice .now) (g .last .1 .1 .1 .0) h (g .kept .1 .1 .1 .0) (g .ensures .0 (has-sought (g .result) (c .before .before .before .before .if1 .left)))),
       (x .walked .run .stateRoom, x .walked .opens .workRoom),
     )
