@@ -68,13 +68,12 @@ returns c =
     let s = c .before .before .before .before .before .before .before .before .before .before .before .before .before .before .before .before .before .before .before .before .before .before .before .before .before .before .before .before .before .before .before .before .before .before .before .before .before .before .before .before in
     let a = s .args in
     let e = c .before .before .before .before .before .before .before .before .before .before .before .before .before .before .before .before .before .before .before .before .before .before .before .enter-all in
-    let g = c .before .before .before .before .before .before .before .before .before .seek in
-    (
+    let g = c .before .before .before .before .before .before .before .before .before .seek in (
       g .ensures .0,
       λ k x h spare known.
-      let sound = e .ensures .1 .1 k (x .walked .tree) (constraints-ready x) (sym (h .0)) (passing k) (breaks-fail x)
-      (pool-sound 14592 (inRow (a .states .now)) (passing k) (a .o .header .cues) (length (a .choice .now))) in
-      sought-so x (a .choice .now) (g .last .0) (a .why .now) (g .last .1 .0) (e .last .1 .1 .1 .1 .1 .1 .1 .0) (g .result) (a .spare) h spare known sound (g .ensures .1),
+          let sound = e .ensures .1 .1 k (x .walked .tree) (constraints-ready x) (sym (h .0)) (passing k) (breaks-fail x)
+          (pool-sound 14592 (inRow (a .states .now)) (passing k) (a .o .header .cues) (length (a .choice .now))) in
+          sought-so x (a .choice .now) (g .last .0) (a .why .now) (g .last .1 .0) (e .last .1 .1 .1 .1 .1 .1 .1 .0) (g .result) (a .spare) h spare known sound (g .ensures .1),
     )
 
 pub seek-with-spec : {M : Type 1} → statement M
