@@ -74,9 +74,20 @@ fn surplus_of(choice: &[u32], k: u32) -> u32
     digits
 }
 
+// The check of a text. The fields that came have had their use: what it reads goes in their place, if there is room.
+fn check_text(text: &[u8], states: &mut [u64], work: &mut [u32], fields: &mut [u32]) -> Answer
+    requires { ⌜ Cleared (now text) (now states) (now work) ⌝ }
+    ensures { λ r. ⌜ Answers (fromText fromTree (now (text .entry))) (length (now (states .entry))) r (now (states .exit)) (now (work .exit)) ⌝ }
+{
+    if text.len() / 2 < fields.len() {
+        return judge::judge_text(text, states, work, fields);
+    }
+    judge::judge_lent(text, states, work)
+}
+
 // The check of the text of the first `end` fields, printed into a lent output.
 fn check_print(
-    fields: &[u32],
+    fields: &mut [u32],
     end: usize,
     cues: u32,
     output: &mut [u8],
@@ -89,12 +100,12 @@ fn check_print(
 {
     let length = output::put_text(fields, end, cues, output);
     rows::clear(states);
-    judge::judge_lent(&output[..length], states, work)
+    check_text(&output[..length], states, work, fields)
 }
 
 // The same with an output of its own, for a short text and for any.
 fn check_short(
-    fields: &[u32],
+    fields: &mut [u32],
     end: usize,
     cues: u32,
     states: &mut [u64],
@@ -108,7 +119,13 @@ fn check_short(
     check_print(fields, end, cues, &mut output, states, work)
 }
 
-fn check_any(fields: &[u32], end: usize, cues: u32, states: &mut [u64], work: &mut [u32]) -> Answer
+fn check_any(
+    fields: &mut [u32],
+    end: usize,
+    cues: u32,
+    states: &mut [u64],
+    work: &mut [u32],
+) -> Answer
     requires { ⌜ ((xs : List Valued) × HasLines cues (now fields) end xs × (length (linesText xs) ≤ textMost)) ⌝ }
     requires { ⌜ (stateNeed ≤ length (now states)) × (workNeed ≤ length (now work)) ⌝ }
     ensures { λ r. ⌜ ((xs : List Valued) → HasLines cues (now (fields .entry)) end xs → Answers (fromText fromTree (linesText xs)) (length (now (states .entry))) r (now (states .exit)) (now (work .exit))) ⌝ }

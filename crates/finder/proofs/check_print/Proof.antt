@@ -26,26 +26,26 @@ put-text-requires c κs = search needs
 clear-requires : tie.Need-clear-requires
 clear-requires c κs = search needs
 
-slice-reshare-prefix-judge-lent : tie.Need-slice-reshare-prefix-judge-lent
-slice-reshare-prefix-judge-lent c =
-    let (xs, lines, fits) = c .before .before .before .before .before .before .before .before .before .before .before .before .pre .0 in
+slice-reshare-prefix-check-text : tie.Need-slice-reshare-prefix-check-text
+slice-reshare-prefix-check-text c =
+    let (xs, lines, fits) = c .before .before .before .before .before .before .before .before .before .before .before .before .before .pre .0 in
     let put = c .before .before .before .before .before .before .put-text in
-    let kept : length (put .last .1 .1 .1 .0) ≡ length (c .before .before .before .before .before .before .before .before .before .before .before .before .args .output .now) = put .kept .1 .1 .1 .0 in
+    let kept : length (put .last .1 .1 .1 .0) ≡ length (c .before .before .before .before .before .before .before .before .before .before .before .before .before .args .output .now) = put .kept .1 .1 .1 .0 in
     omega (arith, put .ensures xs lines .1)
 
-slice-aggregate-judge-lent : tie.Need-slice-aggregate-judge-lent
-slice-aggregate-judge-lent c =
-    let (xs, lines, fits) = c .before .before .before .before .before .before .before .before .before .before .before .before .before .pre .0 in
+slice-aggregate-check-text : tie.Need-slice-aggregate-check-text
+slice-aggregate-check-text c =
+    let (xs, lines, fits) = c .before .before .before .before .before .before .before .before .before .before .before .before .before .before .pre .0 in
     let put = c .before .before .before .before .before .before .before .put-text in
-    let kept : length (put .last .1 .1 .1 .0) ≡ length (c .before .before .before .before .before .before .before .before .before .before .before .before .before .args .output .now) = put .kept .1 .1 .1 .0 in
+    let kept : length (put .last .1 .1 .1 .0) ≡ length (c .before .before .before .before .before .before .before .before .before .before .before .before .before .before .args .output .now) = put .kept .1 .1 .1 .0 in
     sym (length-take-le (put .result) (put .last .1 .1 .1 .0) (omega (arith, put .ensures xs lines .1)))
 
-judge-lent-requires : tie.Need-judge-lent-requires
-judge-lent-requires c κs =
-    let s = c .before .before .before .before .before .before .before .before .before .before .before .before .before .before .before in
+check-text-requires : tie.Need-check-text-requires
+check-text-requires c κs =
+    let s = c .before .before .before .before .before .before .before .before .before .before .before .before .before .before .before .before .before in
     let (xs, lines, fits) = s .pre .0 in
-    let put = c .before .before .before .before .before .before .before .before .before .put-text in
-    let clear = c .before .before .before .before .before .clear in
+    let put = c .before .before .before .before .before .before .before .before .before .before .put-text in
+    let clear = c .before .before .before .before .before .before .clear in
     let kept : length (clear .last .0) ≡ length (s .args .states .now) = clear .kept .0 in
     let text = put-text-is (length (s .args .output .now)) (linesText xs) (put .last .1 .1 .1 .0) (put .result) (put .ensures xs lines .0) (put .ensures xs lines .1) in
     record {
@@ -64,14 +64,17 @@ same-length-2 c = search needs
 same-length-3 : tie.Need-same-length-3
 same-length-3 c = search needs
 
+same-length-4 : tie.Need-same-length-4
+same-length-4 c = search needs
+
 returns : tie.Need-returns
 returns c xs lines =
-    let s = c .before .before .before .before .before .before .before .before .before .before .before .before .before .before .before .before .before .before .before .before in
-    let put = c .before .before .before .before .before .before .before .before .before .before .before .before .before .before .put-text in
-    let clear = c .before .before .before .before .before .before .before .before .before .before .clear in
+    let s = c .before .before .before .before .before .before .before .before .before .before .before .before .before .before .before .before .before .before .before .before .before .before .before .before in
+    let put = c .before .before .before .before .before .before .before .before .before .before .before .before .before .before .before .before .before .put-text in
+    let clear = c .before .before .before .before .before .before .before .before .before .before .before .before .before .clear in
     let kept : length (clear .last .0) ≡ length (s .args .states .now) = clear .kept .0 in
     let text = put-text-is (length (s .args .output .now)) (linesText xs) (put .last .1 .1 .1 .0) (put .result) (put .ensures xs lines .0) (put .ensures xs lines .1) in
-    let j = c .before .before .before .before .judge-lent in
+    let j = c .before .before .before .before .before .before .check-text in
     subst (λ (n : ℕ). Answers (fromText fromTree (linesText xs)) n (j .result) (j .last .1 .0) (j .last .1 .1 .0)) kept
     (subst (λ (l : List ℕ). Answers (fromText fromTree l) (length (clear .last .0)) (j .result) (j .last .1 .0) (j .last .1 .1 .0)) text (j .ensures))
 
@@ -81,10 +84,11 @@ check-print-spec =
     (tie.spec
     put-text-requires
     clear-requires
-    slice-reshare-prefix-judge-lent
-    slice-aggregate-judge-lent
-    judge-lent-requires
+    slice-reshare-prefix-check-text
+    slice-aggregate-check-text
+    check-text-requires
     same-length
     same-length-2
     same-length-3
+    same-length-4
     returns)

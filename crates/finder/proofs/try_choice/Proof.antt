@@ -94,15 +94,15 @@ same-length-4 c = search needs
 returns-2 : tie.Need-returns-2
 unfolding textMost
 returns-2 c k p b h =
-    let s = c .before .before .before .before .before .before .before .before .before .before .before .before .before .before .before .before .before .before .before .before .before .before .before in
+    let s = c .before .before .before .before .before .before .before .before .before .before .before .before .before .before .before .before .before .before .before .before .before .before .before .before .before in
     let a = s .args in
-    let digits = c .before .before .before .before .before .before .before .before .before .before .before .before .before .before .before .before .surplus-of in
-    let put = c .before .before .before .before .before .before .before .before .before .before .before .before .before .put-gaps in
-    let short : a .base + digits .result ≤ textMost = omega (arith, c .before .before .before .before .before .before .before .before .before .before .before .before .before .before .before .if1 .left) in
+    let digits = c .before .before .before .before .before .before .before .before .before .before .before .before .before .before .before .before .before .before .surplus-of in
+    let put = c .before .before .before .before .before .before .before .before .before .before .before .before .before .before .before .put-gaps in
+    let short : a .base + digits .result ≤ textMost = omega (arith, c .before .before .before .before .before .before .before .before .before .before .before .before .before .before .before .before .before .if1 .left) in
     let q = choice-put p (a .base) b (a .choice .now) h (digits .result) (digits .ensures) short (put .last .0) (put .ensures) in
     let l = caseWith (a .choice .now) k in
-    let lines = has-lines q (c .before .before .before .before .before .before .before .before .before .sum-lines .result .next) (c .before .before .before .before .before .before .before .before .before .sum-lines .ensures (l .nodes) (nodes-stand q) .3) in
-    choice-answers p (a .base) b (a .choice .now) h (digits .result) (digits .ensures) (c .before .before .before .before .check-short .ensures (linesOf l) lines)
+    let lines = has-lines q (c .before .before .before .before .before .before .before .before .before .before .before .sum-lines .result .next) (c .before .before .before .before .before .before .before .before .before .before .before .sum-lines .ensures (l .nodes) (nodes-stand q) .3) in
+    choice-answers p (a .base) b (a .choice .now) h (digits .result) (digits .ensures) (c .before .before .before .before .before .before .check-short .ensures (linesOf l) lines)
 
 check-any-requires : tie.Need-check-any-requires
 unfolding textMost
@@ -131,15 +131,15 @@ same-length-7 c = search needs
 returns-3 : tie.Need-returns-3
 unfolding textMost
 returns-3 c k p b h =
-    let s = c .before .before .before .before .before .before .before .before .before .before .before .before .before .before .before .before .before .before .before .before .before .before .before in
+    let s = c .before .before .before .before .before .before .before .before .before .before .before .before .before .before .before .before .before .before .before .before .before .before .before .before .before in
     let a = s .args in
-    let digits = c .before .before .before .before .before .before .before .before .before .before .before .before .before .before .before .before .surplus-of in
-    let put = c .before .before .before .before .before .before .before .before .before .before .before .before .before .put-gaps in
-    let short : a .base + digits .result ≤ textMost = omega (arith, c .before .before .before .before .before .before .before .before .before .before .before .before .before .before .before .if1 .left) in
+    let digits = c .before .before .before .before .before .before .before .before .before .before .before .before .before .before .before .before .before .before .surplus-of in
+    let put = c .before .before .before .before .before .before .before .before .before .before .before .before .before .before .before .put-gaps in
+    let short : a .base + digits .result ≤ textMost = omega (arith, c .before .before .before .before .before .before .before .before .before .before .before .before .before .before .before .before .before .if1 .left) in
     let q = choice-put p (a .base) b (a .choice .now) h (digits .result) (digits .ensures) short (put .last .0) (put .ensures) in
     let l = caseWith (a .choice .now) k in
-    let lines = has-lines q (c .before .before .before .before .before .before .before .before .before .sum-lines .result .next) (c .before .before .before .before .before .before .before .before .before .sum-lines .ensures (l .nodes) (nodes-stand q) .3) in
-    choice-answers p (a .base) b (a .choice .now) h (digits .result) (digits .ensures) (c .before .before .before .before .check-any .ensures (linesOf l) lines)
+    let lines = has-lines q (c .before .before .before .before .before .before .before .before .before .before .before .sum-lines .result .next) (c .before .before .before .before .before .before .before .before .before .before .before .sum-lines .ensures (l .nodes) (nodes-stand q) .3) in
+    choice-answers p (a .base) b (a .choice .now) h (digits .result) (digits .ensures) (c .before .before .before .before .before .before .check-any .ensures (linesOf l) lines)
 
 pub try-choice-spec : {M : Type 1} → statement M
 try-choice-spec =
