@@ -1,7 +1,7 @@
 -- The choices of a case counted, by its header and its empty tasks; and the length of its text without the digits of its gaps. Assumes nothing.
-use mathlib.Core.Path.{_≡_, refl, sym, ap, _∙_, subst}
+use mathlib.Core.Path.{_≡_, sym, ap, _∙_, subst}
 use mathlib.Core.List.{List}
-use Prim.Native.Nat.{ℕ, _+_, _-_, _≤_, _<_, min}
+use Prim.Native.Nat.{ℕ, _-_, _≤_, _<_, min}
 use native.Mathlib.Nat.{min-le-left, min-eq-left, min-eq-right}
 use native.Mathlib.Decide.{decLt}
 use native.Mathlib.Omega.{arith}

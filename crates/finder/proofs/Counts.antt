@@ -1,18 +1,18 @@
 -- How many choices there are, where the search starts, and what is known of it there; the one choice where there is no other. Assumes nothing.
 use mathlib.Core.Path.{_≡_, refl, sym, ap, _∙_, subst}
-use mathlib.Core.Bool.{Bool, true, false}
+use mathlib.Core.Bool.{Bool, false}
 use mathlib.Core.List.{List, [], _∷_}
 use Prim.Native.Nat.{ℕ, zero, suc, _+_, _-_, _^_, _≤_, _<_, min}
 use native.Mathlib.Nat.{pow-zero, pow-suc, mul-one, pow-le-pow-left, min-eq-left}
 use native.Mathlib.Decide.{decLt}
 use native.Mathlib.Omega.{arith}
-use lib.ListN.{length, getD, take, replicate, length-replicate, getD-replicate}
+use lib.ListN.{length, take, replicate, length-replicate, getD-replicate}
 use lib.Pow.{pow-mono}
 use lib.Seq.{ext-getD}
 use borrow.Author.Tests.{lt-ltb, le-leb}
 use Rattle.rules.specs.State.{bit}
 use Rattle.rules.specs.Case.{Case}
-use Rattle.rules.specs.Gaps.{emptyCount, power, Choice, ChoiceOf, choices, choiceCount, choiceMost}
+use Rattle.rules.specs.Gaps.{emptyCount, power, ChoiceOf, choiceCount, choiceMost}
 use Rattle.choices.specs.Searching.{place, onFrom, AllFail}
 use Rattle.choices.specs.Reasons.{Has, Reason, Known}
 use Rattle.choices.proofs.Order.{starts, zeros-within, later, from-head}

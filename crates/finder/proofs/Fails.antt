@@ -1,14 +1,9 @@
 -- What makes the check refuse the text with the gaps of a choice, of a case that passes rows 1 to 9: a broken constraint, or its length. Assumes
 -- nothing.
-use mathlib.Core.Path.{_≡_, refl, sym, ap, _∙_, subst}
-use mathlib.Core.Bool.{false}
+use mathlib.Core.Path.{_≡_, refl, sym, _∙_}
 use mathlib.Core.List.{List, []}
-use Prim.Native.Nat.{ℕ, _≤_, _<_}
-use native.Mathlib.Omega.{arith}
-use lib.ListN.{length}
-use Rattle.rules.specs.Result.{found}
+use Prim.Native.Nat.{ℕ}
 use Rattle.rules.specs.Case.{Case}
-use Rattle.rules.specs.Tree.{Tree}
 use Rattle.rules.specs.Gaps.{emptyCount, textWith}
 use Rattle.rules.proofs.Gaps.Fails.{breaks-fails, long-fails}
 use Rattle.entering.specs.Entering.{BreaksFail}

@@ -1,14 +1,14 @@
 -- The first choice with which the text would be accepted, by the choices that were passed over; and what the answer of a check says. Assumes
 -- nothing.
 use mathlib.Core.Path.{_≡_, refl, sym, ap, _∙_, subst}
-use mathlib.Core.Bool.{Bool, true, false, false≢true}
+use mathlib.Core.Bool.{true, false, false≢true}
 use mathlib.Core.List.{List, [], _∷_, _++_, append-nil}
-use Prim.Native.Nat.{ℕ, _+_, _≤_}
+use Prim.Native.Nat.{ℕ}
 use native.Mathlib.Omega.{arith}
-use lib.ListN.{length, replicate}
+use lib.ListN.{replicate}
 use Rattle.rules.specs.declared.Answer.{Answer}
 use Rattle.rules.specs.declared.Answer.the-variants.{Accepted, NoChoice}
-use Rattle.rules.specs.Result.{Result, found, refused}
+use Rattle.rules.specs.Result.{found, refused}
 use Rattle.rules.specs.Case.{Case}
 use Rattle.rules.specs.Tree.{Tree}
 use Rattle.rules.specs.Verdict.{Lent, Found, stateNeed, nodeNeed, workNeed, checkLists, check, reported, answerOf, statesAfter}

@@ -1,7 +1,6 @@
 -- The find-the-gaps call row by row: with lists that are long enough the rows from reading on decide; what rows 1 and 2 refuse is refused; and the
 -- limits of the number tried are those of the case that was read. Assumes nothing.
 use mathlib.Core.Path.{_≡_, refl, ap, _∙_}
-use mathlib.Core.Bool.{false}
 use mathlib.Core.List.{List}
 use Prim.Native.Nat.{ℕ, _≤_}
 use native.Mathlib.Omega.{arith}
@@ -10,8 +9,8 @@ use Rattle.rules.specs.declared.Answer.{Answer}
 use Rattle.rules.specs.declared.Answer.the-variants.{NoChoice}
 use Rattle.rules.specs.Result.{Result, found, refused, _>>=_, _>>_}
 use Rattle.rules.specs.Case.{Case, readCase}
-use Rattle.rules.specs.Tree.{Tree, mayClaim, walkTree}
-use Rattle.rules.specs.Verdict.{Lent, Found, stateNeed, nodeNeed, workNeed, checkLists, listsLong, textShort, planRuns, allClaimed, check}
+use Rattle.rules.specs.Tree.{mayClaim, walkTree}
+use Rattle.rules.specs.Verdict.{Lent, stateNeed, nodeNeed, workNeed, checkLists, listsLong, textShort, planRuns, allClaimed, check}
 use Rattle.rules.specs.Gaps.{emptyCount, choices, textWith, fewChoices, firstAccepted, beforeChoices, findGaps, Limited}
 use Rattle.rules.proofs.Judgement.Rows.{fromTree, fromRun, fromText}
 use Rattle.rules.proofs.Gaps.Answers.{as-rows}

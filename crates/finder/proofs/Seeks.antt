@@ -2,17 +2,16 @@
 use mathlib.Core.Path.{_≡_, refl, sym, ap, _∙_, subst}
 use mathlib.Core.Bool.{Bool, true, false, not, false≢true}
 use mathlib.Core.List.{List}
-use Prim.Native.Nat.{ℕ, _+_, _*_, _%_, _≤_, _<_}
+use Prim.Native.Nat.{ℕ, _+_, _*_, _%_}
 use native.Mathlib.Omega.{arith}
-use lib.Dec.{eqb}
-use lib.ListN.{length, getD, replicate, length-replicate, getD-replicate}
+use lib.ListN.{length, replicate, length-replicate, getD-replicate}
 use borrow.Author.Tests.{eq-eqb}
 use Rattle.rules.specs.declared.Header.{Header}
 use Rattle.rules.specs.State.{wordCount}
 use Rattle.rules.specs.Case.{Case}
 use Rattle.rules.specs.Constraint.{Holds, keeps}
 use Rattle.rules.specs.Verdict.{stateNeed}
-use Rattle.rules.specs.Gaps.{emptyCount, Within, ChoiceOf}
+use Rattle.rules.specs.Gaps.{Within, ChoiceOf}
 use Rattle.rows.specs.Rows.{inRow}
 use Rattle.columns.specs.Columns.{stateWords, Blank, Columns}
 use Rattle.columns.proofs.Kept.{columns-none}

@@ -14,7 +14,7 @@ use Rattle.rules.specs.Verdict.{Found}
 use Rattle.rules.specs.Gaps.{emptyCount, Within, choiceCount}
 use Rattle.choices.specs.Searching.{place, onFrom, AllFail, Skips}
 use Rattle.choices.specs.Reasons.{Known}
-use Rattle.choices.proofs.Skipping.{skips-self, skips-on, fails-on}
+use Rattle.choices.proofs.Skipping.{skips-self, skips-on}
 use Rattle.seeking.specs.Seeking.{GoesOn, Skipped, Nearer}
 use Rattle.judge.specs.declared.Opened.{Opened}
 use Rattle.judge.specs.declared.Opening.{Opening}

@@ -1,5 +1,5 @@
 -- What the call answers and leaves: a choice that was accepted, or a refusal. Assumes nothing.
-use mathlib.Core.Path.{_≡_, refl, sym, ap, _∙_, subst}
+use mathlib.Core.Path.{_≡_, sym, ap, _∙_, subst}
 use mathlib.Core.Bool.{Bool, true, false}
 use mathlib.Core.List.{List}
 use Prim.Native.Nat.{ℕ, _<_, _≤_}
@@ -8,7 +8,7 @@ use lib.Dec.{ltb}
 use lib.ListN.{replicate}
 use Rattle.rules.specs.declared.Answer.{Answer}
 use Rattle.rules.specs.declared.Answer.the-variants.{TooManyChoices}
-use Rattle.rules.specs.Result.{Result, found, refused, _>>_}
+use Rattle.rules.specs.Result.{found, refused, _>>_}
 use Rattle.rules.specs.Case.{Case}
 use Rattle.rules.specs.Tree.{Tree}
 use Rattle.rules.specs.Verdict.{Found, answerOf, statesAfter}

@@ -4,9 +4,8 @@ use mathlib.Core.Bool.{Bool, true, false}
 use mathlib.Core.List.{List}
 use Prim.Native.Nat.{ℕ, _+_, _≤_, _<_}
 use lib.ListN.{length, replicate}
-use Rattle.rules.specs.declared.Answer.{Answer}
 use Rattle.rules.specs.declared.Answer.the-variants.{NoChoice}
-use Rattle.rules.specs.Result.{found, refused, _>>=_, _>>_}
+use Rattle.rules.specs.Result.{found, refused, _>>_}
 use Rattle.rules.specs.Case.{Case, readCase}
 use Rattle.rules.specs.Fields.{fieldsOf}
 use Rattle.rules.specs.Print.{printed}

@@ -9,7 +9,7 @@ ghost use Rattle.rules.specs.declared.Answer.the-variants.{NoChoice};
 ghost use Rattle.rules.specs.Case.{Case, Valued};
 ghost use Rattle.rules.specs.Print.{linesText};
 ghost use Rattle.rules.specs.Verdict.{textMost, stateNeed, workNeed, checkLists};
-ghost use Rattle.rules.specs.Gaps.{emptyCount, power, Within, ChoiceOf, textWith, choiceCount, choiceMost, findGaps, Limited, beforeChoices};
+ghost use Rattle.rules.specs.Gaps.{emptyCount, power, Within, ChoiceOf, choiceCount, choiceMost, findGaps, Limited, beforeChoices};
 ghost use Rattle.rules.proofs.Judgement.Rows.{fromText, fromTree};
 ghost use Rattle.rules.proofs.Gaps.Lengths.{surplus};
 ghost use Rattle.choices.specs.Reasons.{Known};

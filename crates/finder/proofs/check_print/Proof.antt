@@ -1,15 +1,14 @@
 -- `check_print`: what is checked is the part of the output that the text was put into. Assumes nothing.
-use mathlib.Core.List.{List, _++_}
+use mathlib.Core.List.{List}
 use mathlib.Core.Path.{_≡_, sym, ap, _∙_, subst}
-use Prim.Native.Nat.{ℕ, _-_, _≤_}
+use Prim.Native.Nat.{ℕ, _-_}
 use native.Mathlib.Omega.{arith}
 use borrow.Author.Needs.{needs}
 use lib.ListN.{length, take, replicate}
 use lib.Seq.{length-take-le, take-at}
 use Rattle.rules.proofs.Judgement.Rows.{fromText, fromTree}
 use Rattle.rules.specs.Print.{linesText}
-use Rattle.rules.specs.Tree.{Tree}
-use Rattle.rules.specs.Verdict.{Found, filled}
+use Rattle.rules.specs.Verdict.{filled}
 use Rattle.finder.proofs.check_print.Statement.{statement}
 use Rattle.finder.proofs.check_print.Tie as tie
 use Rattle.judge.specs.Phases.{Answers}

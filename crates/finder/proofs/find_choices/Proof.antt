@@ -1,9 +1,8 @@
 -- `find_choices`: too many choices are refused; the one choice is tried; and of more the first that is accepted is sought. Assumes nothing.
-use mathlib.Core.Path.{_≡_, refl, sym, ap, _∙_}
-use Prim.Native.Nat.{ℕ, _-_, _≤_}
+use mathlib.Core.Path.{refl, sym, ap, _∙_}
+use Prim.Native.Nat.{ℕ}
 use native.Mathlib.Omega.{arith}
 use borrow.Author.Needs.{needs}
-use lib.ListN.{length}
 use Rattle.rules.specs.Gaps.{emptyCount}
 use Rattle.rules.specs.Verdict.{textMost}
 use Rattle.rules.specs.declared.Answer.the-variants.{TooManyChoices}

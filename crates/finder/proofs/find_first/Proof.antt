@@ -1,8 +1,7 @@
 -- `find_first`: the choices ahead of the one where a turn stands were passed over, and the text was opened again; a turn ends the search with a choice
 -- that is accepted, or with none left. Fewer choices are left with each turn. Assumes nothing.
-use mathlib.Core.List.{List}
 use mathlib.Core.Path.{_≡_, refl, sym, ap, _∙_}
-use Prim.Native.Nat.{ℕ, _+_, _≤_, _<_, min}
+use Prim.Native.Nat.{ℕ, _+_, min}
 use native.Mathlib.Omega.{arith}
 use borrow.Author.Needs.{needs}
 use lib.ListN.{length, replicate}

@@ -1,9 +1,8 @@
 -- `try_choice`: a text that would be too long is refused; any other is printed from the fields with the gaps put in, and checked. Assumes nothing.
-use mathlib.Core.Path.{_≡_, refl, ap, _∙_}
-use Prim.Native.Nat.{ℕ, _+_, _≤_, _<_}
+use mathlib.Core.Path.{refl}
+use Prim.Native.Nat.{_+_, _≤_, _<_}
 use native.Mathlib.Omega.{arith}
 use borrow.Author.Needs.{needs}
-use lib.ListN.{length}
 use Rattle.rules.specs.Fields.{linesOf}
 use Rattle.rules.specs.Gaps.{caseWith}
 use Rattle.rules.specs.Verdict.{textMost}
