@@ -30,7 +30,6 @@ use judge::Opening;
 use rules::Answer;
 use rules::NODES;
 use rules::TEXT;
-use state::WORDS;
 
 // Room for the fields of a text of fewer than twice as many bytes, and for a short text.
 const SMALL: usize = 2048;
@@ -244,6 +243,9 @@ fn seek_with(
 // How many words of propositions have columns in a small model.
 const FEW_WORDS: usize = 1;
 
+// And in any other: with all of them the call would need more than 512 KiB of stack. A proposition past them is tested state by state.
+const MANY_WORDS: usize = 4;
+
 // The same with columns of its own: of a small model, and of any other.
 fn seek_few(
     fields: &[u32],
@@ -288,8 +290,8 @@ fn seek_many(
     ensures within { λ r. ⌜ (r ≡ true → Within (o .header .cues) (now (choice .exit))) ⌝ }
     ensures sought { λ r. ⌜ ((k : Case) → Claimed k (now (fields .entry)) o (now (states .entry)) (now (work .entry)) → ChoiceOf k (now (choice .entry)) → SpareOf k spare → Known (passing k) (k .head .cues) (now (why .entry)) (now (choice .entry)) → Sought (passing k) (k .head .cues) (now (choice .entry)) r (now (choice .exit)) (now (why .exit))) ⌝ }
 {
-    let mut columns = [0u64; WORDS * PER_WORD];
-    let mut built = [0u64; WORDS];
+    let mut columns = [0u64; MANY_WORDS * PER_WORD];
+    let mut built = [0u64; MANY_WORDS];
     seek_with(
         fields,
         o,

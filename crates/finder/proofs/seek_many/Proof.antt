@@ -1,4 +1,4 @@
--- `seek_many`: zeros for the columns of all words of propositions. Assumes nothing.
+-- `seek_many`: zeros for the columns of four words of propositions. Assumes nothing.
 use native.Mathlib.Omega.{arith}
 use borrow.Author.Needs.{needs}
 use Rattle.rules.specs.State.{wordCount}
@@ -15,7 +15,7 @@ slice-aggregate-seek-with-2 c = search needs
 
 seek-with-requires : tie.Need-seek-with-requires
 unfolding columnWords wordCount
-seek-with-requires c κs = let s = c .before .before .before .before .before .before .before .before .before in (s .pre .0, (s .pre .1 .0, s .pre .1 .1, blank-zeros 8 (omega arith)))
+seek-with-requires c κs = let s = c .before .before .before .before .before .before .before .before .before in (s .pre .0, (s .pre .1 .0, s .pre .1 .1, blank-zeros 4 (omega arith)))
 
 same-length : tie.Need-same-length
 same-length c = search needs
