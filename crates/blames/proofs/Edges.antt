@@ -14,7 +14,7 @@ use Rattle.subsets.specs.Members.{membersOf}
 use Rattle.subsets.proofs.Members.{members-are}
 use Rattle.blames.specs.declared.entry.Entry.{Entry}
 use Rattle.blames.specs.Entries.{lowest, highest, edges, EntryFits}
-use Rattle.blames.proofs.Walks.{within-at}
+use Rattle.rules.proofs.Gaps.Texts.{gap-within}
 
 -- ---- of a list of positions
 
@@ -96,5 +96,5 @@ edges-fit k e x gs w t =
     record {
       start-least = lowest-iff (x .start) 1 (membersOf (x .starts)) gs .1 (t .start-least, λ s m. omega arith);
       start-most = omega (arith, p .0);
-      end-most = highest-iff (x .end) (2 * k + 1) (membersOf (x .ends)) gs .1 (t .end-most, λ s m. omega (arith, within-at k s gs w));
+      end-most = highest-iff (x .end) (2 * k + 1) (membersOf (x .ends)) gs .1 (t .end-most, λ s m. omega (arith, gap-within k gs s w));
     }

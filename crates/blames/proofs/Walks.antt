@@ -6,15 +6,9 @@ use Prim.Native.Nat.{ℕ, zero, suc, _^_, _≤_, _<_}
 use native.Mathlib.Omega.{arith}
 use lib.ListN.{length, getD}
 use Rattle.rules.specs.Index.{ofGap}
-use Rattle.rules.specs.Gaps.{Within}
 use Rattle.subsets.specs.Members.{membersOf}
 use Rattle.subsets.proofs.Chosen.{head-tail}
 use Rattle.subsets.proofs.Members.{members-below}
-
-pub within-at : (k i : ℕ) (gs : List ℕ) → Within k gs → getD gs i 0 ≤ k
-within-at k i [] w = omega arith
-within-at k zero (g ∷ gs) w = w .0
-within-at k (suc i) (g ∷ gs) w = within-at k i gs (w .1)
 
 abbrev pub Walk : Type 0
 Walk = ℕ → List ℕ → List ℕ → ℕ

@@ -56,9 +56,6 @@ all-from k (g ∷ gs) w =
     (led-choice k n g (onFrom k gs) (w .0) (all-from k gs (w .1)))
     (ledFrom-choice k n (k - g) (suc g) (choices k n) (omega (arith, w .0)) (all-choices k n))
 
-pub choices-are : (k e : ℕ) → Each (Choice k e) (choices k e)
-choices-are k e = all-each (Choice k e) (choices k e) (all-choices k e)
-
 pub from-are : (k : ℕ) (c : List ℕ) → Within k c → Each (Choice k (length c)) (onFrom k c)
 from-are k c w = all-each (Choice k (length c)) (onFrom k c) (all-from k c w)
 

@@ -14,7 +14,7 @@ use Rattle.rules.proofs.Judgement.Rows.{fromConstraints, fromTree, fromRun, fro
 use Rattle.judge.specs.declared.Opened.{Opened}
 use Rattle.judge.specs.declared.Opening.{Opening}
 use Rattle.judge.specs.declared.Opening.the-variants.{Case as CaseOpen, Refused as CaseRefused}
-use Rattle.judge.specs.Phases.{FieldsHeld, Walked, Claimed, fromClaimed, GoesOn, Passes, OpensAs}
+use Rattle.judge.specs.Phases.{FieldsHeld, Walked, Claimed, fromClaimed, RowsPass, Passes, OpensAs}
 use Rattle.judge.proofs.Verdicts.{claims-right, run-right, text-reads, tree-claimed, check-goes-on, fields-held}
 
 abbrev Rest : Type 0
@@ -22,8 +22,8 @@ Rest = Case → Tree → Found Tree
 
 -- A refusal, and the state list zero.
 pub goes-refused : (rows : Rest → Found Tree) (k : Case) (fields : List ℕ) (size : ℕ) (r : Opening) (states work : List ℕ) (a : Answer)
-    → ((rest : Rest) → rows rest ≡ refused a) → r ≡ CaseRefused a → states ≡ replicate size 0 → GoesOn rows k fields size r states work
-goes-refused rows k fields size r states work a e q zeros = subst (λ (x : Opening). GoesOn rows k fields size x states work) (sym q) (e, zeros)
+    → ((rest : Rest) → rows rest ≡ refused a) → r ≡ CaseRefused a → states ≡ replicate size 0 → RowsPass rows k fields size r states work
+goes-refused rows k fields size r states work a e q zeros = subst (λ (x : Opening). RowsPass rows k fields size x states work) (sym q) (e, zeros)
 
 -- Row 9 is passed.
 pub goes-claimed : {k : Case} {fields : List ℕ} {o : Opened} {states work : List ℕ} (x : Walked k fields o states work)
@@ -33,26 +33,26 @@ goes-claimed {k = k} x e = (record { walked = x; claims = e }, λ rest. claims-r
 
 -- Row 5 is passed, and leaves a list as long.
 pub goes-ran : (k : Case) (fields : List ℕ) (m n : ℕ) (r : Opening) (states work : List ℕ) → firstStop (k .actions) (k .plan) (k .initial) 1 ≡ none → m ≡ n
-    → GoesOn (λ rest. fromClaimed rest k) k fields m r states work → GoesOn (λ rest. fromRun (fromClaimed rest) k) k fields n r states work
+    → RowsPass (λ rest. fromClaimed rest k) k fields m r states work → RowsPass (λ rest. fromRun (fromClaimed rest) k) k fields n r states work
 goes-ran k fields m n r states work runs size = go r
   where
     same : (rest : Rest) → fromRun (fromClaimed rest) k ≡ fromClaimed rest k
     same rest = run-right (fromClaimed rest) k runs
 
-    go : (x : Opening) → GoesOn (λ rest. fromClaimed rest k) k fields m x states work → GoesOn (λ rest. fromRun (fromClaimed rest) k) k fields n x states work
+    go : (x : Opening) → RowsPass (λ rest. fromClaimed rest k) k fields m x states work → RowsPass (λ rest. fromRun (fromClaimed rest) k) k fields n x states work
     go (CaseOpen o) y = (y .0, λ rest. same rest ∙ y .1 rest)
     go (CaseRefused a) y = (λ rest. same rest ∙ y .0 rest, y .1 ∙ ap (λ (l : ℕ). replicate l 0) size)
 
 module _ (text fields : List ℕ) (size : ℕ) (r : Opening) (states work : List ℕ) where
   -- The rows of a text that was read.
-  pub goes-opens : (k : Case) → readCase text ≡ found k → length text ≤ textMost → GoesOn (λ rest. fromRun (fromClaimed rest) k) k fields size r states work
+  pub goes-opens : (k : Case) → readCase text ≡ found k → length text ≤ textMost → RowsPass (λ rest. fromRun (fromClaimed rest) k) k fields size r states work
       → OpensAs text fields size r states work
   goes-opens k e short = go r
     where
       same : (rest : Rest) → fromText (fromClaimed rest) text ≡ fromRun (fromClaimed rest) k
       same rest = text-reads (fromClaimed rest) text k short e
 
-      go : (x : Opening) → GoesOn (λ rest. fromRun (fromClaimed rest) k) k fields size x states work → OpensAs text fields size x states work
+      go : (x : Opening) → RowsPass (λ rest. fromRun (fromClaimed rest) k) k fields size x states work → OpensAs text fields size x states work
       go (CaseOpen o) y =
           let opens = y .0 .walked .opens in
           (k, record { claimed = y .0; reads = e; stands = opens .stands; last = opens .last; rows = λ rest. same rest ∙ y .1 rest })

@@ -98,10 +98,10 @@ fromClaimed rest k = walkTree k (mayClaim (k .plan)) >>= λ (t, claimed). allCla
 
 -- Rows up to 9 of a case that was read: all are passed, and what they say with any rest is what that says; or they refuse it, and the state
 -- list, of a size, is zero.
-abbrev pub GoesOn : ((Case → Tree → Found Tree) → Found Tree) → Case → List ℕ → ℕ → Opening → List ℕ → List ℕ → Type 0
-GoesOn rows k fields size (CaseOpen o) states work =
+abbrev pub RowsPass : ((Case → Tree → Found Tree) → Found Tree) → Case → List ℕ → ℕ → Opening → List ℕ → List ℕ → Type 0
+RowsPass rows k fields size (CaseOpen o) states work =
     (c : Claimed k fields o states work) × ((rest : Case → Tree → Found Tree) → rows rest ≡ rest k (c .walked .tree))
-GoesOn rows k fields size (CaseRefused a) states work = ((rest : Case → Tree → Found Tree) → rows rest ≡ refused a) × (states ≡ replicate size 0)
+RowsPass rows k fields size (CaseRefused a) states work = ((rest : Case → Tree → Found Tree) → rows rest ≡ refused a) × (states ≡ replicate size 0)
 
 -- What the rows from reading to 9 leave of a text: its fields, those of a case that passes them, whatever the rest says.
 pub record Passes (text fields : List ℕ) (o : Opened) (states work : List ℕ) (k : Case) : Type 0 where

@@ -10,7 +10,7 @@ ghost use Rattle.rules.proofs.Judgement.Rows.{fromText, fromRun, fromTree};
 ghost use Rattle.records.specs.Records.{RecordsHeld};
 ghost use Rattle.fields.specs.Directory.{Roomy};
 ghost use Rattle.columns.specs.Columns.{Blank};
-ghost use Rattle.judge.specs.Phases.{Answers, FieldsHeld, Cleared, Admits, HasRead, Ran as HasRun, Walked, Claimed, fromClaimed, GoesOn, OpensAs};
+ghost use Rattle.judge.specs.Phases.{Answers, FieldsHeld, Cleared, Admits, HasRead, Ran as HasRun, Walked, Claimed, fromClaimed, RowsPass, OpensAs};
 use columns::PER_WORD;
 use constraints::Kept;
 use fields::FIELDS;
@@ -132,7 +132,7 @@ fn judge_constraints(fields: &[u32], o: Opened, states: &mut [u64], work: &mut [
 // Row 9, of a tree that is right.
 fn open_claims(o: Opened, states: &mut [u64], work: &[u32]) -> Opening
     requires { ⌜ ((k : Case) × (f : List ℕ) × Walked k f o (now states) (now work)) ⌝ }
-    ensures { λ r. ⌜ ((k : Case) (f : List ℕ) → Walked k f o (now (states .entry)) (now (work .entry)) → GoesOn (λ rest. fromClaimed rest k) k f (length (now (states .entry))) r (now (states .exit)) (now (work .entry))) ⌝ }
+    ensures { λ r. ⌜ ((k : Case) (f : List ℕ) → Walked k f o (now (states .entry)) (now (work .entry)) → RowsPass (λ rest. fromClaimed rest k) k f (length (now (states .entry))) r (now (states .exit)) (now (work .entry))) ⌝ }
 {
     let header = o.header;
     match tree::least_unclaimed(work, header.cues) {
@@ -150,7 +150,7 @@ fn open_claims(o: Opened, states: &mut [u64], work: &[u32]) -> Opening
 // Rows 6 to 8, of a plan that runs; then row 9. The walk starts from marks that are zero.
 fn open_nodes(fields: &[u32], o: Opened, states: &mut [u64], work: &mut [u32]) -> Opening
     requires { ⌜ ((k : Case) × HasRun k (now fields) o (now states) (now work)) ⌝ }
-    ensures { λ r. ⌜ ((k : Case) → HasRun k (now (fields .entry)) o (now (states .entry)) (now (work .entry)) → GoesOn (λ rest. fromClaimed rest k) k (now (fields .entry)) (length (now (states .entry))) r (now (states .exit)) (now (work .exit))) ⌝ }
+    ensures { λ r. ⌜ ((k : Case) → HasRun k (now (fields .entry)) o (now (states .entry)) (now (work .entry)) → RowsPass (λ rest. fromClaimed rest k) k (now (fields .entry)) (length (now (states .entry))) r (now (states .exit)) (now (work .exit))) ⌝ }
 {
     let header = o.header;
     let plan = o.plan;
@@ -171,7 +171,7 @@ fn open_run(
     work: &mut [u32],
 ) -> Opening
     requires { ⌜ ((k : Case) × HasRead k (now fields) o initial (now states) (now work)) ⌝ }
-    ensures { λ r. ⌜ ((k : Case) → HasRead k (now (fields .entry)) o initial (now (states .entry)) (now (work .entry)) → GoesOn (λ rest. fromRun (fromClaimed rest) k) k (now (fields .entry)) (length (now (states .entry))) r (now (states .exit)) (now (work .exit))) ⌝ }
+    ensures { λ r. ⌜ ((k : Case) → HasRead k (now (fields .entry)) o initial (now (states .entry)) (now (work .entry)) → RowsPass (λ rest. fromRun (fromClaimed rest) k) k (now (fields .entry)) (length (now (states .entry))) r (now (states .exit)) (now (work .exit))) ⌝ }
 {
     let header = o.header;
     let plan = o.plan;

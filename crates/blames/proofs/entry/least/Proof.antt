@@ -3,7 +3,8 @@ use Prim.Native.Nat.{ℕ, _≤_, _<_, min}
 use Rattle.rules.specs.Index.{ofGap}
 use Rattle.subsets.specs.Members.{membersOf}
 use Rattle.blames.specs.Entries.{lowest}
-use Rattle.blames.proofs.Walks.{Going, within-at, going-starts, next-below, fewer, going-on, going-ends}
+use Rattle.rules.proofs.Gaps.Texts.{gap-within}
+use Rattle.blames.proofs.Walks.{Going, going-starts, next-below, fewer, going-on, going-ends}
 use lib.ListN.{length, getD}
 use mathlib.Core.List.{headD}
 use mathlib.Core.Logic.{⊎-elim}
@@ -47,7 +48,7 @@ small : (c : tie.After-shared-slice-known2 Inv-loop μ-loop)
 small c =
     let s = c .before .before .before .before .before .before in
     let most = s .pre .0 in
-    omega (arith, within-at (s .args .k) (c .before .lowest .result) (s .args .choice .now) (s .pre .1))
+    omega (arith, gap-within (s .args .k) (s .args .choice .now) (c .before .lowest .result) (s .pre .1))
 
 mul-index : tie.Need-mul-index Inv-loop μ-loop
 mul-index c = let few = c .before .before .before .before .before .pre .2 in omega (arith, inside c)
