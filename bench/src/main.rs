@@ -107,12 +107,12 @@ fn main() {
 
 /// The check and replay calls.
 fn show_judging(columns: &str, rounds: usize, wanted: &str) {
-    println!("{:<26}{:>6} {:>6} | {:<width$} | replay", "", "", "", "check", width = columns.len());
-    println!("{:<26}{:>6} {:>6} | {columns} | {columns}", "case", "bytes", "answer");
+    println!("{:<29}{:>6} {:>6} | {:<width$} | replay", "", "", "", "check", width = columns.len());
+    println!("{:<29}{:>6} {:>6} | {columns} | {columns}", "case", "bytes", "answer");
     for (name, text) in cases().into_iter().filter(|(name, _)| name.starts_with(wanted)) {
         let answer = CALLS[0][0](&text, &mut Lists::default());
         let [checks, replays] = CALLS.map(|calls| row(&medians_of_text(&text, calls, rounds)));
-        println!("{name:<26}{:>6} {answer:>6} | {checks} | {replays}", text.len());
+        println!("{name:<29}{:>6} {answer:>6} | {checks} | {replays}", text.len());
     }
 }
 
@@ -207,6 +207,8 @@ fn cases() -> Vec<(&'static str, Vec<u8>)> {
         ("1000 cues, ordered", extremes::typical(1_000, 1_000, Weave::Ordered).text()),
         ("1000 cues, woven", extremes::typical(1_001, 1_000, Weave::Woven).text()),
         ("1000 cues, mixed", extremes::mixed(1_000).text()),
+        ("1000 cues, one word touched", extremes::one_word_touched().text()),
+        ("1000 cues, every word touched", extremes::every_word_touched().text()),
         ("betweens", extremes::betweens().text()),
         ("signed betweens", extremes::signed_betweens().text()),
         ("wide betweens", extremes::wide_betweens().text()),

@@ -3,6 +3,7 @@
 use harness::gen::{extremes, is, not, Constraint, Draft, Line, Method, Signed};
 use harness::lists::{Dirt, Lengths, Lists};
 use harness::{fast, plain};
+use std::collections::BTreeSet;
 
 #[test]
 fn both_renderings_agree() {
@@ -136,6 +137,26 @@ fn mixed_order() {
         assert_eq!((draft.plan.len(), draft.methods.len()), (cues, 200));
         assert!(methods(&draft).windows(2).all(|pair| pair[0] != pair[1]));
         assert!(draft.methods.iter().all(|method| method.constraints.len() >= 3));
+    }
+}
+
+/// A plan of 1,000 cues whose actions touch one word each, all eight of them among them, or every word.
+#[test]
+fn words_touched() {
+    let words = |sets: &[Vec<u32>]| -> BTreeSet<u32> { sets.concat().iter().map(|p| p / 64).collect() };
+    for (draft, actions, each) in [(extremes::one_word_touched(), 60, 1), (extremes::every_word_touched(), 8, 8)] {
+        assert_accepted(&draft);
+        assert_eq!((draft.propositions, draft.actions.len(), draft.plan.len()), (512, actions, 1_000));
+        for sets in &draft.actions {
+            assert_eq!(
+                (words(&sets[2..3]).len(), words(&sets[3..]).len(), words(&sets[2..]).len()),
+                (each, each, each)
+            );
+            assert!(!sets[0].is_empty() && !sets[1].is_empty());
+        }
+        let touched: Vec<Vec<u32>> = draft.actions.iter().map(|sets| sets[2].clone()).collect();
+        assert_eq!(words(&touched).len(), 8);
+        assert!((0..actions as u32).all(|action| draft.plan.contains(&action)));
     }
 }
 

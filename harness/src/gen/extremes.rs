@@ -3,6 +3,7 @@
 
 use super::{animate, constrain, draw_palette, finish, grow, is, not, place};
 use super::{ActionSets, Constraint, Draft, Line, Method, Rng, Strictness, Weave, PROPOSITIONS};
+use cuecheck::WORDS;
 
 pub(super) fn method(task: u32, subtasks: Vec<u32>) -> Method {
     Method { task, subtasks, constraints: Vec::new() }
@@ -161,6 +162,48 @@ pub fn mixed(cues: usize) -> Draft {
     draft.palette.truncate(32);
     animate(rng, &mut draft, 10);
     draft.initial.extend(32..96);
+    draft
+}
+
+/// 1,000 cues of 60 actions, each of which adds and deletes in one of eight words.
+pub fn one_word_touched() -> Draft {
+    let rng = &mut Rng::new(60);
+    touching(60, |_| vec![rng.below(WORDS) as u32])
+}
+
+/// 1,000 cues of 8 actions, each of which adds and deletes in every word.
+pub fn every_word_touched() -> Draft {
+    touching(8, |_| (0..WORDS as u32).collect())
+}
+
+/// 1,000 cues with short sets: each action adds one proposition and deletes one in each of its words, and needs one of another word and
+/// forbids one of a third. Blocks of 20 cues, of three methods in turn, in ten sections.
+fn touching(actions: u32, mut words: impl FnMut(u32) -> Vec<u32>) -> Draft {
+    let rng = &mut Rng::new(u64::from(actions));
+    let (g, s, y) = (actions, actions + 1, actions + 2);
+    let blocks = (0..3).map(|n| method(y, (20 * n..20 * n + 20).map(|a| a % actions).collect()));
+    let methods = [method(g, vec![s; 10]), method(s, vec![y; 5])].into_iter().chain(blocks).collect();
+    let mut draft = skeleton(PROPOSITIONS, actions as usize, 3, methods);
+    // Of each word the lower half is added and deleted; of the others 16 are true throughout, 16 false.
+    let in_word = |word: u32, bit: u32| 64 * (word % WORDS as u32) + bit;
+    draft.initial = (0..PROPOSITIONS).filter(|p| (32..48).contains(&(p % 64))).collect();
+    for action in 0..actions {
+        let words = words(action);
+        let mut one_of_each = || words.iter().map(|&word| in_word(word, rng.below(32) as u32)).collect();
+        let (added, deleted) = (one_of_each(), one_of_each());
+        let needed = vec![in_word(words[0] + 3, 32 + action % 16)];
+        let forbidden = vec![in_word(words[0] + 5, 48 + action % 16)];
+        draft.actions[action as usize] = [needed, forbidden, added, deleted];
+    }
+    let mut blocks = 0;
+    let mut tree = grow(&draft, &mut |task, _, _| match task - g {
+        2 => {
+            blocks += 1;
+            2 + blocks % 3
+        }
+        other => other,
+    });
+    place(rng, &mut draft, &mut tree, Weave::Ordered);
     draft
 }
 
@@ -491,6 +534,8 @@ pub fn all() -> Vec<(&'static str, Vec<u8>)> {
         ("four nodes", four_nodes().text()),
         ("60 cues, mixed", mixed(60).text()),
         ("1000 cues, mixed", mixed(1_000).text()),
+        ("1000 cues, one word touched", one_word_touched().text()),
+        ("1000 cues, every word touched", every_word_touched().text()),
         ("betweens", betweens().text()),
         ("signed betweens", signed_betweens().text()),
         ("wide betweens", wide_betweens().text()),
