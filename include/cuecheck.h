@@ -40,6 +40,12 @@ typedef struct cuecheck_found {
     uint32_t tried;       /* one more than there are choices of gaps ahead of the one found */
 } cuecheck_found;
 
+/* What the step call answers. */
+typedef struct cuecheck_stepped {
+    uint32_t applied;  /* 1: the action applies, 0: it doesn't */
+    uint32_t computed; /* bit w for word w: the words of the next state that were computed; 0 if the action doesn't apply */
+} cuecheck_stepped;
+
 /* A node of the tree. */
 typedef struct cuecheck_node {
     uint32_t letter; /* 1: D, 2: E, 3: L */
@@ -83,10 +89,12 @@ cuecheck_found cuecheck_find_gaps(const uint8_t *text, size_t text_len,
                                   cuecheck_node *nodes, size_t nodes_len,
                                   uint32_t *work, size_t work_len);
 
-/* Applies one action. 1: the next state is written in place of state; 0: state is as it came. state must not overlap the other four. */
-uint32_t cuecheck_step(uint64_t state[CUECHECK_WORDS],
-                       const uint64_t needed[CUECHECK_WORDS], const uint64_t forbidden[CUECHECK_WORDS],
-                       const uint64_t added[CUECHECK_WORDS], const uint64_t deleted[CUECHECK_WORDS]);
+/* Applies one action. If it applies, the next state is written in place of state; if not, state is as it came. A word whose added and deleted words are
+   both zero passes through untouched; the others are computed, also where one comes out as it was, and computed has their bits, none above bit 7. Needed and
+   forbidden words don't count. state must not overlap the other four. */
+cuecheck_stepped cuecheck_step(uint64_t state[CUECHECK_WORDS],
+                               const uint64_t needed[CUECHECK_WORDS], const uint64_t forbidden[CUECHECK_WORDS],
+                               const uint64_t added[CUECHECK_WORDS], const uint64_t deleted[CUECHECK_WORDS]);
 
 #ifdef __cplusplus
 }

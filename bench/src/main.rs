@@ -5,7 +5,9 @@
 //!
 //! bench [ROUNDS [CASE]]
 
-use harness::compare::StepCall;
+#[cfg(feature = "linked")]
+use harness::compare::LINKED_STEP;
+use harness::compare::{StepCall, PLAIN_STEP};
 use harness::gen::steps::{self, Step};
 use harness::gen::tangles::{self, Standing};
 use harness::gen::{extremes, gaps, Rng, Weave};
@@ -67,15 +69,8 @@ const WRITES: &[Call] = &[call!(plain write), call!(fast write), call!(fast chec
 #[cfg(not(feature = "linked"))]
 const FINDS: &[Call] = &[call!(fast find_gaps)];
 
-const PLAIN_STEP: StepCall = |state, &[needed, forbidden, added, deleted]| {
-    let applies;
-    (applies, *state) = plain::step(*state, needed, forbidden, added, deleted);
-    applies
-};
 #[cfg(feature = "linked")]
-const STEP_CALLS: &[StepCall] = &[PLAIN_STEP, fast::step, |state, [needed, forbidden, added, deleted]| {
-    cuecheck::step(state, needed, forbidden, added, deleted)
-}];
+const STEP_CALLS: &[StepCall] = &[PLAIN_STEP, fast::step, LINKED_STEP];
 #[cfg(not(feature = "linked"))]
 const STEP_CALLS: &[StepCall] = &[PLAIN_STEP, fast::step];
 

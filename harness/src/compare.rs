@@ -3,8 +3,10 @@
 use crate::gen::steps::{self, Step};
 use crate::gen::{Inputs, FORMER, PROPOSITIONS};
 use crate::lists::{draw_output, Dirt, Lengths, Lists, OUTPUT};
-use crate::plain::{self, Found, Reply, Set, Written};
+use crate::plain::{self, Found, Reply, Set, Stepped, Written};
+use cuecheck::WORDS;
 use std::collections::BTreeMap;
+use std::ops::RangeInclusive;
 
 /// One side: a call on a text and the lists lent in these lengths.
 pub type Call = fn(&[u8], &mut Lists, Lengths) -> Reply;
@@ -36,7 +38,17 @@ pub const PLAIN_FIND: FindCall = |text, lists, lengths| {
 };
 
 /// One side of the step call: a state, and the sets needed, forbidden, added and deleted.
-pub type StepCall = fn(&mut Set, &[Set; 4]) -> bool;
+pub type StepCall = fn(&mut Set, &[Set; 4]) -> Stepped;
+
+pub const PLAIN_STEP: StepCall = |state, &[needed, forbidden, added, deleted]| {
+    let stepped;
+    (stepped, *state) = plain::step(*state, needed, forbidden, added, deleted);
+    stepped
+};
+
+#[cfg(feature = "linked")]
+pub const LINKED_STEP: StepCall =
+    |state, [needed, forbidden, added, deleted]| cuecheck::step(state, needed, forbidden, added, deleted);
 
 /// How many inputs were accepted with lists as long as asked; and of them all, and of those accepted, how many have
 /// more propositions than four words hold.
@@ -222,30 +234,44 @@ pub fn run_find(plain: FindCall, other: FindCall, name: &str) -> BTreeMap<u32, u
     answers
 }
 
-/// The same for the step call: the answer, the state, and that the other sets stay, and what lies around them.
+/// The same for the step call: the answer, the words computed, the state, and that the other sets stay, and what lies around them.
 pub fn run_step(other: StepCall, name: &str) {
     let asked = Asked::by_arguments();
     let inputs = Inputs::new(asked.seed);
-    let mut applied = 0;
+    // How many inputs that apply compute so many words.
+    let mut computed = [0; WORDS + 1];
     for number in asked.numbers() {
         let mut rng = inputs.rng(number);
         let step = steps::any(&mut rng);
         let margin = step.state.map(|_| rng.word());
-        let [needed, forbidden, added, deleted] = step.sets;
-        let (applies, next) = plain::step(step.state, needed, forbidden, added, deleted);
-        let mut lent = Lent { margin, step, end: margin };
+        let mut due = Lent { margin, step, end: margin };
+        let mut lent = due;
+        let stepped = PLAIN_STEP(&mut due.step.state, &step.sets);
         let answer = other(&mut lent.step.state, &lent.step.sets);
-        let due = Lent { margin, step: Step { state: next, ..step }, end: margin };
-        if (answer, lent) != (applies, due) {
+        if (answer, lent) != (stepped, due) {
             println!("seed {}, input {number}: {step:x?}", asked.seed);
-            println!("first plain, then {name}: {applies}, {due:x?}; {answer}, {lent:x?}");
+            println!("first plain, then {name}: {stepped:x?}, {due:x?}; {answer:x?}, {lent:x?}");
             println!("{} inputs, 1 difference", number + 1);
             std::process::exit(1);
         }
-        applied += u64::from(applies);
+        if stepped.applies() {
+            computed[stepped.computed.count_ones() as usize] += 1;
+        }
     }
-    println!("{applied} inputs apply");
+    show_computed(&computed);
     println!("{} inputs, 0 differences", asked.count);
+}
+
+/// How many inputs of the step call apply, and how many of these are sparse, dense, or compute nothing.
+fn show_computed(computed: &[u64; WORDS + 1]) {
+    let count = |words: RangeInclusive<usize>| computed[words].iter().sum::<u64>();
+    println!(
+        "{} inputs apply; of these {} compute at most two words, {} seven or eight, {} none",
+        count(0..=WORDS),
+        count(0..=2),
+        count(7..=WORDS),
+        computed[0]
+    );
 }
 
 /// What a step call sees, in one piece, and what lies before and behind it.

@@ -1,4 +1,4 @@
-//! Document 01, with Cards 1 to 4 of document 02, once more, written for speed: the step, replay, check and write calls, and
+//! Document 01, with Cards 1 to 5 of document 02, once more, written for speed: the step, replay, check and write calls, and
 //! the one that finds the gaps.
 //!
 //! One pass over the text fills tables on the stack and, for the check call, the lent records (`reading`); the plan is
@@ -17,8 +17,8 @@ mod writing;
 use case::{with_tables, Action, Case};
 use constraints::first_broken;
 use cuecheck::{Accepted, Placed, Tidied};
-pub use cuecheck::{Found, Node, Refusal, Reply, Set, Written};
-use finding::find;
+pub use cuecheck::{Found, Node, Refusal, Reply, Set, Stepped, Written};
+use finding::{find, members};
 use reading::read;
 use walking::walk;
 use writing::put_out;
@@ -41,25 +41,60 @@ fn refuse<T>(number: u32, line: usize, item: usize) -> Checked<T> {
     Err(Refusal { number, line: line as u32, item: item as u32 })
 }
 
-/// The step call: yes, and the state becomes the next one, or no, and it stays.
-pub fn step(state: &mut Set, action: &Action) -> bool {
-    let (next, obstacles) = next(state, action);
-    if obstacles == 0 {
-        *state = next;
+/// The step call: yes, and the state becomes the next one, or no, and it stays; and which words were computed. These are found first
+/// and gone through one by one: a branch at each word would be hard to foretell.
+pub fn step(state: &mut Set, [needed, forbidden, added, deleted]: &Action) -> Stepped {
+    if obstacles(state, needed, forbidden) != 0 {
+        return Stepped { applied: 0, computed: 0 };
     }
-    obstacles == 0
+    let computed = touched(added, deleted);
+    if computed == EVERY {
+        advance(state, added, deleted);
+    } else {
+        for w in members(computed).map(|w| w % WORDS) {
+            state[w] = next(state[w], added[w], deleted[w]);
+        }
+    }
+    Stepped { applied: 1, computed }
 }
 
-/// The state that follows, and the bits that stand against it: none if the action applies.
+/// All words, word w as bit w.
+const EVERY: u32 = (1 << WORDS) - 1;
+
+/// The words in which anything is added or deleted.
 #[inline(always)]
-fn next(state: &Set, [needed, forbidden, added, deleted]: &Action) -> (Set, u64) {
-    let mut next = *state;
-    let mut obstacles = 0;
+fn touched(added: &Set, deleted: &Set) -> u32 {
+    (0..WORDS).fold(0, |words, w| words | u32::from(added[w] | deleted[w] != 0) << w)
+}
+
+/// The bits that stand against an action: none if it applies.
+#[inline(always)]
+fn obstacles(state: &Set, needed: &Set, forbidden: &Set) -> u64 {
+    (0..WORDS).fold(0, |bits, w| bits | (needed[w] & !state[w]) | (forbidden[w] & state[w]))
+}
+
+/// A word of the next state.
+fn next(state: u64, added: u64, deleted: u64) -> u64 {
+    (state & !deleted) | added
+}
+
+/// The next state, where nobody asks which words were computed. A word in which nothing is added or deleted passes through; computed it
+/// would be the same, so the compiler drops the test, and takes the words two by two.
+#[inline(always)]
+fn advanced(state: &Set, added: &Set, deleted: &Set) -> Set {
+    let mut advanced = *state;
     for w in 0..WORDS {
-        obstacles |= (needed[w] & !state[w]) | (forbidden[w] & state[w]);
-        next[w] = (state[w] & !deleted[w]) | added[w];
+        if added[w] | deleted[w] != 0 {
+            advanced[w] = next(state[w], added[w], deleted[w]);
+        }
     }
-    (next, obstacles)
+    advanced
+}
+
+/// The next state in place of the state. A function apart: in the step call it would make the other way slower.
+#[inline(never)]
+fn advance(state: &mut Set, added: &Set, deleted: &Set) {
+    *state = advanced(state, added, deleted);
 }
 
 /// The check call: reads, runs, walks, and tries every constraint.
@@ -174,11 +209,11 @@ fn run<'a>(case: &Case, states: &'a mut [u64]) -> Checked<&'a [Set]> {
     let mut state = case.initial;
     rows[0] = state;
     for (before, (&cue, row)) in case.plan.iter().zip(&mut rows[1..]).enumerate() {
-        let (next, obstacles) = next(&state, &case.actions[cue as usize]);
-        if obstacles != 0 {
+        let [needed, forbidden, added, deleted] = &case.actions[cue as usize];
+        if obstacles(&state, needed, forbidden) != 0 {
             return refuse(5, case.plan_line(), before + 1);
         }
-        state = next;
+        state = advanced(&state, added, deleted);
         *row = state;
     }
     Ok(rows)

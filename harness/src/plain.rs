@@ -1,4 +1,4 @@
-//! Document 01, with Cards 1 to 4 of document 02, as a plain Rust program: the step, replay, check and write calls, and the
+//! Document 01, with Cards 1 to 5 of document 02, as a plain Rust program: the step, replay, check and write calls, and the
 //! one that finds the gaps.
 //!
 //! The text is read once into vectors (`read`), the plan is run into the lent state list
@@ -8,7 +8,7 @@
 //! text is checked (`first_accepted`). Nothing here is proved; the module is the
 //! yardstick of tests and benchmarks, so it is written for clarity first and speed second.
 
-pub use cuecheck::{Found, Node, Refusal, Reply, Set, Written};
+pub use cuecheck::{Found, Node, Refusal, Reply, Set, Stepped, Written};
 use std::ops::{Range, RangeBounds};
 
 /// The words of a state.
@@ -31,14 +31,23 @@ fn refuse<T>(number: u32, line: u32, item: u32) -> Checked<T> {
     Err(Refusal { number, line, item })
 }
 
-/// Applies an action: yes with the next state, or no with the state as it came.
-pub fn step(state: Set, needed: Set, forbidden: Set, added: Set, deleted: Set) -> (bool, Set) {
+/// Applies an action: yes with the next state and the words computed for it, word w as bit w, or no with the state as it
+/// came and none computed.
+pub fn step(state: Set, needed: Set, forbidden: Set, added: Set, deleted: Set) -> (Stepped, Set) {
     // One OR over all words instead of a test per word: the common case has no early way out.
     let obstacles = (0..WORDS).fold(0, |bits, w| bits | (needed[w] & !state[w]) | (forbidden[w] & state[w]));
     if obstacles != 0 {
-        return (false, state);
+        return (Stepped { applied: 0, computed: 0 }, state);
     }
-    (true, std::array::from_fn(|w| (state[w] & !deleted[w]) | added[w]))
+    let (mut computed, mut next) = (0, state);
+    for w in 0..WORDS {
+        // A word in which nothing is added or deleted passes through untouched.
+        if added[w] != 0 || deleted[w] != 0 {
+            next[w] = (state[w] & !deleted[w]) | added[w];
+            computed |= 1 << w;
+        }
+    }
+    (Stepped { applied: 1, computed }, next)
 }
 
 /// The check call: reads, runs, walks, and tries every constraint.
@@ -506,8 +515,8 @@ fn run(case: &Case, states: &mut [u64]) -> Checked<()> {
     rows[0] = state;
     for (before, &cue) in case.plan.iter().enumerate() {
         let action = &case.actions[cue as usize];
-        let (applies, next) = step(state, action.needed, action.forbidden, action.added, action.deleted);
-        if !applies {
+        let (stepped, next) = step(state, action.needed, action.forbidden, action.added, action.deleted);
+        if !stepped.applies() {
             return refuse(5, case.plan_line, before as u32 + 1);
         }
         state = next;

@@ -1,8 +1,8 @@
-//! The panel cases of document 01 and the settled readings, of Cards 1 and 3 of document 02 too, each as a text and its answer.
+//! The panel cases of document 01 and the settled readings, of Cards 1, 3 and 5 of document 02 too, each as a text and its answer, or as a step.
 
 use harness::fast;
 use harness::lists::{Dirt, Lengths, Lists};
-use harness::plain::{check, replay, step, Reply};
+use harness::plain::{check, replay, step, Reply, Stepped};
 
 const CASE_A: &str = "N,3,3,2,3,3,2,4\nI,1,0\nA,0,1,0,1,0,0\nA,0,0,1,1,0\nA,1,1,0,1,2,1,1\nM,3,3,4,1,2,3\nO,0,2\n\
     O,1,2\nW,1,0,4\nM,4,1,0,0\nM,4,0,1\nB,0,0\nP,1,2\nD,0\nE,2,0\nL,1,1\nL,2,2\n";
@@ -269,7 +269,7 @@ fn replay_reads_the_tree_but_does_not_walk_it() {
 }
 
 /// The answer of both renderings, and the state that they leave.
-fn stepped(state: [u64; 8], sets: [[u64; 8]; 4]) -> (bool, [u64; 8]) {
+fn stepped(state: [u64; 8], sets: [[u64; 8]; 4]) -> (Stepped, [u64; 8]) {
     let [needed, forbidden, added, deleted] = sets;
     let answer = step(state, needed, forbidden, added, deleted);
     let mut fast_state = state;
@@ -277,19 +277,92 @@ fn stepped(state: [u64; 8], sets: [[u64; 8]; 4]) -> (bool, [u64; 8]) {
     answer
 }
 
+/// Yes, with these words computed, and the next state.
+fn yes(computed: u32, next: [u64; 8]) -> (Stepped, [u64; 8]) {
+    (Stepped { applied: 1, computed }, next)
+}
+
+/// No, with the state as it came and no word computed.
+fn no(state: [u64; 8]) -> (Stepped, [u64; 8]) {
+    (Stepped { applied: 0, computed: 0 }, state)
+}
+
+const NONE: [u64; 8] = [0; 8];
+const ALL: [u64; 8] = [u64::MAX; 8];
+
 #[test]
 fn step_deletes_then_adds() {
-    let (none, all) = ([0; 8], [u64::MAX; 8]);
     let (five, top) = (word(0, 5), word(7, 1 << 63));
     let state = [5, 0, 0, 0, 0, 0, 0, 1 << 63];
     let deleted = [12, 0, 0, 0, 0, 0, 0, 1 << 63];
-    assert_eq!(stepped(state, [state, word(0, 2), word(0, 8), deleted]), (true, word(0, 9)));
-    assert_eq!(stepped(five, [word(0, 2), none, word(0, 8), none]), (false, five));
-    assert_eq!(stepped(five, [none, word(0, 4), word(0, 8), none]), (false, five));
-    assert_eq!(stepped(none, [none, none, all, all]), (true, all));
-    assert_eq!(stepped(all, [all, none, none, all]), (true, none));
+    assert_eq!(stepped(state, [state, word(0, 2), word(0, 8), deleted]), yes(0x81, word(0, 9)));
+    assert_eq!(stepped(five, [word(0, 2), NONE, word(0, 8), NONE]), no(five));
+    assert_eq!(stepped(five, [NONE, word(0, 4), word(0, 8), NONE]), no(five));
+    assert_eq!(stepped(NONE, [NONE, NONE, ALL, ALL]), yes(0xff, ALL));
+    assert_eq!(stepped(ALL, [ALL, NONE, NONE, ALL]), yes(0xff, NONE));
     // One bit of the last word stands against it.
-    assert_eq!(stepped(none, [top, none, all, none]), (false, none));
-    assert_eq!(stepped(top, [none, top, all, none]), (false, top));
-    assert_eq!(stepped(top, [top, none, top, top]), (true, top));
+    assert_eq!(stepped(NONE, [top, NONE, ALL, NONE]), no(NONE));
+    assert_eq!(stepped(top, [NONE, top, ALL, NONE]), no(top));
+    assert_eq!(stepped(top, [top, NONE, top, top]), yes(0x80, top));
+}
+
+/// A word is computed if anything in it is added or deleted, one bit or all of them; the others pass through.
+#[test]
+fn words_computed() {
+    for w in 0..8 {
+        for bits in [1, 1 << 63, u64::MAX] {
+            let one = word(w, bits);
+            let mut rest = ALL;
+            rest[w] = !bits;
+            assert_eq!(stepped(NONE, [NONE, NONE, one, NONE]), yes(1 << w, one));
+            assert_eq!(stepped(ALL, [NONE, NONE, NONE, one]), yes(1 << w, rest));
+            assert_eq!(stepped(NONE, [NONE, NONE, one, one]), yes(1 << w, one));
+            // It comes out as it was: what is added is there, what is deleted isn't.
+            assert_eq!(stepped(ALL, [NONE, NONE, one, NONE]), yes(1 << w, ALL));
+            assert_eq!(stepped(NONE, [NONE, NONE, NONE, one]), yes(1 << w, NONE));
+            assert_eq!(stepped(one, [NONE, NONE, one, one]), yes(1 << w, one));
+        }
+    }
+    // Two words, one of them added to, the other deleted from.
+    assert_eq!(stepped(ALL, [NONE, NONE, word(2, 1), word(5, u64::MAX)]).0, Stepped { applied: 1, computed: 0x24 });
+}
+
+/// Needed and forbidden words don't count; an action that adds and deletes nothing computes no word.
+#[test]
+fn words_only_asked_for_pass_through() {
+    for state in [NONE, ALL, word(3, 6)] {
+        let others = state.map(|word| !word);
+        assert_eq!(stepped(state, [NONE; 4]), yes(0, state));
+        assert_eq!(stepped(state, [state, others, NONE, NONE]), yes(0, state));
+        for w in 0..8 {
+            let mut next = state;
+            next[w] |= 1;
+            assert_eq!(stepped(state, [state, others, word(w, 1), NONE]), yes(1 << w, next));
+        }
+    }
+}
+
+/// After a no there are no bits, whatever the action would add and delete, and whichever word stands against it.
+#[test]
+fn no_word_is_computed_after_a_no() {
+    for w in 0..8 {
+        for bit in [1, 1 << 63] {
+            let one = word(w, bit);
+            for (added, deleted) in [(ALL, NONE), (NONE, ALL), (ALL, ALL), (one, NONE), (NONE, one)] {
+                assert_eq!(stepped(NONE, [one, NONE, added, deleted]), no(NONE));
+                assert_eq!(stepped(one, [NONE, one, added, deleted]), no(one));
+            }
+        }
+    }
+}
+
+/// No word past the last is ever told computed, whatever number there is.
+#[test]
+fn words_of_an_answer() {
+    let answer = Stepped { applied: 1, computed: 0x81 };
+    assert!(answer.applies() && !Stepped { applied: 0, ..answer }.applies());
+    assert_eq!((0..10).filter(|&w| answer.is_computed(w)).collect::<Vec<_>>(), [0, 7]);
+    let every = Stepped { applied: 1, computed: u32::MAX };
+    assert!((0..8).all(|w| every.is_computed(w)));
+    assert!([8, 31, 32, 40, 64, usize::MAX].iter().all(|&w| !every.is_computed(w)));
 }

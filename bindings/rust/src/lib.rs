@@ -87,6 +87,16 @@ pub struct Placed {
     pub tried: u32,
 }
 
+/// What the step call answers: whether the action applies, and which words of the next state were computed.
+#[repr(C)]
+#[derive(Clone, Copy, Debug, PartialEq, Eq)]
+pub struct Stepped {
+    /// 1: it applies, 0: it doesn't.
+    pub applied: u32,
+    /// Bit w for word w: set where the action adds or deletes anything in it, also if the word comes out as it was. 0 if the action doesn't apply.
+    pub computed: u32,
+}
+
 /// A row of the table in README.md.
 #[derive(Clone, Copy, Debug, PartialEq, Eq)]
 pub struct Refusal {
@@ -119,6 +129,17 @@ impl Found {
             0 => Ok(Placed { cues: self.cues, nodes: self.nodes, tried: self.tried }),
             number => Err(Refusal { number, line: self.line, item: self.item }),
         }
+    }
+}
+
+impl Stepped {
+    pub fn applies(self) -> bool {
+        self.applied == 1
+    }
+
+    /// Whether this word was computed; no for one that a state doesn't have.
+    pub fn is_computed(self, word: usize) -> bool {
+        word < WORDS && self.computed >> word & 1 == 1
     }
 }
 

@@ -1,6 +1,6 @@
 //! The calls. This is the only file with unsafe code: each passes a slice's own pointer and length, which is what the declarations ask for.
 
-use crate::{Found, Node, Reply, Set, Written};
+use crate::{Found, Node, Reply, Set, Stepped, Written};
 
 // Not bundled into this crate: a new archive only needs the programs to be linked again.
 #[link(name = "capi", kind = "static", modifiers = "-bundle")]
@@ -51,7 +51,7 @@ extern "C" {
         forbidden: *const Set,
         added: *const Set,
         deleted: *const Set,
-    ) -> u32;
+    ) -> Stepped;
 }
 
 /// Judges a case. Accepted, `states` has states 0 to k and `nodes` a record for each node, in the tree's order, and zero after; refused, both
@@ -120,8 +120,9 @@ pub fn find_gaps(text: &[u8], states: &mut [u64], nodes: &mut [Node], work: &mut
     }
 }
 
-/// Applies one action. True: `state` is the next state; false: it is as it came.
-pub fn step(state: &mut Set, needed: &Set, forbidden: &Set, added: &Set, deleted: &Set) -> bool {
+/// Applies one action. If it applies, `state` is the next state; if not, it is as it came. A word in which nothing is added or deleted passes through
+/// untouched, the others are computed.
+pub fn step(state: &mut Set, needed: &Set, forbidden: &Set, added: &Set, deleted: &Set) -> Stepped {
     // SAFETY: each pointer is of a live set, and the borrows keep `state` from overlapping the others.
-    unsafe { cuecheck_step(state, needed, forbidden, added, deleted) == 1 }
+    unsafe { cuecheck_step(state, needed, forbidden, added, deleted) }
 }

@@ -4,7 +4,7 @@
 #[path = "../../src/plain.rs"]
 mod plain;
 
-use plain::{Found, Node, Reply, Set, Written, STATES_ASKED, WORK_ASKED};
+use plain::{Found, Node, Reply, Set, Stepped, Written, STATES_ASKED, WORK_ASKED};
 use std::slice::{from_raw_parts, from_raw_parts_mut};
 
 /// # Safety
@@ -94,10 +94,10 @@ pub unsafe extern "C" fn cuecheck_step(
     forbidden: *const Set,
     added: *const Set,
     deleted: *const Set,
-) -> u32 {
-    let (applies, next) = plain::step(*state, *needed, *forbidden, *added, *deleted);
+) -> Stepped {
+    let (stepped, next) = plain::step(*state, *needed, *forbidden, *added, *deleted);
     *state = next;
-    u32::from(applies)
+    stepped
 }
 
 /// The answer and the lists as they came, or with the bug that the features ask for.

@@ -5,7 +5,5 @@
 use harness::compare;
 
 fn main() {
-    let linked: compare::StepCall =
-        |state, [needed, forbidden, added, deleted]| cuecheck::step(state, needed, forbidden, added, deleted);
-    compare::run_step(linked, "linked");
+    compare::run_step(compare::LINKED_STEP, "linked");
 }

@@ -77,7 +77,8 @@ impl Part {
     }
 }
 
-fn members(mut set: u32) -> impl Iterator<Item = usize> {
+/// The bits of a set, from the lowest on.
+pub fn members(mut set: u32) -> impl Iterator<Item = usize> {
     std::iter::from_fn(move || {
         let least = set.trailing_zeros() as usize;
         let any = set != 0;
