@@ -2,8 +2,9 @@
 # Builds the static library of crate capi, links it with the examples in C and Rust and runs them on a case. At the top of the repository:
 #   sh examples/run.sh [FILE [nodes]]
 # Prints what both print: first the check call's answer, then the tidy text, or the write call's refusal, then the gaps found for the empty tasks, of this
-# case and of examples/gaps.case, then two steps. Fails if they differ. Without FILE the case is examples/panel.case, the panel case with constraints out of
-# order and one repeated. In examples/gaps.case "in km/h" is claimed in gap 0 and has to stand in gap 1: loading brings the figure in km/h with it.
+# case and of examples/gaps.case, then two steps, each with the number of the words that it computed. Fails if they differ. Without FILE the case is
+# examples/panel.case, the panel case with constraints out of order and one repeated. In examples/gaps.case "in km/h" is claimed in gap 0 and has to stand
+# in gap 1: loading brings the figure in km/h with it.
 set -eu
 cd "$(dirname "$0")/.."
 [ $# -gt 0 ] || set -- examples/panel.case

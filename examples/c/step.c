@@ -1,5 +1,5 @@
-/* The step call, with one action twice: it needs proposition 511, forbids 256, adds 256 and deletes 0. Prints the answer and the words of the
-   state: yes with the next one, then, since 256 is true now, no with the state as it came.
+/* The step call, with one action twice: it needs proposition 511, forbids 256, adds 256 and deletes 0. Prints the answer, the number for the trace and
+   the words of the state: yes with the next one, words 0 and 4 computed, then, since 256 is true now, no with the state as it came and none computed.
      step */
 #include <inttypes.h>
 #include <stdio.h>
@@ -22,8 +22,8 @@ int main(void)
     put(added, 256);
     put(deleted, 0);
     for (int cue = 0; cue < 2; cue++) {
-        uint32_t applies = cuecheck_step(state, needed, forbidden, added, deleted);
-        printf("%s", applies ? "yes" : "no");
+        cuecheck_stepped s = cuecheck_step(state, needed, forbidden, added, deleted);
+        printf("%s,computed %u", s.applied ? "yes" : "no", (unsigned)s.computed);
         for (int word = 0; word < CUECHECK_WORDS; word++) {
             printf(",%" PRIu64, state[word]);
         }

@@ -1,5 +1,5 @@
-//! The step call, with one action twice: it needs proposition 511, forbids 256, adds 256 and deletes 0. Prints the answer and the words of the
-//! state: yes with the next one, then, since 256 is true now, no with the state as it came.
+//! The step call, with one action twice: it needs proposition 511, forbids 256, adds 256 and deletes 0. Prints the answer, the number for the trace and
+//! the words of the state: yes with the next one, words 0 and 4 computed, then, since 256 is true now, no with the state as it came and none computed.
 //!
 //!     step
 
@@ -14,8 +14,8 @@ fn set(propositions: &[usize]) -> Set {
 fn main() {
     let mut state = set(&[0, 511]);
     for _ in 0..2 {
-        let applies = cuecheck::step(&mut state, &set(&[511]), &set(&[256]), &set(&[256]), &set(&[0]));
+        let stepped = cuecheck::step(&mut state, &set(&[511]), &set(&[256]), &set(&[256]), &set(&[0]));
         let words: String = state.iter().map(|word| format!(",{word}")).collect();
-        println!("{}{words}", if applies { "yes" } else { "no" });
+        println!("{},computed {}{words}", if stepped.applies() { "yes" } else { "no" }, stepped.computed);
     }
 }
