@@ -77,10 +77,13 @@ const STEP_CALLS: &[StepCall] = &[PLAIN_STEP, fast::step];
 /// How many step calls are timed together.
 const STEPS: usize = 1_000;
 
-const STEP_CASES: [(&str, fn(&mut Rng) -> Step); 3] = [
-    ("step that applies, dense sets", steps::dense),
-    ("step that applies, one word in use", steps::one_word),
-    ("step that is refused in the last word", steps::refused_at_the_end),
+/// Name, how many inputs in turn, and their maker. Where the words touched vary, no input comes twice: a hundred would be learnt by heart, branch by branch.
+const STEP_CASES: [(&str, usize, fn(&mut Rng) -> Step); 5] = [
+    ("step that applies, dense sets", 100, steps::dense),
+    ("step that applies, one word in use", 100, steps::one_word),
+    ("step that applies, one word touched", STEPS, steps::one_touched),
+    ("step that applies, some words touched", STEPS, steps::some_touched),
+    ("step that is refused in the last word", 100, steps::refused_at_the_end),
 ];
 
 const LINKED: bool = cfg!(feature = "linked");
@@ -171,12 +174,12 @@ fn cases_to_find() -> Vec<(String, Vec<u8>)> {
     cases
 }
 
-/// The step call, a thousand times on a hundred inputs in turn.
+/// The step call, a thousand times on some inputs in turn.
 fn show_steps(columns: &str, rounds: usize, wanted: &str) {
     println!("{:<40} | {columns}", format!("step, {STEPS} calls"));
-    for (name, draw) in STEP_CASES.into_iter().filter(|(name, _)| name.starts_with(wanted)) {
+    for (name, count, draw) in STEP_CASES.into_iter().filter(|(name, ..)| name.starts_with(wanted)) {
         let rng = &mut Rng::new(STEPS as u64);
-        let inputs: Vec<Step> = (0..100).map(|_| draw(rng)).collect();
+        let inputs: Vec<Step> = (0..count).map(|_| draw(rng)).collect();
         let times = medians(STEP_CALLS, rounds, |call| time_steps(&inputs, *call));
         println!("{name:<40} | {}", row(&times));
     }

@@ -11,10 +11,12 @@ pub struct Step {
     pub sets: [Set; 4],
 }
 
-/// Mostly an action that applies, or would but for one bit.
+/// Mostly an action that applies, or would but for one bit; more than half add and delete in few words only.
 pub fn any(rng: &mut Rng) -> Step {
     let mut step = Step { state: draw_set(rng), sets: std::array::from_fn(|_| draw_set(rng)) };
-    if rng.percent(25) {
+    if rng.percent(60) {
+        thin(rng, &mut step);
+    } else if rng.percent(25) {
         // Much is deleted and added at once.
         let some = draw_set(rng);
         step.sets[3] = joined(&step.sets[2], &some, |added, some| added & some);
@@ -42,6 +44,20 @@ pub fn one_word(rng: &mut Rng) -> Step {
     for set in [&mut step.state].into_iter().chain(&mut step.sets) {
         set[1..].fill(0);
     }
+    step
+}
+
+/// Dense sets of an action that applies, but added and deleted ones in one word only.
+pub fn one_touched(rng: &mut Rng) -> Step {
+    let mut step = dense(rng);
+    touch_only(&mut step, 1 << rng.below(WORDS));
+    step
+}
+
+/// The same in some words.
+pub fn some_touched(rng: &mut Rng) -> Step {
+    let mut step = dense(rng);
+    touch_only(&mut step, rng.word());
     step
 }
 
@@ -82,6 +98,42 @@ fn draw_set(rng: &mut Rng) -> Set {
         6 => any.map(|word| *rng.pick(&[0, u64::MAX, word])),
         _ => any,
     }
+}
+
+/// Leaves nothing added or deleted but in these words, each a bit.
+fn touch_only(step: &mut Step, words: u64) {
+    for set in &mut step.sets[2..] {
+        (0..WORDS).filter(|w| words >> w & 1 == 0).for_each(|w| set[w] = 0);
+    }
+}
+
+/// Adds and deletes anew: mostly in one word, or in two, in none, in some.
+fn thin(rng: &mut Rng, step: &mut Step) {
+    for w in 0..WORDS {
+        [step.sets[2][w], step.sets[3][w]] = draw_effect(rng, step.state[w]);
+    }
+    let (one, other, some) = (1 << rng.below(WORDS), 1 << rng.below(WORDS), rng.word());
+    touch_only(step, *rng.pick(&[one, one, one, one, one | other, one | other, 0, some]));
+}
+
+/// What is added to a word and deleted from it: one of them or both, the same, or what leaves the word as it was.
+fn draw_effect(rng: &mut Rng, state: u64) -> [u64; 2] {
+    let (one, other) = (draw_word(rng), draw_word(rng));
+    match rng.below(7) {
+        0 => [one, 0],
+        1 => [0, one],
+        2 => [one, other],
+        3 => [one, one],
+        4 => [one & state, 0],
+        5 => [0, one & !state],
+        _ => [one & state, other & !state],
+    }
+}
+
+/// A word that isn't zero: one bit, all, or any.
+fn draw_word(rng: &mut Rng) -> u64 {
+    let (bit, any) = (draw_bit(rng), rng.word() | 1);
+    *rng.pick(&[bit, bit, u64::MAX, any])
 }
 
 /// A bit of a word, often one at its edges.
