@@ -1,4 +1,4 @@
-//! Two plain renderings of document 01 and Cards 1 to 4 of document 02, a clear one and a fast one, and the tools that compare a
+//! Two plain renderings of document 01 and Cards 1 to 5 of document 02, a clear one and a fast one, and the tools that compare a
 //! linked library with them.
 
 pub mod compare;
@@ -6,3 +6,4 @@ pub mod fast;
 pub mod gen;
 pub mod lists;
 pub mod plain;
+pub mod worded;

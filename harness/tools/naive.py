@@ -1,5 +1,5 @@
 #!/usr/bin/env python3
-"""Document 01, with Cards 1 to 4 of document 02, rendered a second time, as naively as it can be
+"""Document 01, with Cards 1 to 5 of document 02, rendered a second time, as naively as it can be
 said, to cross-check plain.rs.
 
 Sets of ints, fractions for half indexes, the text cut at line feeds and commas, a tree of
@@ -7,11 +7,12 @@ objects. It shares no code and no data layout with the Rust rendering.
 
     naive.py cases FOLDER     every .case of the folder against its .expect
     naive.py cards FOLDER     the folders of a card's cases (call, case, expect, expect.output):
-                              those that call check, replay, write or gaps and hold now
+                              those that call check, replay, write, gaps or step and hold now
     naive.py stored FOLDER    the stored cases of the write call (args, data, stdout)
     naive.py stored-gaps FOLDER    those of the call that finds the gaps
-    naive.py dump FILE        every record that the program `dump` wrote (texts with the plain
-                              rendering's answers and lists)
+    naive.py stored-steps FILE STDOUT    those of the step call, and what is printed of them
+    naive.py dump FILE        every record that the program `dump` wrote (texts and steps with the
+                              plain rendering's answers and lists)
 """
 
 import itertools
@@ -19,6 +20,7 @@ import math
 import re
 import struct
 import sys
+from collections import Counter
 from fractions import Fraction
 from pathlib import Path
 
@@ -26,7 +28,7 @@ PLAIN = re.compile(rb"0|[1-9][0-9]*")
 
 # How many cards have landed; a state's words and the most propositions; the most cues; what is asked
 # of the lent lists.
-LANDED = 4
+LANDED = 5
 WORDS = 8
 PROPOSITIONS = 64 * WORDS
 CUES = 1000
@@ -200,13 +202,21 @@ def read_node(lines, case, method_count):
 # ------------------------------------------------------------------ running
 
 
+def step(state, needed, forbidden, added, deleted):
+    """Whether an action applies, the state that is left, and the words computed: those that have a
+    proposition which is added or deleted."""
+    if not needed <= state or forbidden & state:
+        return False, state, set()
+    return True, (state - deleted) | added, {p // 64 for p in added | deleted}
+
+
 def run(case):
     states = [case.initial]
     for i in range(1, case.k + 1):
-        needed, forbidden, added, deleted = case.actions[case.plan[i - 1]]
-        if not needed <= states[i - 1] or forbidden & states[i - 1]:
+        applies, after, _ = step(states[i - 1], *case.actions[case.plan[i - 1]])
+        if not applies:
             raise Refused(5, case.plan_line, i)
-        states.append((states[i - 1] - deleted) | added)
+        states.append(after)
     return states
 
 
@@ -312,6 +322,16 @@ def words(state):
     return [sum(1 << (p % 64) for p in state if p // 64 == w) for w in range(WORDS)]
 
 
+def propositions(words):
+    return {64 * w + bit for w, word in enumerate(words) for bit in range(64) if word >> bit & 1}
+
+
+def step_words(sets):
+    """The step call on a state and four sets, given as words: answer, number for the trace, words."""
+    applies, state, computed = step(*map(propositions, sets))
+    return applies, sum(2**w for w in computed), words(state)
+
+
 def record(tree):
     return [" DEL".index(tree.letter), tree.label, tree.place, int(2 * tree.start), int(2 * tree.end)]
 
@@ -410,6 +430,15 @@ def printed(answer):
     return "Y," + ",".join(map(str, answer[3:])) + "\n" if answer[0] == 0 else "R,%d,%d,%d\n" % answer[:3]
 
 
+SETS = ("state", "needed", "forbidden", "added", "deleted")
+
+
+def printed_step(sets):
+    """What the step call tells of sets given in text: answer and words, then the number for the trace."""
+    applies, mask, state = step_words([[int(word) for word in one.split(",")] for one in sets])
+    return ",".join(["Y" if applies else "N"] + [str(word) for word in state]) + f"\nmask {mask}\n"
+
+
 # ------------------------------------------------------------------ comparing
 
 
@@ -432,21 +461,10 @@ def compare_cards(folder):
     for case in sorted(Path(folder).glob("*/call")):
         words = dict(line.split(" ", 1) for line in case.read_text().splitlines() if line[0] != "#")
         since, until = words["holds"].split("-")
-        if words["call"] not in ("check", "replay", "write", "gaps") or not int(since) <= LANDED <= int(until):
+        if words["call"] not in ("check", "replay", "write", "gaps", "step") or not int(since) <= LANDED <= int(until):
             continue
-        lengths = [int(words.get(name, asked)) for name, asked in (("states", STATES), ("nodes", NODES), ("work", WORK))]
-        text = case.with_name("case").read_bytes()
-        if words["call"] == "write":
-            answer, states, records, output = write(text, *lengths, int(words["output"]))
-        elif words["call"] == "gaps":
-            (answer, states, records), output = find_gaps(text, *lengths), b""
-        else:
-            (answer, states, records), output = call(text, *lengths, words["call"] == "check"), b""
         count += 1
-        told = printed(answer)
-        for name, numbers, size in (("S", states, WORDS), ("T", records, 5)):
-            for i in range(0, len(numbers), size):
-                told += ",".join([name, str(i // size)] + [str(n) for n in trimmed(numbers[i : i + size])]) + "\n"
+        told, output = told_of_step(words) if words["call"] == "step" else told_of_text(words, case)
         put_out = case.with_name("expect.output")
         expected = put_out.read_bytes() if put_out.exists() else b""
         if told != case.with_name("expect").read_text() or output != expected + bytes(len(output) - len(expected)):
@@ -454,6 +472,28 @@ def compare_cards(folder):
             print(f"{case.parent.name}: {told!r}")
     print(f"{count} cases, {differing} differences")
     return differing
+
+
+def told_of_step(words):
+    return printed_step([words[name] for name in SETS]), b""
+
+
+def told_of_text(words, case):
+    """What is told of the text beside the file `case`: answer, states and records; and the output."""
+    lengths = [int(words.get(name, asked)) for name, asked in (("states", STATES), ("nodes", NODES), ("work", WORK))]
+    text = case.with_name("case").read_bytes()
+    output = b""
+    if words["call"] == "write":
+        answer, states, records, output = write(text, *lengths, int(words["output"]))
+    elif words["call"] == "gaps":
+        answer, states, records = find_gaps(text, *lengths)
+    else:
+        answer, states, records = call(text, *lengths, words["call"] == "check")
+    told = printed(answer)
+    for name, numbers, size in (("S", states, WORDS), ("T", records, 5)):
+        for i in range(0, len(numbers), size):
+            told += ",".join([name, str(i // size)] + [str(n) for n in trimmed(numbers[i : i + size])]) + "\n"
+    return told, output
 
 
 def compare_stored(folder):
@@ -508,6 +548,23 @@ def compare_stored_gaps(folder):
     return differing + len(told)
 
 
+def compare_stored_steps(file, stdout):
+    """Six lines to a case: its name, and a set on each of the others. Three lines are printed of it."""
+    lines = Path(file).read_text().splitlines()
+    told = Path(stdout).read_text().splitlines(keepends=True)
+    count = differing = 0
+    for i in range(0, len(lines), 6):
+        assert [line.split(" ")[0] for line in lines[i : i + 6]] == ["case", *SETS], lines[i]
+        due = lines[i] + "\n" + printed_step([line.split(" ")[1] for line in lines[i + 1 : i + 6]])
+        own, told = "".join(told[:3]), told[3:]
+        count += 1
+        if own != due:
+            differing += 1
+            print(f"{due!r}, stored {own!r}")
+    print(f"{count} cases, {differing} differences, {len(told)} lines over")
+    return differing + len(told)
+
+
 class Dump:
     def __init__(self, path):
         self.data = Path(path).read_bytes()
@@ -532,57 +589,57 @@ class Dump:
             found = None
             if self.numbers("I", 1)[0]:
                 found = tuple(self.numbers("I", 6)), self.list("Q"), self.list("I"), self.list("I")
-            yield text, lengths, check, replay, output, written, found
+            *sets, left = [self.numbers("Q", WORDS) for _ in range(6)]
+            applied, computed = self.numbers("I", 2)
+            yield text, lengths, check, replay, output, written, found, sets, (applied == 1, computed, left)
 
 
 def compare_dump(path):
-    count = differing = 0
-    numbers = {}
-    writes = {}
-    finds = {}
-    later = 0
-    for text, lengths, check, replay, output_len, written, found in Dump(path).records():
+    count = differing = later = applied = 0
+    numbers, writes, finds = Counter(), Counter(), Counter()
+
+    def compare(name, given, naive, plain):
+        nonlocal differing
+        if naive == plain:
+            return
+        differing += 1
+        if differing <= 10:
+            print(f"input {count}, {name}, {given}: naive {str(naive)[:200]}, plain {str(plain)[:200]}")
+            print(text[:2000])
+
+    for text, lengths, check, replay, output_len, written, found, sets, stepped in Dump(path).records():
         for name, plain, whole in (("check", check, True), ("replay", replay, False)):
             answer, states, records = call(text, *lengths, whole)
-            naive = answer, trimmed(states), trimmed(records), []
-            if naive != plain:
-                differing += 1
-                if differing <= 10:
-                    print(f"input {count}, {name}, lengths {lengths}: naive {naive[0]}, plain {plain[0]}")
-                    print(text[:2000])
+            compare(name, lengths, (answer, trimmed(states), trimmed(records), []), plain)
             if whole:
-                numbers[answer[0]] = numbers.get(answer[0], 0) + 1
+                numbers[answer[0]] += 1
         answer, states, records, output = write(text, *lengths, output_len)
-        if (answer, trimmed(states), trimmed(records), [], output) != written:
-            differing += 1
-            if differing <= 10:
-                print(f"input {count}, write, lengths {lengths}, {output_len}: naive {answer}, plain {written[0]}")
-                print(text[:2000])
-        writes[answer[0]] = writes.get(answer[0], 0) + 1
+        compare("write", (lengths, output_len), (answer, trimmed(states), trimmed(records), [], output), written)
+        writes[answer[0]] += 1
         if found:
             answer, states, records = find_gaps(text, *lengths)
-            if (answer, trimmed(states), trimmed(records), []) != found:
-                differing += 1
-                if differing <= 10:
-                    print(f"input {count}, gaps, lengths {lengths}: naive {answer}, plain {found[0]}")
-                    print(text[:2000])
-            finds[answer[0]] = finds.get(answer[0], 0) + 1
+            compare("gaps", lengths, (answer, trimmed(states), trimmed(records), []), found)
+            finds[answer[0]] += 1
             later += answer[5] > 1
+        compare("step", sets, step_words(sets), stepped)
+        applied += stepped[0]
         count += 1
     print("check answers by number:", dict(sorted(numbers.items())))
     print("write answers by number:", dict(sorted(writes.items())))
     print("gaps answers by number:", dict(sorted(finds.items())), "accepted not with the first choice:", later)
+    print("steps that apply:", applied)
     print(f"{count} inputs, {differing} differences")
     return differing
 
 
 if __name__ == "__main__":
-    kind, path = sys.argv[1:]
+    kind, *paths = sys.argv[1:]
     kinds = {
         "cases": compare_cases,
         "cards": compare_cards,
         "stored": compare_stored,
         "stored-gaps": compare_stored_gaps,
+        "stored-steps": compare_stored_steps,
         "dump": compare_dump,
     }
-    sys.exit(1 if kinds[kind](path) else 0)
+    sys.exit(1 if kinds[kind](*paths) else 0)

@@ -1,19 +1,21 @@
 //! Runs both plain renderings and, with the feature linked (see compare_check.rs for the command), the library on the worked
-//! cases of document 02's cards. A case is a folder with `call`, `case`, `expect` and perhaps `expect.output`; of a card's
-//! folder those are run that call check, replay, write or gaps and hold now.
+//! cases of document 02's cards. A case is a folder with `call`, `case`, `expect` and perhaps `expect.output`; one of the step call
+//! has its sets in `call`. Of a card's folder those are run that call check, replay, write, gaps or step and hold now.
 //!
 //! cards FOLDER...
 
 use cuecheck::WORDS;
+use harness::compare::{self, StepCall};
+use harness::gen::steps::Step;
 use harness::lists::{Dirt, Lengths, Lists};
 use harness::plain::{Found, Node, Reply, Written};
-use harness::{fast, plain};
+use harness::{fast, plain, worded};
 use std::collections::BTreeMap;
 use std::fs::{read, read_to_string};
 use std::path::{Path, PathBuf};
 
 /// How many cards have landed.
-const LANDED: u32 = 4;
+const LANDED: u32 = 5;
 
 /// The calls of one rendering.
 struct Rendering {
@@ -22,26 +24,28 @@ struct Rendering {
     replay: fn(&[u8], &mut [u64], &mut [u32]) -> Reply,
     write: fn(&[u8], &mut [u64], &mut [Node], &mut [u32], &mut [u8]) -> Written,
     find_gaps: fn(&[u8], &mut [u64], &mut [Node], &mut [u32]) -> Found,
+    step: StepCall,
 }
 
-/// The calls of a module.
+/// The calls of a module, and its step call.
 macro_rules! rendering {
-    ($name:literal, $module:ident) => {
+    ($name:literal, $module:ident, $step:expr) => {
         Rendering {
             name: $name,
             check: $module::check,
             replay: $module::replay,
             write: $module::write,
             find_gaps: $module::find_gaps,
+            step: $step,
         }
     };
 }
 
 const RENDERINGS: &[Rendering] = &[
-    rendering!("plain", plain),
-    rendering!("fast", fast),
+    rendering!("plain", plain, compare::PLAIN_STEP),
+    rendering!("fast", fast, fast::step),
     #[cfg(feature = "linked")]
-    rendering!("linked", cuecheck),
+    rendering!("linked", cuecheck, compare::LINKED_STEP),
 ];
 
 /// The answer with states and records, the text put out, and whether all that is left of the lists is zero.
@@ -55,10 +59,14 @@ struct Told {
 struct Case {
     name: String,
     call: String,
-    text: Vec<u8>,
-    lengths: Lengths,
-    output: usize,
+    given: Given,
     due: Told,
+}
+
+/// What a call is given: a step its sets, any other a text, lists of these lengths and an output.
+enum Given {
+    Sets(Step),
+    Text(Vec<u8>, Lengths, usize),
 }
 
 fn main() {
@@ -91,21 +99,16 @@ impl Case {
         let words: BTreeMap<&str, &str> = call.lines().filter_map(|line| line.split_once(' ')).collect();
         let (since, until) = words["holds"].split_once('-').expect("from and to");
         let holds = (since.parse().expect("a card")..=until.parse().expect("a card")).contains(&LANDED);
-        if !holds || !["check", "replay", "write", "gaps"].contains(&words["call"]) {
-            return None;
-        }
-        let length = |list: &str, asked: usize| words.get(list).map_or(asked, |n| n.parse().expect("a length"));
-        let Lengths { states, nodes, work } = Lengths::EXACT;
+        let given = match words["call"] {
+            _ if !holds => return None,
+            "step" => Given::Sets(worded::step_of(worded::SETS.map(|name| words[name]))),
+            "check" | "replay" | "write" | "gaps" => text_in(folder, &words),
+            _ => return None,
+        };
         Some(Case {
             name: folder.display().to_string(),
             call: words["call"].to_string(),
-            text: read(folder.join("case")).expect("a case"),
-            lengths: Lengths {
-                states: length("states", states),
-                nodes: length("nodes", nodes),
-                work: length("work", work),
-            },
-            output: length("output", 0),
+            given,
             due: Told {
                 answer: read_to_string(folder.join("expect")).expect("what is due"),
                 output: read(folder.join("expect.output")).unwrap_or_default(),
@@ -114,20 +117,29 @@ impl Case {
         })
     }
 
-    /// What a rendering tells, with lists that come in dirty.
     fn told_by(&self, rendering: &Rendering) -> Told {
+        match &self.given {
+            Given::Sets(step) => {
+                Told { answer: worded::told_by(rendering.step, *step), output: Vec::new(), rest_zero: true }
+            }
+            Given::Text(text, lengths, output) => self.told_of(text, *lengths, *output, rendering),
+        }
+    }
+
+    /// What a rendering tells of a text, with lists that come in dirty.
+    fn told_of(&self, text: &[u8], lengths: Lengths, output: usize, rendering: &Rendering) -> Told {
         let mut lists = Lists::with_output();
         lists.soil(Dirt::Counting);
-        let (states, nodes, work, output) = lists.lend_all(self.lengths, self.output);
+        let (states, nodes, work, output) = lists.lend_all(lengths, output);
         // The replay call is lent no records.
         let nodes = if self.call == "replay" { &mut [] } else { nodes };
         let mut length = 0;
         let (reply, own) = match &self.call[..] {
-            "check" => ((rendering.check)(&self.text, states, nodes, work), None),
-            "replay" => ((rendering.replay)(&self.text, states, work), None),
-            "gaps" => found((rendering.find_gaps)(&self.text, states, nodes, work)),
+            "check" => ((rendering.check)(text, states, nodes, work), None),
+            "replay" => ((rendering.replay)(text, states, work), None),
+            "gaps" => found((rendering.find_gaps)(text, states, nodes, work)),
             _ => {
-                let written = (rendering.write)(&self.text, states, nodes, work, output);
+                let written = (rendering.write)(text, states, nodes, work, output);
                 length = written.length;
                 without_text(written)
             }
@@ -150,6 +162,15 @@ impl Case {
             && spare.iter().all(|&byte| byte == 0);
         Told { answer, output: put_out.to_vec(), rest_zero }
     }
+}
+
+/// The text of a case, and the lengths lent: those asked for, if there are no others.
+fn text_in(folder: &Path, words: &BTreeMap<&str, &str>) -> Given {
+    let length = |list: &str, asked: usize| words.get(list).map_or(asked, |n| n.parse().expect("a length"));
+    let Lengths { states, nodes, work } = Lengths::EXACT;
+    let lengths =
+        Lengths { states: length("states", states), nodes: length("nodes", nodes), work: length("work", work) };
+    Given::Text(read(folder.join("case")).expect("a case"), lengths, length("output", 0))
 }
 
 /// The answer, and the number that is the call's own.

@@ -5,12 +5,15 @@
 //! A record, all numbers little-endian: the text, three list lengths, the check call's answer,
 //! states, nodes and work, the replay call's answer, states and work, the length of an output, the
 //! write call's answer, states, nodes, work and output, then 0, or 1 and the answer, states, nodes and
-//! work of the call that finds the gaps. A list is its count and its members; the zeros at the end of a
-//! lent list are left out, but not those of the output.
+//! work of the call that finds the gaps; last a step: state, needed, forbidden, added, deleted and the state
+//! that is left, eight words each, and the answer. A list is its count and its members; the zeros at the end
+//! of a lent list are left out, but not those of the output.
 
+use harness::compare::PLAIN_STEP;
+use harness::gen::steps::{self, Step};
 use harness::gen::{gaps, Inputs};
 use harness::lists::{draw_output, Dirt, Lengths, Lists, OUTPUT};
-use harness::plain::{check, find_gaps, replay, write, Found, Node, Reply, Written};
+use harness::plain::{check, find_gaps, replay, write, Found, Node, Reply, Stepped, Written};
 use std::io::{BufWriter, Result, Write};
 
 fn main() -> Result<()> {
@@ -69,8 +72,18 @@ fn main() -> Result<()> {
             write_list(&mut out, &flat(nodes), |number| number.to_le_bytes().to_vec())?;
             write_list(&mut out, work, |number| number.to_le_bytes().to_vec())?;
         }
+        write_step(&mut out, steps::any(&mut rng))?;
     }
     out.flush()
+}
+
+fn write_step(out: &mut impl Write, Step { state, sets }: Step) -> Result<()> {
+    let mut left = state;
+    let Stepped { applied, computed } = PLAIN_STEP(&mut left, &sets);
+    for word in [&state].into_iter().chain(&sets).chain([&left]).flatten() {
+        out.write_all(&word.to_le_bytes())?;
+    }
+    [applied, computed].iter().try_for_each(|number| out.write_all(&number.to_le_bytes()))
 }
 
 /// The numbers of all records.
