@@ -1,7 +1,7 @@
 -- What an exported call returns in the place of the answer. Assumes nothing.
 use mathlib.Core.Bool.{Bool, true, false}
 use Prim.Native.Nat.{ℕ}
-use Rattle.rules.specs.State.{State}
+use Rattle.rules.specs.State.{State, Action}
 use Rattle.rules.specs.Verdict.{Report}
 use Rattle.capi.specs.declared.Reply.{Reply}
 use Rattle.capi.specs.declared.Written.{Written}
@@ -22,3 +22,7 @@ foundReport r = record { number = r .number; line = r .line; item = r .item; cue
 -- A step's answer as a number, 1 for yes, beside the state.
 abbrev pub stepReply : Bool × State → ℕ × State
 stepReply x = (elim (x .0) [ true ↦ 1 | false ↦ 0 ], x .1)
+
+-- The action whose four sets are lent.
+abbrev pub lentAction : State → State → State → State → Action
+lentAction needed forbidden added deleted = record { needed = needed; forbidden = forbidden; added = added; deleted = deleted }

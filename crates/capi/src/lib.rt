@@ -7,12 +7,12 @@ use state::WORDS;
 use writer::Wrote;
 ghost use mathlib.Core.Path.{_≡_};
 ghost use lib.ListN.{length};
-ghost use Rattle.rules.specs.State.{step};
+ghost use Rattle.rules.specs.State.{step, Traced};
 ghost use Rattle.rules.specs.Verdict.{refusal, reported};
 ghost use Rattle.rules.specs.Demands.{borrowed, lentBy, Demand1, Demand2, Demand3, ReplayDemand1};
 ghost use Rattle.rules.specs.Writing.{WriteDemand1, WriteAnswers, WriterLaws};
 ghost use Rattle.rules.specs.Gaps.{FindDemand1, FindAnswers};
-ghost use Rattle.capi.specs.Replies.{reportOf, writtenReport, foundReport, stepReply};
+ghost use Rattle.capi.specs.Replies.{reportOf, writtenReport, foundReport, stepReply, lentAction};
 
 // The answer's row of the table: number, line and item, 0 for acceptance; k and n of an acceptance, 0 for a refusal.
 #[repr(C)]
@@ -198,7 +198,14 @@ pub extern "C" fn cuecheck_find_gaps(
     as_found(found)
 }
 
-// The step call: 1 and the next state in the place of the state; or 0, and the state as it came.
+// What the step call returns: 1 if the action applies and 0 if not, and for the trace which words were computed, word w as bit w.
+#[repr(C)]
+pub struct Stepped {
+    pub applied: u32,
+    pub computed: u32,
+}
+
+// The step call: 1 and the next state in the place of the state; or 0, and the state as it came, with no word computed.
 #[no_mangle]
 pub extern "C" fn cuecheck_step(
     state: &mut [u64; WORDS],
@@ -206,8 +213,9 @@ pub extern "C" fn cuecheck_step(
     forbidden: &[u64; WORDS],
     added: &[u64; WORDS],
     deleted: &[u64; WORDS],
-) -> u32
-    ensures { λ r. ⌜ (r, now (state .exit)) ≡ stepReply (step (now (state .entry)) (record { needed = now (needed .entry); forbidden = now (forbidden .entry); added = now (added .entry); deleted = now (deleted .entry) })) ⌝ }
+) -> Stepped
+    ensures stepped { λ r. ⌜ (r .applied, now (state .exit)) ≡ stepReply (step (now (state .entry)) (lentAction (now (needed .entry)) (now (forbidden .entry)) (now (added .entry)) (now (deleted .entry)))) ⌝ }
+    ensures traced { λ r. ⌜ Traced (now (state .entry)) (lentAction (now (needed .entry)) (now (forbidden .entry)) (now (added .entry)) (now (deleted .entry))) (r .computed) (now (state .exit)) ⌝ }
 {
     let words = *state;
     let needs = *needed;
@@ -224,5 +232,9 @@ pub extern "C" fn cuecheck_step(
     let next = r.state;
     let words = next.words;
     *state = words;
-    if r.ok { 1 } else { 0 }
+    let applied = if r.ok { 1 } else { 0 };
+    Stepped {
+        applied,
+        computed: r.computed,
+    }
 }

@@ -2,6 +2,7 @@
 pub mod Bits
 pub mod Tables
 pub mod Members
+pub mod Quiet
 pub mod Spans
 pub mod Worded
 pub mod Outcomes

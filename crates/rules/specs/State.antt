@@ -1,8 +1,10 @@
 -- States and cues (01, "States and cues"). A state, or a set of propositions, is the list of its words. Assumes nothing.
-use mathlib.Core.Bool.{Bool, true, false, _&&_}
+use mathlib.Core.Path.{_≡_}
+use mathlib.Core.Logic.{_↔_}
+use mathlib.Core.Bool.{Bool, true, false, _&&_, not}
 use mathlib.Core.List.{List, [], _∷_}
 use mathlib.Core.Option.{Option, none, some}
-use Prim.Native.Nat.{ℕ, zero, suc, _+_, _/_, _%_, _^_}
+use Prim.Native.Nat.{ℕ, zero, suc, _+_, _/_, _%_, _^_, _<_}
 use lib.Bits.{bitAnd, bitOr, bitXor}
 use lib.Dec.{eqb}
 use lib.ListN.{getD, set}
@@ -79,6 +81,28 @@ next s a = tabulate wordCount 0 (λ i. nextWord (word s i) (word (a .added) i) (
 -- "The *step* call takes any state and four sets as words and gives yes with the next state, or no with the state as it came."
 unfoldable pub step : State → Action → Bool × State
 step s a = elim (applies s a) [ true ↦ (true, next s a) | false ↦ (false, s) ]
+
+-- "The step shall pass a word through untouched where its added and deleted words are both zero" (02, Card 5): such a word is quiet.
+unfoldable pub quiet : ℕ → ℕ → Bool
+quiet added deleted = eqb added 0 && eqb deleted 0
+
+-- The number with bit i for each i below n that f holds of, and no other bit.
+abbrev pub bitsBelow : ℕ → (ℕ → Bool) → ℕ
+bitsBelow zero f = 0
+bitsBelow (suc n) f = elim (f n) [ true ↦ bitOr (bitsBelow n f) (2 ^ n) | false ↦ bitsBelow n f ]
+
+-- "and answer for the trace which words it computed, word w as bit w of one number: after a yes exactly the others, after a no none"
+unfoldable pub computed : State → Action → ℕ
+computed s a =
+    elim (applies s a) [ true ↦ bitsBelow wordCount (λ w. not (quiet (word (a .added) w) (word (a .deleted) w))) | false ↦ 0 ]
+
+-- The same as statements: of the number that a step of action a in state s answers for the trace, and the state t that it leaves.
+pub record Traced (s : State) (a : Action) (n : ℕ) (t : State) : Type 0 where
+  pub number : n ≡ computed s a
+  -- bit w is set after a yes exactly if w is a word of a state and its added or its deleted word is not zero; after a no, none is
+  pub bits : (w : ℕ) → (bit n w ≡ true) ↔ ((applies s a ≡ true) × (w < wordCount) × ((word (a .added) w ≡ 0) × (word (a .deleted) w ≡ 0) → ⊥))
+  -- a word whose bit is not set is passed through
+  pub untouched : (w : ℕ) → bit n w ≡ false → word t w ≡ word s w
 
 unfoldable pub noAction : Action
 noAction = record { needed = noPropositions; forbidden = noPropositions; added = noPropositions; deleted = noPropositions }

@@ -1,11 +1,13 @@
 // States and the step of an action (01, "States and cues"): "A state is the set of those that are true", as words: "proposition p is bit
 // (p mod 64) of word (p div 64)".
 ghost use mathlib.Core.Path.{_≡_};
+ghost use mathlib.Core.Bool.{not};
+ghost use Prim.Native.Nat.{_≤_};
 ghost use lib.Dec.{eqb};
 ghost use lib.ListN.{length};
-ghost use Rattle.rules.specs.State.{member, insert, word, without, appliesWord, nextWord, every, tabulate, step};
+ghost use Rattle.rules.specs.State.{member, insert, word, without, appliesWord, nextWord, every, tabulate, step, wordCount, quiet, bitsBelow, computed};
 ghost use Rattle.state.specs.Action.{actionOf};
-ghost use Rattle.state.specs.Words.{widenedAction, Steps};
+ghost use Rattle.state.specs.Words.{widenedAction, Steps, Traces};
 
 // How many words a state has: the definitions' wordCount.
 pub const WORDS: usize = 8;
@@ -15,10 +17,17 @@ pub struct State {
     pub words: [u64; WORDS],
 }
 
-// What a step gives: whether the action applies, and the next state, or the state as it came.
+// What a step gives: whether the action applies, and the next state, or the state as it came; and which words were computed, word w as bit w.
 pub struct Stepped {
     pub ok: bool,
     pub state: State,
+    pub computed: u32,
+}
+
+// The same of a step in the place of a state.
+pub struct SteppedWords {
+    pub ok: bool,
+    pub computed: u32,
 }
 
 // Whether proposition p is in a set's words, wherever they lie: no for a p past the last word.
@@ -57,10 +66,20 @@ fn obstacles(w: u64, needed: u64, forbidden: u64) -> u64
     word_without(needed, w) | (forbidden & w)
 }
 
-// A word of the next state: the old one without the deleted, then with the added.
+// Whether nothing is added or deleted in a word.
+fn is_quiet(added: u64, deleted: u64) -> bool
+    ensures { λ r. ⌜ r ≡ quiet added deleted ⌝ }
+{
+    (added | deleted) == 0
+}
+
+// A word of the next state: the old one without the deleted, then with the added; a quiet one is passed through, and not computed.
 fn word_next(old: u64, added: u64, deleted: u64) -> u64
     ensures { λ r. ⌜ r ≡ nextWord old added deleted ⌝ }
 {
+    if is_quiet(added, deleted) {
+        return old;
+    }
     word_without(old, deleted) | added
 }
 
@@ -78,16 +97,24 @@ fn applies(s: &[u64], needed: &[u64], forbidden: &[u64]) -> bool
     found == 0
 }
 
-// "The next state is the old one without the deleted, then with the added; a proposition in both ends true." In the old one's place.
-fn advance(s: &mut [u64], added: &[u64], deleted: &[u64])
-    requires { ⌜ (length (now added) ≡ length (now s)) × (length (now deleted) ≡ length (now s)) ⌝ }
-    ensures { λ _. ⌜ now (s .exit) ≡ tabulate (length (now (s .entry))) 0 (λ i. nextWord (word (now (s .entry)) i) (word (now (added .entry)) i) (word (now (deleted .entry)) i)) ⌝ }
+// "The next state is the old one without the deleted, then with the added; a proposition in both ends true." In the old one's place. Answers
+// which words were computed: those that are not quiet.
+fn advance(s: &mut [u64], added: &[u64], deleted: &[u64]) -> u32
+    requires few { ⌜ length (now s) ≤ wordCount ⌝ }
+    requires sets { ⌜ (length (now added) ≡ length (now s)) × (length (now deleted) ≡ length (now s)) ⌝ }
+    ensures next { λ _. ⌜ now (s .exit) ≡ tabulate (length (now (s .entry))) 0 (λ i. nextWord (word (now (s .entry)) i) (word (now (added .entry)) i) (word (now (deleted .entry)) i)) ⌝ }
+    ensures trace { λ r. ⌜ r ≡ bitsBelow (length (now (s .entry))) (λ i. not (quiet (word (now (added .entry)) i) (word (now (deleted .entry)) i))) ⌝ }
 {
+    let mut computed: u32 = 0;
     let mut i: usize = 0;
     while i < s.len() {
         s[i] = word_next(s[i], added[i], deleted[i]);
+        if !is_quiet(added[i], deleted[i]) {
+            computed = computed | (1u32 << (i as u32));
+        }
         i += 1;
     }
+    computed
 }
 
 // The step in the first words of a state, in their place: the sets are lent in as many words as their propositions take, so that the words past
@@ -98,24 +125,30 @@ pub fn step_words(
     forbidden: &[u64],
     added: &[u64],
     deleted: &[u64],
-) -> bool
+) -> SteppedWords
+    requires few { ⌜ length (now s) ≤ wordCount ⌝ }
     requires tests { ⌜ (length (now needed) ≡ length (now s)) × (length (now forbidden) ≡ length (now s)) ⌝ }
     requires changes { ⌜ (length (now added) ≡ length (now s)) × (length (now deleted) ≡ length (now s)) ⌝ }
-    ensures { λ r. ⌜ Steps (now (s .entry)) (widenedAction (now (needed .entry)) (now (forbidden .entry)) (now (added .entry)) (now (deleted .entry))) r (now (s .exit)) ⌝ }
+    ensures steps { λ r. ⌜ Steps (now (s .entry)) (widenedAction (now (needed .entry)) (now (forbidden .entry)) (now (added .entry)) (now (deleted .entry))) (r .ok) (now (s .exit)) ⌝ }
+    ensures trace { λ r. ⌜ Traces (now (s .entry)) (widenedAction (now (needed .entry)) (now (forbidden .entry)) (now (added .entry)) (now (deleted .entry))) (r .computed) ⌝ }
 {
     if !applies(s, needed, forbidden) {
-        return false;
+        return SteppedWords {
+            ok: false,
+            computed: 0,
+        };
     }
-    advance(s, added, deleted);
-    true
+    let computed = advance(s, added, deleted);
+    SteppedWords { ok: true, computed }
 }
 
 // "The *step* call takes any state and four sets as words and gives yes with the next state, or no with the state as it came."
 pub fn step(s: State, needed: State, forbidden: State, added: State, deleted: State) -> Stepped
-    ensures { λ r. ⌜ (r .ok, r .state .words) ≡ step (s .words) (actionOf needed forbidden added deleted) ⌝ }
+    ensures steps { λ r. ⌜ (r .ok, r .state .words) ≡ step (s .words) (actionOf needed forbidden added deleted) ⌝ }
+    ensures trace { λ r. ⌜ r .computed ≡ computed (s .words) (actionOf needed forbidden added deleted) ⌝ }
 {
     let mut words = s.words;
-    let ok = step_words(
+    let r = step_words(
         &mut words,
         &needed.words,
         &forbidden.words,
@@ -123,7 +156,8 @@ pub fn step(s: State, needed: State, forbidden: State, added: State, deleted: St
         &deleted.words,
     );
     Stepped {
-        ok,
+        ok: r.ok,
         state: State { words },
+        computed: r.computed,
     }
 }

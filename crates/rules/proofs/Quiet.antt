@@ -1,0 +1,176 @@
+-- Which words a step computes (02, Card 5): the number bit by bit, and that a quiet word is passed through. Assumes nothing.
+use mathlib.Core.Path.{_≡_, refl, sym, ap, subst, _∙_}
+use mathlib.Core.Logic.{_↔_}
+use mathlib.Core.Bool.{Bool, true, false, _&&_, _||_, not, and-true, and-false, or-false, false≢true}
+use Prim.Native.Nat.{ℕ, zero, suc, _+_, _≤_, _<_, _^_}
+use native.Mathlib.Nat.{not-suc-le-zero, zero-add}
+use native.Mathlib.Numerals.{add-one}
+use native.Mathlib.Decide.{ℕ-discrete, decLt}
+use native.Mathlib.Omega.{arith}
+use lib.Dec.{eqb}
+use lib.ListN.{length, List·getD-eq-default}
+use lib.Bits.{bitAnd, bitOr, bitXor, and-zero-r, or-zero-r, xor-zero-r}
+use borrow.Author.Tests.{eq-eqb, ne-eqb, eqb-true}
+use Rattle.rules.specs.State.{wordCount, State, Action, word, bit, without, applies, nextWord, next, step, quiet, bitsBelow, computed, Traced}
+use Rattle.rules.proofs.Bits.{bit-or, bit-zero, bit-pow}
+use Rattle.rules.proofs.Tables.{and-left, and-right, and-both}
+use Rattle.rules.proofs.Members.{word-next, length-next}
+
+-- ---- The number, bit by bit
+
+module _ (f : ℕ → Bool) where
+  more : ℕ → Bool → ℕ
+  more n b = elim b [ true ↦ bitOr (bitsBelow n f) (2 ^ n) | false ↦ bitsBelow n f ]
+
+  pub bits-set : (n : ℕ) → f n ≡ true → bitsBelow (n + 1) f ≡ bitOr (bitsBelow n f) (2 ^ n)
+  unfolding more
+  bits-set n e = ap (λ (m : ℕ). bitsBelow m f) (add-one n) ∙ ap (more n) e
+
+  pub bits-unset : (n : ℕ) → f n ≡ false → bitsBelow (n + 1) f ≡ bitsBelow n f
+  unfolding more
+  bits-unset n e = ap (λ (m : ℕ). bitsBelow m f) (add-one n) ∙ ap (more n) e
+
+  -- One bit more.
+  bit-more : (n i : ℕ) (b : Bool) → bit (elim b [ true ↦ bitOr (bitsBelow n f) (2 ^ n) | false ↦ bitsBelow n f ]) i ≡ bit (bitsBelow n f) i || (b && eqb n i)
+  bit-more n i true = bit-or (bitsBelow n f) (2 ^ n) i ∙ ap (λ (x : Bool). bit (bitsBelow n f) i || x) (bit-pow n i)
+  bit-more n i false = sym (or-false (bit (bitsBelow n f) i))
+
+  pub bit-past : (n i : ℕ) → n ≤ i → bit (bitsBelow n f) i ≡ false
+  bit-past zero i h = bit-zero i
+  bit-past (suc n) i h =
+      bit-more n i (f n) ∙ ap (λ (x : Bool). x || (f n && eqb n i)) (bit-past n i (omega arith))
+      ∙ ap (λ (x : Bool). f n && x) (ne-eqb n i (λ e. omega arith)) ∙ and-false (f n)
+
+  pub bit-below : (n i : ℕ) → i < n → bit (bitsBelow n f) i ≡ f i
+  bit-below zero i h = absurd (not-suc-le-zero h)
+  bit-below (suc n) i h = bit-more n i (f n) ∙ go (λ l. bit-below n i l) (ℕ-discrete n i)
+    where
+      go : (i < n → bit (bitsBelow n f) i ≡ f i) → Dec (n ≡ i) → (bit (bitsBelow n f) i || (f n && eqb n i)) ≡ f i
+      go lower (yes e) =
+          ap (λ (x : Bool). x || (f n && eqb n i)) (bit-past n i (omega arith)) ∙ ap (λ (x : Bool). f n && x) (eq-eqb n i e)
+          ∙ and-true (f n) ∙ ap f e
+      go lower (no e) =
+          ap (λ (x : Bool). bit (bitsBelow n f) i || (f n && x)) (ne-eqb n i e)
+          ∙ ap (λ (x : Bool). bit (bitsBelow n f) i || x) (and-false (f n)) ∙ or-false (bit (bitsBelow n f) i) ∙ lower (omega arith)
+
+-- The number goes by what f says below n.
+pub bits-same : (n : ℕ) (f g : ℕ → Bool) → ((i : ℕ) → i < n → f i ≡ g i) → bitsBelow n f ≡ bitsBelow n g
+bits-same zero f g e = refl
+bits-same (suc n) f g e =
+    (λ j. elim (e n (omega arith) j) [ true ↦ bitOr (bitsBelow n f) (2 ^ n) | false ↦ bitsBelow n f ])
+    ∙ ap (λ (m : ℕ). elim (g n) [ true ↦ bitOr m (2 ^ n) | false ↦ m ]) (bits-same n f g (λ i h. e i (omega arith)))
+
+-- And bits that are not set add nothing.
+pub bits-wide : (m n : ℕ) (f : ℕ → Bool) → ((i : ℕ) → m ≤ i → f i ≡ false) → bitsBelow (n + m) f ≡ bitsBelow m f
+bits-wide m zero f none = ap (λ (k : ℕ). bitsBelow k f) (zero-add m)
+bits-wide m (suc n) f none =
+    let one : suc n + m ≡ n + m + 1 = omega arith in
+    ap (λ (k : ℕ). bitsBelow k f) one ∙ bits-unset f (n + m) (none (n + m) (omega arith)) ∙ bits-wide m n f none
+
+-- ---- A quiet word
+
+pub both-zero : (added deleted : ℕ) → quiet added deleted ≡ true → (added ≡ 0) × (deleted ≡ 0)
+unfolding quiet
+both-zero added deleted e =
+    (eqb-true added 0 (and-left (eqb added 0) (eqb deleted 0) e), eqb-true deleted 0 (and-right (eqb added 0) (eqb deleted 0) e))
+
+pub zero-quiet : (added deleted : ℕ) → added ≡ 0 → deleted ≡ 0 → quiet added deleted ≡ true
+unfolding quiet
+zero-quiet added deleted a d = and-both (eq-eqb added 0 a) (eq-eqb deleted 0 d)
+
+-- It is passed through.
+pub quiet-next : (old added deleted : ℕ) → quiet added deleted ≡ true → nextWord old added deleted ≡ old
+unfolding nextWord without
+quiet-next old added deleted e =
+    let zero′ = both-zero added deleted e in
+    (λ j. bitOr (bitXor old (bitAnd old (zero′ .1 j))) (zero′ .0 j))
+    ∙ or-zero-r (bitXor old (bitAnd old 0)) ∙ ap (bitXor old) (and-zero-r old) ∙ xor-zero-r old
+
+-- ---- A step
+
+module _ (s : State) (a : Action) where
+  abbrev touched : ℕ → Bool
+  touched w = not (quiet (word (a .added) w) (word (a .deleted) w))
+
+  abbrev Sets : ℕ → Type 0
+  Sets w = (applies s a ≡ true) × (w < wordCount) × ((word (a .added) w ≡ 0) × (word (a .deleted) w ≡ 0) → ⊥)
+
+  -- What is computed after a yes and after a no.
+  pub computed-yes : applies s a ≡ true → computed s a ≡ bitsBelow wordCount touched
+  unfolding computed
+  computed-yes e = ap (λ (b : Bool). elim b [ true ↦ bitsBelow wordCount touched | false ↦ 0 ]) e
+
+  pub computed-no : applies s a ≡ false → computed s a ≡ 0
+  unfolding computed
+  computed-no e = ap (λ (b : Bool). elim b [ true ↦ bitsBelow wordCount touched | false ↦ 0 ]) e
+
+  step-with : Bool → Bool × State
+  step-with b = elim b [ true ↦ (true, next s a) | false ↦ (false, s) ]
+
+  left-yes : applies s a ≡ true → step s a .1 ≡ next s a
+  unfolding step step-with
+  left-yes e = ap (λ (b : Bool). step-with b .1) e
+
+  left-no : applies s a ≡ false → step s a .1 ≡ s
+  unfolding step step-with
+  left-no e = ap (λ (b : Bool). step-with b .1) e
+
+  -- Bit w after a yes, and after a no.
+  sets-bit : applies s a ≡ true → (w : ℕ) → bit (bitsBelow wordCount touched) w ≡ true → Sets w
+  sets-bit y w e = go (decLt w wordCount)
+    where
+      go : Dec (w < wordCount) → Sets w
+      go (yes h) =
+          (y, h, λ z. false≢true (ap not (sym (zero-quiet (word (a .added) w) (word (a .deleted) w) (z .0) (z .1))) ∙ sym (bit-below touched wordCount w h) ∙ e))
+      go (no h) = absurd (false≢true (sym (bit-past touched wordCount w (omega arith)) ∙ e))
+
+  bit-sets : (w : ℕ) → Sets w → bit (bitsBelow wordCount touched) w ≡ true
+  bit-sets w x = bit-below touched wordCount w (x .1) ∙ go (quiet (word (a .added) w) (word (a .deleted) w)) refl
+    where
+      go : (b : Bool) → quiet (word (a .added) w) (word (a .deleted) w) ≡ b → touched w ≡ true
+      go true e = absurd (x .2 (both-zero (word (a .added) w) (word (a .deleted) w) e))
+      go false e = ap not e
+
+  bits-yes : applies s a ≡ true → (w : ℕ) → (bit (computed s a) w ≡ true) ↔ Sets w
+  bits-yes e w =
+      let here = ap (λ (n : ℕ). bit n w) (computed-yes e) in
+      (λ b. sets-bit e w (sym here ∙ b), λ x. here ∙ bit-sets w x)
+
+  bits-no : applies s a ≡ false → (w : ℕ) → (bit (computed s a) w ≡ true) ↔ Sets w
+  bits-no e w =
+      let none : bit (computed s a) w ≡ false = ap (λ (n : ℕ). bit n w) (computed-no e) ∙ bit-zero w in
+      (λ b. absurd (false≢true (sym none ∙ b)), λ x. absurd (false≢true (sym e ∙ x .0)))
+
+  -- A word below the last whose bit is not set is quiet; past the last there is none, before and after.
+  kept : length s ≤ wordCount → applies s a ≡ true → (w : ℕ) → bit (computed s a) w ≡ false → word (next s a) w ≡ word s w
+  kept few e w none = go (decLt w wordCount)
+    where
+      unset : bit (bitsBelow wordCount touched) w ≡ false
+      unset = ap (λ (n : ℕ). bit n w) (sym (computed-yes e)) ∙ none
+
+      is-quiet : (b : Bool) → quiet (word (a .added) w) (word (a .deleted) w) ≡ b → not b ≡ false → quiet (word (a .added) w) (word (a .deleted) w) ≡ true
+      is-quiet true q n = q
+      is-quiet false q n = absurd (false≢true (sym n))
+
+      go : Dec (w < wordCount) → word (next s a) w ≡ word s w
+      go (yes h) =
+          word-next s a w h
+          ∙ quiet-next (word s w) (word (a .added) w) (word (a .deleted) w)
+          (is-quiet (quiet (word (a .added) w) (word (a .deleted) w)) refl (sym (bit-below touched wordCount w h) ∙ unset))
+      go (no h) = List·getD-eq-default (next s a) 0 (omega (arith, length-next s a)) ∙ sym (List·getD-eq-default s 0 (omega arith))
+
+  -- The step's number and the state that it leaves are as the statements say.
+  pub traced : (n : ℕ) (t : State) → length s ≤ wordCount → n ≡ computed s a → t ≡ step s a .1 → Traced s a n t
+  traced n t few number left = go (applies s a) refl
+    where
+      go : (b : Bool) → applies s a ≡ b → Traced s a n t
+      go true e = record {
+        number = number;
+        bits = λ w. subst (λ (m : ℕ). (bit m w ≡ true) ↔ Sets w) (sym number) (bits-yes e w);
+        untouched = λ w none. ap (λ (u : State). word u w) (left ∙ left-yes e) ∙ kept few e w (ap (λ (m : ℕ). bit m w) (sym number) ∙ none);
+      }
+      go false e = record {
+        number = number;
+        bits = λ w. subst (λ (m : ℕ). (bit m w ≡ true) ↔ Sets w) (sym number) (bits-no e w);
+        untouched = λ w none. ap (λ (u : State). word u w) (left ∙ left-no e);
+      }
