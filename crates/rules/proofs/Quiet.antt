@@ -11,7 +11,7 @@ use lib.Dec.{eqb}
 use lib.ListN.{length, List·getD-eq-default}
 use lib.Bits.{bitAnd, bitOr, bitXor, and-zero-r, or-zero-r, xor-zero-r}
 use borrow.Author.Tests.{eq-eqb, ne-eqb, eqb-true}
-use Rattle.rules.specs.State.{wordCount, State, Action, word, bit, without, applies, nextWord, next, step, quiet, bitsBelow, computed, Traced}
+use Rattle.rules.specs.State.{wordCount, State, Action, word, bit, without, applies, nextWord, next, step, quiet, touched, withBit, bitsBelow, computedAfter, computed, Traced}
 use Rattle.rules.proofs.Bits.{bit-or, bit-zero, bit-pow}
 use Rattle.rules.proofs.Tables.{and-left, and-right, and-both}
 use Rattle.rules.proofs.Members.{word-next, length-next}
@@ -19,19 +19,14 @@ use Rattle.rules.proofs.Members.{word-next, length-next}
 -- ---- The number, bit by bit
 
 module _ (f : ℕ → Bool) where
-  more : ℕ → Bool → ℕ
-  more n b = elim b [ true ↦ bitOr (bitsBelow n f) (2 ^ n) | false ↦ bitsBelow n f ]
-
   pub bits-set : (n : ℕ) → f n ≡ true → bitsBelow (n + 1) f ≡ bitOr (bitsBelow n f) (2 ^ n)
-  unfolding more
-  bits-set n e = ap (λ (m : ℕ). bitsBelow m f) (add-one n) ∙ ap (more n) e
+  bits-set n e = ap (λ (m : ℕ). bitsBelow m f) (add-one n) ∙ ap (withBit (bitsBelow n f) n) e
 
   pub bits-unset : (n : ℕ) → f n ≡ false → bitsBelow (n + 1) f ≡ bitsBelow n f
-  unfolding more
-  bits-unset n e = ap (λ (m : ℕ). bitsBelow m f) (add-one n) ∙ ap (more n) e
+  bits-unset n e = ap (λ (m : ℕ). bitsBelow m f) (add-one n) ∙ ap (withBit (bitsBelow n f) n) e
 
   -- One bit more.
-  bit-more : (n i : ℕ) (b : Bool) → bit (elim b [ true ↦ bitOr (bitsBelow n f) (2 ^ n) | false ↦ bitsBelow n f ]) i ≡ bit (bitsBelow n f) i || (b && eqb n i)
+  bit-more : (n i : ℕ) (b : Bool) → bit (withBit (bitsBelow n f) n b) i ≡ bit (bitsBelow n f) i || (b && eqb n i)
   bit-more n i true = bit-or (bitsBelow n f) (2 ^ n) i ∙ ap (λ (x : Bool). bit (bitsBelow n f) i || x) (bit-pow n i)
   bit-more n i false = sym (or-false (bit (bitsBelow n f) i))
 
@@ -57,8 +52,7 @@ module _ (f : ℕ → Bool) where
 pub bits-same : (n : ℕ) (f g : ℕ → Bool) → ((i : ℕ) → i < n → f i ≡ g i) → bitsBelow n f ≡ bitsBelow n g
 bits-same zero f g e = refl
 bits-same (suc n) f g e =
-    (λ j. elim (e n (omega arith) j) [ true ↦ bitOr (bitsBelow n f) (2 ^ n) | false ↦ bitsBelow n f ])
-    ∙ ap (λ (m : ℕ). elim (g n) [ true ↦ bitOr m (2 ^ n) | false ↦ m ]) (bits-same n f g (λ i h. e i (omega arith)))
+    λ j. withBit (bits-same n f g (λ i h. e i (omega arith)) j) n (e n (omega arith) j)
 
 -- And bits that are not set add nothing.
 pub bits-wide : (m n : ℕ) (f : ℕ → Bool) → ((i : ℕ) → m ≤ i → f i ≡ false) → bitsBelow (n + m) f ≡ bitsBelow m f
@@ -88,21 +82,43 @@ quiet-next old added deleted e =
 
 -- ---- A step
 
-module _ (s : State) (a : Action) where
-  abbrev touched : ℕ → Bool
-  touched w = not (quiet (word (a .added) w) (word (a .deleted) w))
+-- A word is touched exactly if its added or deleted word is not zero.
+module _ (a : Action) (w : ℕ) where
+  abbrev Zero : Type 0
+  Zero = (word (a .added) w ≡ 0) × (word (a .deleted) w ≡ 0)
 
+  pub touched-not : touched a w ≡ true → Zero → ⊥
+  unfolding touched
+  touched-not e z = false≢true (ap not (sym (zero-quiet (word (a .added) w) (word (a .deleted) w) (z .0) (z .1))) ∙ e)
+
+  pub not-touched : (Zero → ⊥) → touched a w ≡ true
+  unfolding touched
+  not-touched n = go (quiet (word (a .added) w) (word (a .deleted) w)) refl
+    where
+      go : (b : Bool) → quiet (word (a .added) w) (word (a .deleted) w) ≡ b → not (quiet (word (a .added) w) (word (a .deleted) w)) ≡ true
+      go true e = absurd (n (both-zero (word (a .added) w) (word (a .deleted) w) e))
+      go false e = ap not e
+
+  pub untouched-quiet : touched a w ≡ false → quiet (word (a .added) w) (word (a .deleted) w) ≡ true
+  unfolding touched
+  untouched-quiet e = go (quiet (word (a .added) w) (word (a .deleted) w)) refl
+    where
+      go : (b : Bool) → quiet (word (a .added) w) (word (a .deleted) w) ≡ b → quiet (word (a .added) w) (word (a .deleted) w) ≡ true
+      go true q = q
+      go false q = absurd (false≢true (sym e ∙ ap not q))
+
+module _ (s : State) (a : Action) where
   abbrev Sets : ℕ → Type 0
   Sets w = (applies s a ≡ true) × (w < wordCount) × ((word (a .added) w ≡ 0) × (word (a .deleted) w ≡ 0) → ⊥)
 
   -- What is computed after a yes and after a no.
-  pub computed-yes : applies s a ≡ true → computed s a ≡ bitsBelow wordCount touched
+  pub computed-yes : applies s a ≡ true → computed s a ≡ bitsBelow wordCount (touched a)
   unfolding computed
-  computed-yes e = ap (λ (b : Bool). elim b [ true ↦ bitsBelow wordCount touched | false ↦ 0 ]) e
+  computed-yes e = ap (λ (b : Bool). computedAfter b a) e
 
   pub computed-no : applies s a ≡ false → computed s a ≡ 0
   unfolding computed
-  computed-no e = ap (λ (b : Bool). elim b [ true ↦ bitsBelow wordCount touched | false ↦ 0 ]) e
+  computed-no e = ap (λ (b : Bool). computedAfter b a) e
 
   step-with : Bool → Bool × State
   step-with b = elim b [ true ↦ (true, next s a) | false ↦ (false, s) ]
@@ -116,20 +132,15 @@ module _ (s : State) (a : Action) where
   left-no e = ap (λ (b : Bool). step-with b .1) e
 
   -- Bit w after a yes, and after a no.
-  sets-bit : applies s a ≡ true → (w : ℕ) → bit (bitsBelow wordCount touched) w ≡ true → Sets w
+  sets-bit : applies s a ≡ true → (w : ℕ) → bit (bitsBelow wordCount (touched a)) w ≡ true → Sets w
   sets-bit y w e = go (decLt w wordCount)
     where
       go : Dec (w < wordCount) → Sets w
-      go (yes h) =
-          (y, h, λ z. false≢true (ap not (sym (zero-quiet (word (a .added) w) (word (a .deleted) w) (z .0) (z .1))) ∙ sym (bit-below touched wordCount w h) ∙ e))
-      go (no h) = absurd (false≢true (sym (bit-past touched wordCount w (omega arith)) ∙ e))
+      go (yes h) = (y, h, touched-not a w (sym (bit-below (touched a) wordCount w h) ∙ e))
+      go (no h) = absurd (false≢true (sym (bit-past (touched a) wordCount w (omega arith)) ∙ e))
 
-  bit-sets : (w : ℕ) → Sets w → bit (bitsBelow wordCount touched) w ≡ true
-  bit-sets w x = bit-below touched wordCount w (x .1) ∙ go (quiet (word (a .added) w) (word (a .deleted) w)) refl
-    where
-      go : (b : Bool) → quiet (word (a .added) w) (word (a .deleted) w) ≡ b → touched w ≡ true
-      go true e = absurd (x .2 (both-zero (word (a .added) w) (word (a .deleted) w) e))
-      go false e = ap not e
+  bit-sets : (w : ℕ) → Sets w → bit (bitsBelow wordCount (touched a)) w ≡ true
+  bit-sets w x = bit-below (touched a) wordCount w (x .1) ∙ not-touched a w (x .2)
 
   bits-yes : applies s a ≡ true → (w : ℕ) → (bit (computed s a) w ≡ true) ↔ Sets w
   bits-yes e w =
@@ -145,18 +156,13 @@ module _ (s : State) (a : Action) where
   kept : length s ≤ wordCount → applies s a ≡ true → (w : ℕ) → bit (computed s a) w ≡ false → word (next s a) w ≡ word s w
   kept few e w none = go (decLt w wordCount)
     where
-      unset : bit (bitsBelow wordCount touched) w ≡ false
+      unset : bit (bitsBelow wordCount (touched a)) w ≡ false
       unset = ap (λ (n : ℕ). bit n w) (sym (computed-yes e)) ∙ none
-
-      is-quiet : (b : Bool) → quiet (word (a .added) w) (word (a .deleted) w) ≡ b → not b ≡ false → quiet (word (a .added) w) (word (a .deleted) w) ≡ true
-      is-quiet true q n = q
-      is-quiet false q n = absurd (false≢true (sym n))
 
       go : Dec (w < wordCount) → word (next s a) w ≡ word s w
       go (yes h) =
           word-next s a w h
-          ∙ quiet-next (word s w) (word (a .added) w) (word (a .deleted) w)
-          (is-quiet (quiet (word (a .added) w) (word (a .deleted) w)) refl (sym (bit-below touched wordCount w h) ∙ unset))
+          ∙ quiet-next (word s w) (word (a .added) w) (word (a .deleted) w) (untouched-quiet a w (sym (bit-below (touched a) wordCount w h) ∙ unset))
       go (no h) = List·getD-eq-default (next s a) 0 (omega (arith, length-next s a)) ∙ sym (List·getD-eq-default s 0 (omega arith))
 
   -- The step's number and the state that it leaves are as the statements say.

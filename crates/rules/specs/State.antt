@@ -86,15 +86,26 @@ step s a = elim (applies s a) [ true ↦ (true, next s a) | false ↦ (false, s)
 unfoldable pub quiet : ℕ → ℕ → Bool
 quiet added deleted = eqb added 0 && eqb deleted 0
 
+unfoldable pub touched : Action → ℕ → Bool
+touched a w = not (quiet (word (a .added) w) (word (a .deleted) w))
+
+-- The number m, with bit i if b.
+abbrev pub withBit : ℕ → ℕ → Bool → ℕ
+withBit m i true = bitOr m (2 ^ i)
+withBit m i false = m
+
 -- The number with bit i for each i below n that f holds of, and no other bit.
 abbrev pub bitsBelow : ℕ → (ℕ → Bool) → ℕ
 bitsBelow zero f = 0
-bitsBelow (suc n) f = elim (f n) [ true ↦ bitOr (bitsBelow n f) (2 ^ n) | false ↦ bitsBelow n f ]
+bitsBelow (suc n) f = withBit (bitsBelow n f) n (f n)
 
 -- "and answer for the trace which words it computed, word w as bit w of one number: after a yes exactly the others, after a no none"
+abbrev pub computedAfter : Bool → Action → ℕ
+computedAfter true a = bitsBelow wordCount (touched a)
+computedAfter false a = 0
+
 unfoldable pub computed : State → Action → ℕ
-computed s a =
-    elim (applies s a) [ true ↦ bitsBelow wordCount (λ w. not (quiet (word (a .added) w) (word (a .deleted) w))) | false ↦ 0 ]
+computed s a = computedAfter (applies s a) a
 
 -- The same as statements: of the number that a step of action a in state s answers for the trace, and the state t that it leaves.
 pub record Traced (s : State) (a : Action) (n : ℕ) (t : State) : Type 0 where

@@ -8,7 +8,7 @@ use native.Mathlib.Omega.{arith}
 use lib.Bits.{bitOr}
 use lib.ListN.{length, getD, set, replicate, length-append, length-replicate, getD-replicate, replicate-append-replicate, List·getD-append, List·getD-eq-default}
 use lib.Seq.{getD-append-add, set-append-left}
-use Rattle.rules.specs.State.{Action, wordCount, word, without, appliesWord, applies, nextWord, next, every, tabulate, step, quiet, bitsBelow, computed, noPropositions, insert, insertAll}
+use Rattle.rules.specs.State.{Action, wordCount, word, without, appliesWord, applies, nextWord, next, every, tabulate, step, quiet, touched, bitsBelow, computed, noPropositions, insert, insertAll}
 use Rattle.rules.proofs.Tables.{length-tabulate, getD-tabulate-zero, tabulate-of, every-same, every-of, every-split}
 use Rattle.rules.proofs.Members.{length-insert}
 use Rattle.rules.proofs.Quiet.{bits-same, bits-wide, zero-quiet, quiet-next, computed-yes}
@@ -134,16 +134,20 @@ module _ (s rest needed forbidden added deleted : List ℕ) (whole : length s + 
   -- The words that such a step computes are among the first.
   pub computed-front : length added ≡ length s → length deleted ≡ length s → (n : ℕ) → applies (s ++ rest) (widenedAction needed forbidden added deleted) ≡ true
       → n ≡ bitsBelow (length s) (λ i. not (quiet (word added i) (word deleted i))) → n ≡ computed (s ++ rest) (widenedAction needed forbidden added deleted)
+  unfolding touched
   computed-front a d n y e =
       e ∙ sym (bits-wide (length s) (length rest) own (λ k l. ap not (quiet-past k added deleted (omega arith) (d ∙ sym a))))
-      ∙ ap (λ (m : ℕ). bitsBelow m own) all ∙ bits-same wordCount own wide (λ k _. λ j. not (quiet (sym (word-widened added k) j) (sym (word-widened deleted k) j)))
-      ∙ sym (computed-yes (s ++ rest) (widenedAction needed forbidden added deleted) y)
+      ∙ ap (λ (m : ℕ). bitsBelow m own) all ∙ bits-same wordCount own (touched action) same
+      ∙ sym (computed-yes (s ++ rest) action y)
     where
+      action : Action
+      action = widenedAction needed forbidden added deleted
+
       own : ℕ → Bool
       own i = not (quiet (word added i) (word deleted i))
 
-      wide : ℕ → Bool
-      wide i = not (quiet (word (widened added) i) (word (widened deleted) i))
+      same : (k : ℕ) → k < wordCount → own k ≡ touched action k
+      same k _ = λ j. not (quiet (sym (word-widened added k) j) (sym (word-widened deleted k) j))
 
       all : length rest + length s ≡ wordCount
       all = omega (arith, whole)
