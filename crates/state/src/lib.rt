@@ -5,7 +5,7 @@ ghost use mathlib.Core.Bool.{not};
 ghost use Prim.Native.Nat.{_≤_};
 ghost use lib.Dec.{eqb};
 ghost use lib.ListN.{length};
-ghost use Rattle.rules.specs.State.{member, insert, word, without, appliesWord, nextWord, every, tabulate, step, wordCount, quiet, bitsBelow, computed};
+ghost use Rattle.rules.specs.State.{member, insert, word, without, appliesWord, nextWord, every, tabulate, step, wordCount, quiet, bitsBelow, Traced};
 ghost use Rattle.state.specs.Action.{actionOf};
 ghost use Rattle.state.specs.Words.{widenedAction, Steps, Traces};
 
@@ -145,7 +145,7 @@ pub fn step_words(
 // "The *step* call takes any state and four sets as words and gives yes with the next state, or no with the state as it came."
 pub fn step(s: State, needed: State, forbidden: State, added: State, deleted: State) -> Stepped
     ensures steps { λ r. ⌜ (r .ok, r .state .words) ≡ step (s .words) (actionOf needed forbidden added deleted) ⌝ }
-    ensures trace { λ r. ⌜ r .computed ≡ computed (s .words) (actionOf needed forbidden added deleted) ⌝ }
+    ensures trace { λ r. ⌜ Traced (s .words) (actionOf needed forbidden added deleted) (r .computed) (r .state .words) ⌝ }
 {
     let mut words = s.words;
     let r = step_words(

@@ -139,13 +139,7 @@ fn stepped_at(text: &[u8], from: usize) -> Case
     let forbidden = set_at(text, needed.next, b"\nforbidden ");
     let added = set_at(text, forbidden.next, b"\nadded ");
     let deleted = set_at(text, added.next, b"\ndeleted ");
-    let stepped = state::step(
-        s.set,
-        needed.set,
-        forbidden.set,
-        added.set,
-        deleted.set,
-    );
+    let stepped = state::step(s.set, needed.set, forbidden.set, added.set, deleted.set);
     Case {
         stepped,
         next: deleted.next,

@@ -9,10 +9,14 @@ step-requires : tie.Need-step-requires
 step-requires c κs = search needs
 
 returns : tie.Need-returns
-returns c = step-yes _ (c .before .before .before .step .result .ok) (c .before .before .before .step .result .state .words) (c .before .before .before .step .ensures) (c .if1 .taken)
+returns c =
+    let r = c .before .before .before .step in
+    (step-yes _ (r .result .ok) (r .result .state .words) (r .ensures .0) (c .if1 .taken), r .ensures .1)
 
 returns-2 : tie.Need-returns-2
-returns-2 c = step-no _ (c .before .before .before .step .result .ok) (c .before .before .before .step .result .state .words) (c .before .before .before .step .ensures) (c .if1 .left)
+returns-2 c =
+    let r = c .before .before .before .step in
+    (step-no _ (r .result .ok) (r .result .state .words) (r .ensures .0) (c .if1 .left), r .ensures .1)
 
 pub cuecheck-step-spec : {M : Type 1} → statement M
 cuecheck-step-spec = tie.close (tie.spec step-requires returns returns-2)

@@ -1,7 +1,10 @@
 -- All words are lent, so that there is no rest. Assumes nothing.
-use mathlib.Core.Path.{_≡_, sym, _∙_}
+use mathlib.Core.Bool.{Bool}
+use mathlib.Core.Path.{_≡_, sym, ap, _∙_}
 use lib.ListN.{length}
-use Rattle.rules.specs.State.{wordCount}
+use Rattle.rules.specs.State.{State, wordCount}
+use Rattle.rules.proofs.Quiet.{traced}
+use Rattle.state.specs.Action.{actionOf}
 use Rattle.state.proofs.Words.{steps-full, traces-full}
 use native.Mathlib.Omega.{arith}
 use borrow.Author.Needs.{needs}
@@ -42,11 +45,16 @@ returns : tie.Need-returns
 returns c =
     let s = c .before .before .before .before .before .before .before .before .before .before .before .before .before .before .before .before in
     let a = s .args in
-    let r = c .before .step-words in (
-      steps-full (a .s .words) (a .t2 .words) (a .t3 .words) (a .t4 .words) (a .t5 .words) (size s) (needed-size s) (forbidden-size s) (added-size s) (deleted-size s)
-          (r .result .ok) (r .last .0) (r .ensures .0),
-      traces-full (a .s .words) (a .t2 .words) (a .t3 .words) (a .t4 .words) (a .t5 .words) (size s) (needed-size s) (forbidden-size s) (added-size s) (deleted-size s)
-          (r .result .computed) (r .ensures .1),
+    let r = c .before .step-words in
+    let whole = size s in
+    let stepped =
+    steps-full (a .s .words) (a .t2 .words) (a .t3 .words) (a .t4 .words) (a .t5 .words) (size s) (needed-size s) (forbidden-size s) (added-size s) (deleted-size s)
+    (r .result .ok) (r .last .0) (r .ensures .0) in (
+      stepped,
+      traced (a .s .words) (actionOf (a .t2) (a .t3) (a .t4) (a .t5)) (r .result .computed) (r .last .0) (omega (arith, whole))
+          (traces-full (a .s .words) (a .t2 .words) (a .t3 .words) (a .t4 .words) (a .t5 .words) (size s) (needed-size s) (forbidden-size s) (added-size s) (deleted-size s)
+          (r .result .computed) (r .ensures .1))
+          (ap (λ (x : Bool × State). x .1) stepped),
     )
 
 pub step-spec : {M : Type 1} → statement M

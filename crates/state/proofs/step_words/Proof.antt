@@ -26,8 +26,8 @@ returns c =
     let a = s .args in
     let action = widenedAction (a .needed .now) (a .forbidden .now) (a .added .now) (a .deleted .now) in
     let none : (rest : List ℕ) → length (a .s .now) + length rest ≡ wordCount → applies (a .s .now ++ rest) action ≡ false = λ rest whole.
-        applies-front (a .s .now) rest (a .needed .now) (a .forbidden .now) (a .added .now) (a .deleted .now) whole (s .pre .1 .0 .0) (s .pre .1 .0 .1)
-        ∙ sym (c .before .applies .ensures) ∙ not-true (c .before .applies .result) (c .if1 .taken) in
+    applies-front (a .s .now) rest (a .needed .now) (a .forbidden .now) (a .added .now) (a .deleted .now) whole (s .pre .1 .0 .0) (s .pre .1 .0 .1)
+    ∙ sym (c .before .applies .ensures) ∙ not-true (c .before .applies .result) (c .if1 .taken) in
     (λ rest whole. step-no (a .s .now ++ rest) action (none rest whole), λ rest whole. sym (computed-no (a .s .now ++ rest) action (none rest whole)))
 
 advance-requires : tie.Need-advance-requires
@@ -44,8 +44,8 @@ returns-2 c =
     let t = c .before .before .advance .last .0 in
     let tested = c .before .before .before .before .before .applies in
     let all : (rest : List ℕ) → length (a .s .now) + length rest ≡ wordCount → applies (a .s .now ++ rest) action ≡ true = λ rest whole.
-        applies-front (a .s .now) rest (a .needed .now) (a .forbidden .now) (a .added .now) (a .deleted .now) whole (s .pre .1 .0 .0) (s .pre .1 .0 .1)
-        ∙ sym (tested .ensures) ∙ not-false (tested .result) (c .before .before .before .before .if1 .left) in (
+    applies-front (a .s .now) rest (a .needed .now) (a .forbidden .now) (a .added .now) (a .deleted .now) whole (s .pre .1 .0 .0) (s .pre .1 .0 .1)
+    ∙ sym (tested .ensures) ∙ not-false (tested .result) (c .before .before .before .before .if1 .left) in (
       λ rest whole. step-yes (a .s .now ++ rest) action (t ++ rest) (all rest whole)
           (next-front (a .s .now) rest (a .needed .now) (a .forbidden .now) (a .added .now) (a .deleted .now) whole (s .pre .1 .1 .0) (s .pre .1 .1 .1) t
           (c .before .before .advance .ensures .0)),
