@@ -133,10 +133,10 @@ module _ (s rest needed forbidden added deleted : List ℕ) (whole : length s + 
 
   -- The words that such a step computes are among the first.
   pub computed-front : length added ≡ length s → length deleted ≡ length s → (n : ℕ) → applies (s ++ rest) (widenedAction needed forbidden added deleted) ≡ true
-      → n ≡ bitsBelow (length s) (λ i. not (quiet (word added i) (word deleted i))) → n ≡ computed (s ++ rest) (widenedAction needed forbidden added deleted)
+      → n ≡ bitsBelow (length added) (λ i. not (quiet (word added i) (word deleted i))) → n ≡ computed (s ++ rest) (widenedAction needed forbidden added deleted)
   unfolding touched
   computed-front a d n y e =
-      e ∙ sym (bits-wide (length s) (length rest) own (λ k l. ap not (quiet-past k added deleted (omega arith) (d ∙ sym a))))
+      e ∙ ap (λ (m : ℕ). bitsBelow m own) a ∙ sym (bits-wide (length s) (length rest) own (λ k l. ap not (quiet-past k added deleted (omega arith) (d ∙ sym a))))
       ∙ ap (λ (m : ℕ). bitsBelow m own) all ∙ bits-same wordCount own (touched action) same
       ∙ sym (computed-yes (s ++ rest) action y)
     where

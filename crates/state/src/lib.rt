@@ -97,24 +97,34 @@ fn applies(s: &[u64], needed: &[u64], forbidden: &[u64]) -> bool
     found == 0
 }
 
-// "The next state is the old one without the deleted, then with the added; a proposition in both ends true." In the old one's place. Answers
-// which words were computed: those that are not quiet.
-fn advance(s: &mut [u64], added: &[u64], deleted: &[u64]) -> u32
-    requires few { ⌜ length (now s) ≤ wordCount ⌝ }
-    requires sets { ⌜ (length (now added) ≡ length (now s)) × (length (now deleted) ≡ length (now s)) ⌝ }
-    ensures next { λ _. ⌜ now (s .exit) ≡ tabulate (length (now (s .entry))) 0 (λ i. nextWord (word (now (s .entry)) i) (word (now (added .entry)) i) (word (now (deleted .entry)) i)) ⌝ }
-    ensures trace { λ r. ⌜ r ≡ bitsBelow (length (now (s .entry))) (λ i. not (quiet (word (now (added .entry)) i) (word (now (deleted .entry)) i))) ⌝ }
+// "The next state is the old one without the deleted, then with the added; a proposition in both ends true." In the old one's place.
+fn advance(s: &mut [u64], added: &[u64], deleted: &[u64])
+    requires { ⌜ (length (now added) ≡ length (now s)) × (length (now deleted) ≡ length (now s)) ⌝ }
+    ensures { λ _. ⌜ now (s .exit) ≡ tabulate (length (now (s .entry))) 0 (λ i. nextWord (word (now (s .entry)) i) (word (now (added .entry)) i) (word (now (deleted .entry)) i)) ⌝ }
 {
-    let mut computed: u32 = 0;
     let mut i: usize = 0;
     while i < s.len() {
         s[i] = word_next(s[i], added[i], deleted[i]);
+        i += 1;
+    }
+}
+
+// The words that are computed for the next state, word i as bit i: those that are not quiet. A loop of its own, so that the words above can be
+// taken together.
+fn touched(added: &[u64], deleted: &[u64]) -> u32
+    requires few { ⌜ length (now added) ≤ wordCount ⌝ }
+    requires same { ⌜ length (now deleted) ≡ length (now added) ⌝ }
+    ensures { λ r. ⌜ r ≡ bitsBelow (length (now (added .entry))) (λ i. not (quiet (word (now (added .entry)) i) (word (now (deleted .entry)) i))) ⌝ }
+{
+    let mut bits: u32 = 0;
+    let mut i: usize = 0;
+    while i < added.len() {
         if !is_quiet(added[i], deleted[i]) {
-            computed = computed | (1u32 << (i as u32));
+            bits = bits | (1u32 << (i as u32));
         }
         i += 1;
     }
-    computed
+    bits
 }
 
 // The step in the first words of a state, in their place: the sets are lent in as many words as their propositions take, so that the words past
@@ -138,7 +148,8 @@ pub fn step_words(
             computed: 0,
         };
     }
-    let computed = advance(s, added, deleted);
+    advance(s, added, deleted);
+    let computed = touched(added, deleted);
     SteppedWords { ok: true, computed }
 }
 
