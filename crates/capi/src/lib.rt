@@ -232,9 +232,18 @@ pub extern "C" fn cuecheck_step(
     let next = r.state;
     let words = next.words;
     *state = words;
-    let applied = if r.ok { 1 } else { 0 };
+    if !r.ok {
+        return Stepped {
+            applied: 0,
+            computed: 0,
+        };
+    }
+    // The two sets are loaded anew: the step takes their words together, the number one by one.
+    let more = *added;
+    let less = *deleted;
+    let computed = state::computed(State { words: more }, State { words: less });
     Stepped {
-        applied,
-        computed: r.computed,
+        applied: 1,
+        computed,
     }
 }

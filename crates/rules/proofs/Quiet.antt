@@ -3,18 +3,17 @@ use mathlib.Core.Path.{_≡_, refl, sym, ap, subst, _∙_}
 use mathlib.Core.Logic.{_↔_}
 use mathlib.Core.Bool.{Bool, true, false, _&&_, _||_, not, and-true, and-false, or-false, false≢true}
 use Prim.Native.Nat.{ℕ, zero, suc, _+_, _≤_, _<_, _^_}
-use native.Mathlib.Nat.{not-suc-le-zero, zero-add}
+use native.Mathlib.Nat.{not-suc-le-zero}
 use native.Mathlib.Numerals.{add-one}
 use native.Mathlib.Decide.{ℕ-discrete, decLt}
 use native.Mathlib.Omega.{arith}
 use lib.Dec.{eqb}
-use lib.ListN.{length, List·getD-eq-default}
 use lib.Bits.{bitAnd, bitOr, bitXor, and-zero-r, or-zero-r, xor-zero-r}
 use borrow.Author.Tests.{eq-eqb, ne-eqb, eqb-true}
 use Rattle.rules.specs.State.{wordCount, State, Action, word, bit, without, applies, nextWord, next, step, quiet, touched, withBit, bitsBelow, computedAfter, computed, Traced}
 use Rattle.rules.proofs.Bits.{bit-or, bit-zero, bit-pow}
 use Rattle.rules.proofs.Tables.{and-left, and-right, and-both}
-use Rattle.rules.proofs.Members.{word-next, length-next}
+use Rattle.rules.proofs.Members.{word-next}
 
 -- ---- The number, bit by bit
 
@@ -30,13 +29,13 @@ module _ (f : ℕ → Bool) where
   bit-more n i true = bit-or (bitsBelow n f) (2 ^ n) i ∙ ap (λ (x : Bool). bit (bitsBelow n f) i || x) (bit-pow n i)
   bit-more n i false = sym (or-false (bit (bitsBelow n f) i))
 
-  pub bit-past : (n i : ℕ) → n ≤ i → bit (bitsBelow n f) i ≡ false
+  bit-past : (n i : ℕ) → n ≤ i → bit (bitsBelow n f) i ≡ false
   bit-past zero i h = bit-zero i
   bit-past (suc n) i h =
       bit-more n i (f n) ∙ ap (λ (x : Bool). x || (f n && eqb n i)) (bit-past n i (omega arith))
       ∙ ap (λ (x : Bool). f n && x) (ne-eqb n i (λ e. omega arith)) ∙ and-false (f n)
 
-  pub bit-below : (n i : ℕ) → i < n → bit (bitsBelow n f) i ≡ f i
+  bit-below : (n i : ℕ) → i < n → bit (bitsBelow n f) i ≡ f i
   bit-below zero i h = absurd (not-suc-le-zero h)
   bit-below (suc n) i h = bit-more n i (f n) ∙ go (λ l. bit-below n i l) (ℕ-discrete n i)
     where
@@ -48,27 +47,14 @@ module _ (f : ℕ → Bool) where
           ap (λ (x : Bool). bit (bitsBelow n f) i || (f n && x)) (ne-eqb n i e)
           ∙ ap (λ (x : Bool). bit (bitsBelow n f) i || x) (and-false (f n)) ∙ or-false (bit (bitsBelow n f) i) ∙ lower (omega arith)
 
--- The number goes by what f says below n.
-pub bits-same : (n : ℕ) (f g : ℕ → Bool) → ((i : ℕ) → i < n → f i ≡ g i) → bitsBelow n f ≡ bitsBelow n g
-bits-same zero f g e = refl
-bits-same (suc n) f g e =
-    λ j. withBit (bits-same n f g (λ i h. e i (omega arith)) j) n (e n (omega arith) j)
-
--- And bits that are not set add nothing.
-pub bits-wide : (m n : ℕ) (f : ℕ → Bool) → ((i : ℕ) → m ≤ i → f i ≡ false) → bitsBelow (n + m) f ≡ bitsBelow m f
-bits-wide m zero f none = ap (λ (k : ℕ). bitsBelow k f) (zero-add m)
-bits-wide m (suc n) f none =
-    let one : suc n + m ≡ n + m + 1 = omega arith in
-    ap (λ (k : ℕ). bitsBelow k f) one ∙ bits-unset f (n + m) (none (n + m) (omega arith)) ∙ bits-wide m n f none
-
 -- ---- A quiet word
 
-pub both-zero : (added deleted : ℕ) → quiet added deleted ≡ true → (added ≡ 0) × (deleted ≡ 0)
+both-zero : (added deleted : ℕ) → quiet added deleted ≡ true → (added ≡ 0) × (deleted ≡ 0)
 unfolding quiet
 both-zero added deleted e =
     (eqb-true added 0 (and-left (eqb added 0) (eqb deleted 0) e), eqb-true deleted 0 (and-right (eqb added 0) (eqb deleted 0) e))
 
-pub zero-quiet : (added deleted : ℕ) → added ≡ 0 → deleted ≡ 0 → quiet added deleted ≡ true
+zero-quiet : (added deleted : ℕ) → added ≡ 0 → deleted ≡ 0 → quiet added deleted ≡ true
 unfolding quiet
 zero-quiet added deleted a d = and-both (eq-eqb added 0 a) (eq-eqb deleted 0 d)
 
@@ -87,11 +73,11 @@ module _ (a : Action) (w : ℕ) where
   abbrev Zero : Type 0
   Zero = (word (a .added) w ≡ 0) × (word (a .deleted) w ≡ 0)
 
-  pub touched-not : touched a w ≡ true → Zero → ⊥
+  touched-not : touched a w ≡ true → Zero → ⊥
   unfolding touched
   touched-not e z = false≢true (ap not (sym (zero-quiet (word (a .added) w) (word (a .deleted) w) (z .0) (z .1))) ∙ e)
 
-  pub not-touched : (Zero → ⊥) → touched a w ≡ true
+  not-touched : (Zero → ⊥) → touched a w ≡ true
   unfolding touched
   not-touched n = go (quiet (word (a .added) w) (word (a .deleted) w)) refl
     where
@@ -99,7 +85,7 @@ module _ (a : Action) (w : ℕ) where
       go true e = absurd (n (both-zero (word (a .added) w) (word (a .deleted) w) e))
       go false e = ap not e
 
-  pub untouched-quiet : touched a w ≡ false → quiet (word (a .added) w) (word (a .deleted) w) ≡ true
+  untouched-quiet : touched a w ≡ false → quiet (word (a .added) w) (word (a .deleted) w) ≡ true
   unfolding touched
   untouched-quiet e = go (quiet (word (a .added) w) (word (a .deleted) w)) refl
     where
@@ -112,16 +98,30 @@ module _ (s : State) (a : Action) where
   Sets w = (applies s a ≡ true) × (w < wordCount) × ((word (a .added) w ≡ 0) × (word (a .deleted) w ≡ 0) → ⊥)
 
   -- What is computed after a yes and after a no.
-  pub computed-yes : applies s a ≡ true → computed s a ≡ bitsBelow wordCount (touched a)
+  computed-yes : applies s a ≡ true → computed s a ≡ bitsBelow wordCount (touched a)
   unfolding computed
   computed-yes e = ap (λ (b : Bool). computedAfter b a) e
 
-  pub computed-no : applies s a ≡ false → computed s a ≡ 0
+  computed-no : applies s a ≡ false → computed s a ≡ 0
   unfolding computed
   computed-no e = ap (λ (b : Bool). computedAfter b a) e
 
   step-with : Bool → Bool × State
   step-with b = elim b [ true ↦ (true, next s a) | false ↦ (false, s) ]
+
+  says : (b : Bool) → step-with b .0 ≡ b
+  unfolding step-with
+  says true = refl
+  says false = refl
+
+  -- A yes and a no go by whether the action applies.
+  is-yes : true ≡ step s a .0 → applies s a ≡ true
+  unfolding step step-with
+  is-yes e = sym (e ∙ says (applies s a))
+
+  is-no : false ≡ step s a .0 → applies s a ≡ false
+  unfolding step step-with
+  is-no e = sym (e ∙ says (applies s a))
 
   left-yes : applies s a ≡ true → step s a .1 ≡ next s a
   unfolding step step-with
@@ -152,31 +152,30 @@ module _ (s : State) (a : Action) where
       let none : bit (computed s a) w ≡ false = ap (λ (n : ℕ). bit n w) (computed-no e) ∙ bit-zero w in
       (λ b. absurd (false≢true (sym none ∙ b)), λ x. absurd (false≢true (sym e ∙ x .0)))
 
-  -- A word below the last whose bit is not set is quiet; past the last there is none, before and after.
-  kept : length s ≤ wordCount → applies s a ≡ true → (w : ℕ) → bit (computed s a) w ≡ false → word (next s a) w ≡ word s w
-  kept few e w none = go (decLt w wordCount)
-    where
-      unset : bit (bitsBelow wordCount (touched a)) w ≡ false
-      unset = ap (λ (n : ℕ). bit n w) (sym (computed-yes e)) ∙ none
+  -- A word whose bit is not set is quiet.
+  kept : applies s a ≡ true → (w : ℕ) → w < wordCount → bit (computed s a) w ≡ false → word (next s a) w ≡ word s w
+  kept e w h none =
+      let unset : bit (bitsBelow wordCount (touched a)) w ≡ false = ap (λ (n : ℕ). bit n w) (sym (computed-yes e)) ∙ none in
+      word-next s a w h
+      ∙ quiet-next (word s w) (word (a .added) w) (word (a .deleted) w) (untouched-quiet a w (sym (bit-below (touched a) wordCount w h) ∙ unset))
 
-      go : Dec (w < wordCount) → word (next s a) w ≡ word s w
-      go (yes h) =
-          word-next s a w h
-          ∙ quiet-next (word s w) (word (a .added) w) (word (a .deleted) w) (untouched-quiet a w (sym (bit-below (touched a) wordCount w h) ∙ unset))
-      go (no h) = List·getD-eq-default (next s a) 0 (omega (arith, length-next s a)) ∙ sym (List·getD-eq-default s 0 (omega arith))
-
-  -- The step's number and the state that it leaves are as the statements say.
-  pub traced : (n : ℕ) (t : State) → length s ≤ wordCount → n ≡ computed s a → t ≡ step s a .1 → Traced s a n t
-  traced n t few number left = go (applies s a) refl
-    where
-      go : (b : Bool) → applies s a ≡ b → Traced s a n t
-      go true e = record {
+  -- The number and the state that a step leaves are as the statements say: after a yes,
+  pub traced-yes : (t : State) → (true, t) ≡ step s a → (n : ℕ) → n ≡ bitsBelow wordCount (touched a) → Traced s a n t
+  traced-yes t stepped n e =
+      let y = is-yes (ap (λ (x : Bool × State). x .0) stepped) in
+      let number : n ≡ computed s a = e ∙ sym (computed-yes y) in record {
         number = number;
-        bits = λ w. subst (λ (m : ℕ). (bit m w ≡ true) ↔ Sets w) (sym number) (bits-yes e w);
-        untouched = λ w none. ap (λ (u : State). word u w) (left ∙ left-yes e) ∙ kept few e w (ap (λ (m : ℕ). bit m w) (sym number) ∙ none);
+        bits = λ w. subst (λ (m : ℕ). (bit m w ≡ true) ↔ Sets w) (sym number) (bits-yes y w);
+        untouched = λ w h none. ap (λ (x : Bool × State). word (x .1) w) stepped ∙ ap (λ (u : State). word u w) (left-yes y)
+            ∙ kept y w h (ap (λ (m : ℕ). bit m w) (sym number) ∙ none);
       }
-      go false e = record {
+
+  -- and after a no.
+  pub traced-no : (t : State) → (false, t) ≡ step s a → Traced s a 0 t
+  traced-no t stepped =
+      let e = is-no (ap (λ (x : Bool × State). x .0) stepped) in
+      let number : 0 ≡ computed s a = sym (computed-no e) in record {
         number = number;
         bits = λ w. subst (λ (m : ℕ). (bit m w ≡ true) ↔ Sets w) (sym number) (bits-no e w);
-        untouched = λ w none. ap (λ (u : State). word u w) (left ∙ left-no e);
+        untouched = λ w h none. ap (λ (x : Bool × State). word (x .1) w) stepped ∙ ap (λ (u : State). word u w) (left-no e);
       }

@@ -112,8 +112,8 @@ pub record Traced (s : State) (a : Action) (n : ℕ) (t : State) : Type 0 where
   pub number : n ≡ computed s a
   -- bit w is set after a yes exactly if w is a word of a state and its added or its deleted word is not zero; after a no, none is
   pub bits : (w : ℕ) → (bit n w ≡ true) ↔ ((applies s a ≡ true) × (w < wordCount) × ((word (a .added) w ≡ 0) × (word (a .deleted) w ≡ 0) → ⊥))
-  -- a word whose bit is not set is passed through
-  pub untouched : (w : ℕ) → bit n w ≡ false → word t w ≡ word s w
+  -- a word whose bit is not set is the old one
+  pub untouched : (w : ℕ) → w < wordCount → bit n w ≡ false → word t w ≡ word s w
 
 unfoldable pub noAction : Action
 noAction = record { needed = noPropositions; forbidden = noPropositions; added = noPropositions; deleted = noPropositions }

@@ -72,14 +72,13 @@ pub fn step_with(sets: &[u64], s: &mut [u64]) -> bool
     let forbidden = size + size;
     let added = forbidden + size;
     let deleted = added + size;
-    let r = state::step_words(
+    state::step_words(
         s,
         &sets[0..size],
         &sets[size..forbidden],
         &sets[forbidden..added],
         &sets[added..deleted],
-    );
-    r.ok
+    )
 }
 
 // The set of the I line at a place.

@@ -1,20 +1,19 @@
 -- A step in the first words of sets is the step of the sets. Assumes nothing.
 use mathlib.Core.Path.{_≡_, refl, sym, ap, subst, _∙_}
-use mathlib.Core.Bool.{Bool, true, false, _&&_, not, and-true}
+use mathlib.Core.Bool.{Bool, true, _&&_, and-true}
 use mathlib.Core.List.{List, [], _∷_, _++_, append-nil, List·Memᴰ·head as here}
 use Prim.Native.Nat.{ℕ, _+_, _-_, _*_, _/_, _%_, _^_, _≤_, _<_}
 use native.Mathlib.Decide.{decLt}
 use native.Mathlib.Omega.{arith}
-use lib.Bits.{bitOr}
+use lib.Bits.{bitAnd, bitOr, bitXor, and-zero-r, or-zero-r, xor-zero-r}
 use lib.ListN.{length, getD, set, replicate, length-append, length-replicate, getD-replicate, replicate-append-replicate, List·getD-append, List·getD-eq-default}
 use lib.Seq.{getD-append-add, set-append-left}
-use Rattle.rules.specs.State.{Action, wordCount, word, without, appliesWord, applies, nextWord, next, every, tabulate, step, quiet, touched, bitsBelow, computed, noPropositions, insert, insertAll}
+use Rattle.rules.specs.State.{wordCount, word, without, appliesWord, applies, nextWord, next, every, tabulate, step, noPropositions, insert, insertAll}
 use Rattle.rules.proofs.Tables.{length-tabulate, getD-tabulate-zero, tabulate-of, every-same, every-of, every-split}
 use Rattle.rules.proofs.Members.{length-insert}
-use Rattle.rules.proofs.Quiet.{bits-same, bits-wide, zero-quiet, quiet-next, computed-yes}
 use Rattle.rules.proofs.Worded.{insert-all}
 use Rattle.rules.proofs.Judgement.Each.{Each, each-tail}
-use Rattle.state.specs.Words.{widened, widenedAction, Steps, Traces}
+use Rattle.state.specs.Words.{widened, widenedAction, Steps}
 
 -- As many words as a state has are the state.
 widened-full : (ws : List ℕ) → length ws ≡ wordCount → widened ws ≡ ws
@@ -70,9 +69,12 @@ applies-widened s needed forbidden added deleted few f =
     past : (k : ℕ) → length needed ≤ k → part k ≡ true
     past k l = λ j. appliesWord (word s k) (past-zero needed k l j) (past-zero forbidden k (omega arith) j)
 
--- And are quiet.
-quiet-past : (k : ℕ) (added deleted : List ℕ) → length added ≤ k → length deleted ≡ length added → quiet (word added k) (word deleted k) ≡ true
-quiet-past k added deleted l d = zero-quiet (word added k) (word deleted k) (past-zero added k l) (past-zero deleted k (omega arith))
+-- And change nothing.
+next-past : (w k : ℕ) (added deleted : List ℕ) → length added ≤ k → length deleted ≡ length added → w ≡ nextWord w (word added k) (word deleted k)
+unfolding nextWord without
+next-past w k added deleted l d =
+    sym (or-zero-r (bitXor w (bitAnd w 0)) ∙ ap (bitXor w) (and-zero-r w) ∙ xor-zero-r w)
+    ∙ λ j. nextWord w (sym (past-zero added k l) j) (sym (past-zero deleted k (omega arith)) j)
 
 next-widened : (s needed forbidden added deleted t : List ℕ)
     → t ≡ tabulate wordCount 0 (λ i. nextWord (word s i) (word added i) (word deleted i)) → t ≡ next s (widenedAction needed forbidden added deleted)
@@ -129,49 +131,20 @@ module _ (s rest needed forbidden added deleted : List ℕ) (whole : length s + 
           let there : k ≡ length s + (k - length s) = omega arith in
           ap (λ (m : ℕ). word (t ++ rest) m) here ∙ getD-append-add t rest (k - length s) 0
           ∙ sym (ap (λ (m : ℕ). word (s ++ rest) m) there ∙ getD-append-add s rest (k - length s) 0)
-          ∙ sym (quiet-next (word (s ++ rest) k) (word added k) (word deleted k) (quiet-past k added deleted (omega arith) (d ∙ sym a)))
-
-  -- The words that such a step computes are among the first.
-  pub computed-front : length added ≡ length s → length deleted ≡ length s → (n : ℕ) → applies (s ++ rest) (widenedAction needed forbidden added deleted) ≡ true
-      → n ≡ bitsBelow (length added) (λ i. not (quiet (word added i) (word deleted i))) → n ≡ computed (s ++ rest) (widenedAction needed forbidden added deleted)
-  unfolding touched
-  computed-front a d n y e =
-      e ∙ ap (λ (m : ℕ). bitsBelow m own) a ∙ sym (bits-wide (length s) (length rest) own (λ k l. ap not (quiet-past k added deleted (omega arith) (d ∙ sym a))))
-      ∙ ap (λ (m : ℕ). bitsBelow m own) all ∙ bits-same wordCount own (touched action) same
-      ∙ sym (computed-yes (s ++ rest) action y)
-    where
-      action : Action
-      action = widenedAction needed forbidden added deleted
-
-      own : ℕ → Bool
-      own i = not (quiet (word added i) (word deleted i))
-
-      same : (k : ℕ) → k < wordCount → own k ≡ touched action k
-      same k _ = λ j. not (quiet (sym (word-widened added k) j) (sym (word-widened deleted k) j))
-
-      all : length rest + length s ≡ wordCount
-      all = omega (arith, whole)
+          ∙ next-past (word (s ++ rest) k) k added deleted (omega arith) (d ∙ sym a)
 
 -- In as many words as a state has it is the step.
-module _ (s needed forbidden added deleted : List ℕ) (es : length s ≡ wordCount) (en : length needed ≡ wordCount) (ef : length forbidden ≡ wordCount)
-    (ea : length added ≡ wordCount) (ed : length deleted ≡ wordCount) where
-  abbrev own : Action
-  own = record { needed = needed; forbidden = forbidden; added = added; deleted = deleted }
-
-  action-full : widenedAction needed forbidden added deleted ≡ own
-  action-full = λ j. record {
-    needed = widened-full needed en j;
-    forbidden = widened-full forbidden ef j;
-    added = widened-full added ea j;
-    deleted = widened-full deleted ed j;
-  }
-
-  pub steps-full : (ok : Bool) (t : List ℕ) → Steps s (widenedAction needed forbidden added deleted) ok t → (ok, t) ≡ step s own
-  steps-full ok t steps =
-      ap (λ (l : List ℕ). (ok, l)) (sym (append-nil t)) ∙ steps [] (omega arith) ∙ λ j. step (append-nil s j) (action-full j)
-
-  pub traces-full : (n : ℕ) → Traces s (widenedAction needed forbidden added deleted) n → n ≡ computed s own
-  traces-full n traces = traces [] (omega arith) ∙ λ j. computed (append-nil s j) (action-full j)
+pub steps-full : (s needed forbidden added deleted : List ℕ) (ok : Bool) (t : List ℕ) → length s ≡ wordCount → length needed ≡ wordCount
+    → length forbidden ≡ wordCount → length added ≡ wordCount → length deleted ≡ wordCount → Steps s (widenedAction needed forbidden added deleted) ok t
+    → (ok, t) ≡ step s (record { needed = needed; forbidden = forbidden; added = added; deleted = deleted })
+steps-full s needed forbidden added deleted ok t es en ef ea ed steps =
+    ap (λ (l : List ℕ). (ok, l)) (sym (append-nil t)) ∙ steps [] (omega arith)
+    ∙ λ j. step (append-nil s j) (record {
+      needed = widened-full needed en j;
+      forbidden = widened-full forbidden ef j;
+      added = widened-full added ea j;
+      deleted = widened-full deleted ed j;
+    })
 
 -- ---- Propositions in the first words
 

@@ -4,7 +4,7 @@ use mathlib.Core.Bool.{Bool}
 use mathlib.Core.List.{List, _++_}
 use Prim.Native.Nat.{ℕ, _+_, _-_}
 use lib.ListN.{length, replicate}
-use Rattle.rules.specs.State.{State, Action, wordCount, step, computed}
+use Rattle.rules.specs.State.{State, Action, wordCount, step}
 
 -- The set whose first words these are: the words past them are zero.
 unfoldable pub widened : List ℕ → State
@@ -18,7 +18,3 @@ widenedAction needed forbidden added deleted =
 -- A step that makes t of the first words s of a state, and leaves the rest of it.
 abbrev pub Steps : List ℕ → Action → Bool → List ℕ → Type 0
 Steps s a ok t = (rest : List ℕ) → length s + length rest ≡ wordCount → (ok, t ++ rest) ≡ step (s ++ rest) a
-
--- Which words of such a step are computed.
-abbrev pub Traces : List ℕ → Action → ℕ → Type 0
-Traces s a n = (rest : List ℕ) → length s + length rest ≡ wordCount → n ≡ computed (s ++ rest) a

@@ -2,12 +2,11 @@
 // (p mod 64) of word (p div 64)".
 ghost use mathlib.Core.Path.{_≡_};
 ghost use mathlib.Core.Bool.{not};
-ghost use Prim.Native.Nat.{_≤_};
 ghost use lib.Dec.{eqb};
 ghost use lib.ListN.{length};
-ghost use Rattle.rules.specs.State.{member, insert, word, without, appliesWord, nextWord, every, tabulate, step, wordCount, quiet, bitsBelow, Traced};
+ghost use Rattle.rules.specs.State.{member, insert, word, without, appliesWord, nextWord, every, tabulate, step, wordCount, quiet, bitsBelow};
 ghost use Rattle.state.specs.Action.{actionOf};
-ghost use Rattle.state.specs.Words.{widenedAction, Steps, Traces};
+ghost use Rattle.state.specs.Words.{widenedAction, Steps};
 
 // How many words a state has: the definitions' wordCount.
 pub const WORDS: usize = 8;
@@ -17,17 +16,10 @@ pub struct State {
     pub words: [u64; WORDS],
 }
 
-// What a step gives: whether the action applies, and the next state, or the state as it came; and which words were computed, word w as bit w.
+// What a step gives: whether the action applies, and the next state, or the state as it came.
 pub struct Stepped {
     pub ok: bool,
     pub state: State,
-    pub computed: u32,
-}
-
-// The same of a step in the place of a state.
-pub struct SteppedWords {
-    pub ok: bool,
-    pub computed: u32,
 }
 
 // Whether proposition p is in a set's words, wherever they lie: no for a p past the last word.
@@ -109,24 +101,6 @@ fn advance(s: &mut [u64], added: &[u64], deleted: &[u64])
     }
 }
 
-// The words that are computed for the next state, word i as bit i: those that are not quiet. A loop of its own, so that the words above can be
-// taken together.
-fn touched(added: &[u64], deleted: &[u64]) -> u32
-    requires few { ⌜ length (now added) ≤ wordCount ⌝ }
-    requires same { ⌜ length (now deleted) ≡ length (now added) ⌝ }
-    ensures { λ r. ⌜ r ≡ bitsBelow (length (now (added .entry))) (λ i. not (quiet (word (now (added .entry)) i) (word (now (deleted .entry)) i))) ⌝ }
-{
-    let mut bits: u32 = 0;
-    let mut i: usize = 0;
-    while i < added.len() {
-        if !is_quiet(added[i], deleted[i]) {
-            bits = bits | (1u32 << (i as u32));
-        }
-        i += 1;
-    }
-    bits
-}
-
 // The step in the first words of a state, in their place: the sets are lent in as many words as their propositions take, so that the words past
 // them stay.
 pub fn step_words(
@@ -135,31 +109,24 @@ pub fn step_words(
     forbidden: &[u64],
     added: &[u64],
     deleted: &[u64],
-) -> SteppedWords
-    requires few { ⌜ length (now s) ≤ wordCount ⌝ }
+) -> bool
     requires tests { ⌜ (length (now needed) ≡ length (now s)) × (length (now forbidden) ≡ length (now s)) ⌝ }
     requires changes { ⌜ (length (now added) ≡ length (now s)) × (length (now deleted) ≡ length (now s)) ⌝ }
-    ensures steps { λ r. ⌜ Steps (now (s .entry)) (widenedAction (now (needed .entry)) (now (forbidden .entry)) (now (added .entry)) (now (deleted .entry))) (r .ok) (now (s .exit)) ⌝ }
-    ensures trace { λ r. ⌜ Traces (now (s .entry)) (widenedAction (now (needed .entry)) (now (forbidden .entry)) (now (added .entry)) (now (deleted .entry))) (r .computed) ⌝ }
+    ensures { λ r. ⌜ Steps (now (s .entry)) (widenedAction (now (needed .entry)) (now (forbidden .entry)) (now (added .entry)) (now (deleted .entry))) r (now (s .exit)) ⌝ }
 {
     if !applies(s, needed, forbidden) {
-        return SteppedWords {
-            ok: false,
-            computed: 0,
-        };
+        return false;
     }
     advance(s, added, deleted);
-    let computed = touched(added, deleted);
-    SteppedWords { ok: true, computed }
+    true
 }
 
 // "The *step* call takes any state and four sets as words and gives yes with the next state, or no with the state as it came."
 pub fn step(s: State, needed: State, forbidden: State, added: State, deleted: State) -> Stepped
-    ensures steps { λ r. ⌜ (r .ok, r .state .words) ≡ step (s .words) (actionOf needed forbidden added deleted) ⌝ }
-    ensures trace { λ r. ⌜ Traced (s .words) (actionOf needed forbidden added deleted) (r .computed) (r .state .words) ⌝ }
+    ensures { λ r. ⌜ (r .ok, r .state .words) ≡ step (s .words) (actionOf needed forbidden added deleted) ⌝ }
 {
     let mut words = s.words;
-    let r = step_words(
+    let ok = step_words(
         &mut words,
         &needed.words,
         &forbidden.words,
@@ -167,8 +134,24 @@ pub fn step(s: State, needed: State, forbidden: State, added: State, deleted: St
         &deleted.words,
     );
     Stepped {
-        ok: r.ok,
+        ok,
         state: State { words },
-        computed: r.computed,
     }
+}
+
+// Which words the step of an action computes where it applies, word w as bit w: "exactly the others" beside the quiet ones.
+pub fn computed(added: State, deleted: State) -> u32
+    ensures { λ r. ⌜ r ≡ bitsBelow wordCount (λ w. not (quiet (word (added .words) w) (word (deleted .words) w))) ⌝ }
+{
+    let adds = added.words;
+    let deletes = deleted.words;
+    let mut bits: u32 = 0;
+    let mut w: usize = 0;
+    while w < WORDS {
+        if !is_quiet(adds[w], deletes[w]) {
+            bits = bits | (1u32 << (w as u32));
+        }
+        w += 1;
+    }
+    bits
 }

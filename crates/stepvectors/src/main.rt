@@ -25,9 +25,10 @@ struct Line {
     next: usize,
 }
 
-// What the step of a case gives, and the place after its numbers.
+// What the step of a case gives, the words computed, and the place after its numbers.
 struct Case {
     stepped: Stepped,
+    computed: u32,
     next: usize,
 }
 
@@ -129,6 +130,15 @@ fn set_at(text: &[u8], from: usize, word: &[u8]) -> Line
     }
 }
 
+// The words that a step computes: after a no none.
+fn computed_by(ok: bool, added: State, deleted: State) -> u32 {
+    if ok {
+        state::computed(added, deleted)
+    } else {
+        0
+    }
+}
+
 // The step of the five sets that follow the line of a case, whose line feed stands at the place.
 fn stepped_at(text: &[u8], from: usize) -> Case
     requires { ⌜ from ≤ length (now text) ⌝ }
@@ -142,6 +152,7 @@ fn stepped_at(text: &[u8], from: usize) -> Case
     let stepped = state::step(s.set, needed.set, forbidden.set, added.set, deleted.set);
     Case {
         stepped,
+        computed: computed_by(stepped.ok, added.set, deleted.set),
         next: deleted.next,
     }
 }
@@ -158,7 +169,7 @@ fn print_state(s: State) {
 }
 
 // The two lines of an answer.
-fn print_stepped(r: Stepped) {
+fn print_stepped(r: Stepped, computed: u32) {
     let left = r.state;
     if r.ok {
         io::write_all(STDOUT_FILENO, b"Y");
@@ -167,7 +178,7 @@ fn print_stepped(r: Stepped) {
     }
     print_state(left);
     io::write_all(STDOUT_FILENO, b"\nmask ");
-    io::print_decimal(STDOUT_FILENO, r.computed as u64);
+    io::print_decimal(STDOUT_FILENO, computed as u64);
     io::write_all(STDOUT_FILENO, b"\n");
 }
 
@@ -180,6 +191,7 @@ fn run_case(text: &[u8], from: usize) -> usize
     let end = line_end(text, name);
     let c = stepped_at(text, end);
     let stepped = c.stepped;
+    let computed = c.computed;
     let last = c.next;
     if last == text.len() {
         return from;
@@ -190,7 +202,7 @@ fn run_case(text: &[u8], from: usize) -> usize
     io::write_all(STDOUT_FILENO, b"case ");
     io::write_all(STDOUT_FILENO, &text[name..end]);
     io::write_all(STDOUT_FILENO, b"\n");
-    print_stepped(stepped);
+    print_stepped(stepped, computed);
     last + 1
 }
 

@@ -1,12 +1,8 @@
 -- All words are lent, so that there is no rest. Assumes nothing.
-use mathlib.Core.Bool.{Bool}
-use mathlib.Core.Path.{_≡_, sym, ap, _∙_}
+use mathlib.Core.Path.{_≡_, sym, _∙_}
 use lib.ListN.{length}
-use Rattle.rules.specs.State.{State, wordCount}
-use Rattle.rules.proofs.Quiet.{traced}
-use Rattle.state.specs.Action.{actionOf}
-use Rattle.state.proofs.Words.{steps-full, traces-full}
-use native.Mathlib.Omega.{arith}
+use Rattle.rules.specs.State.{wordCount}
+use Rattle.state.proofs.Words.{steps-full}
 use borrow.Author.Needs.{needs}
 use Rattle.state.proofs.step.Statement.{statement}
 use Rattle.state.proofs.step.Tie as tie
@@ -39,23 +35,14 @@ module _ (s : tie.Start) where
 step-words-requires : tie.Need-step-words-requires
 step-words-requires c κs =
     let s = c .before .before .before .before .before .before .before .before .before .before .before .before .before .before in
-    let whole = size s in (omega (arith, whole), ((needed-size s ∙ sym whole, forbidden-size s ∙ sym whole), (added-size s ∙ sym whole, deleted-size s ∙ sym whole)))
+    ((needed-size s ∙ sym (size s), forbidden-size s ∙ sym (size s)), (added-size s ∙ sym (size s), deleted-size s ∙ sym (size s)))
 
 returns : tie.Need-returns
 returns c =
     let s = c .before .before .before .before .before .before .before .before .before .before .before .before .before .before .before .before in
     let a = s .args in
-    let r = c .before .step-words in
-    let whole = size s in
-    let stepped =
-    steps-full (a .s .words) (a .t2 .words) (a .t3 .words) (a .t4 .words) (a .t5 .words) (size s) (needed-size s) (forbidden-size s) (added-size s) (deleted-size s)
-    (r .result .ok) (r .last .0) (r .ensures .0) in (
-      stepped,
-      traced (a .s .words) (actionOf (a .t2) (a .t3) (a .t4) (a .t5)) (r .result .computed) (r .last .0) (omega (arith, whole))
-          (traces-full (a .s .words) (a .t2 .words) (a .t3 .words) (a .t4 .words) (a .t5 .words) (size s) (needed-size s) (forbidden-size s) (added-size s) (deleted-size s)
-          (r .result .computed) (r .ensures .1))
-          (ap (λ (x : Bool × State). x .1) stepped),
-    )
+    steps-full (a .s .words) (a .t2 .words) (a .t3 .words) (a .t4 .words) (a .t5 .words) (c .before .step-words .result) (c .before .step-words .last .0) (size s)
+    (needed-size s) (forbidden-size s) (added-size s) (deleted-size s) (c .before .step-words .ensures)
 
 pub step-spec : {M : Type 1} → statement M
 step-spec = tie.close (tie.spec slice-aggregate-step-words step-words-requires returns)

@@ -90,7 +90,7 @@ returns c =
     let added = part-at n sets 2 (n + n) (omega arith) in
     let deleted = part-at n sets 3 (n + n + n) (omega arith) in
     λ rest whole.
-    c .before .before .step-words .ensures .0 rest whole
+    c .before .before .step-words .ensures rest whole
     ∙ λ j. step (a .s .now ++ rest) (widenedAction (needed j) (forbidden j) (added j) (deleted j))
 
 pub step-with-spec : {M : Type 1} → statement M
