@@ -15,8 +15,8 @@ step-requires c κs = search needs
 
 returns : tie.Need-returns
 returns c =
-    let r = c .before .before .before .step in
-    let a = c .before .before .before .before .before .before .before .before .before .args in
+    let r = c .before .before .before .before .step in
+    let a = c .before .before .before .before .before .before .before .before .before .before .args in
     let words = r .result .state .words in
     let no = not-true (r .result .ok) (c .if1 .taken) in
     (step-no _ (r .result .ok) words (r .ensures) no, traced-no (a .state .now) (lentAction (a .needed .now) (a .forbidden .now) (a .added .now) (a .deleted .now)) words ((λ j. (sym no j, words)) ∙ r .ensures))
@@ -27,8 +27,8 @@ computed-requires c κs = search needs
 returns-2 : tie.Need-returns-2
 unfolding touched
 returns-2 c =
-    let r = c .before .before .before .before .before .before .step in
-    let a = c .before .before .before .before .before .before .before .before .before .before .before .before .args in
+    let r = c .before .before .before .before .before .before .before .step in
+    let a = c .before .before .before .before .before .before .before .before .before .before .before .before .before .args in
     let words = r .result .state .words in
     let yes′ = not-false (r .result .ok) (c .before .before .before .if1 .left) in
     (step-yes _ (r .result .ok) words (r .ensures) yes′, traced-yes (a .state .now) (lentAction (a .needed .now) (a .forbidden .now) (a .added .now) (a .deleted .now)) words ((λ j. (sym yes′ j, words)) ∙ r .ensures) (c .computed .result) (c .computed .ensures))
