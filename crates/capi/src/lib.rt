@@ -64,6 +64,9 @@ pub fn as_reply(answer: Answer) -> Reply
         Answer::ShortOutput { needed } => refusal(14, 0, needed),
         Answer::TooManyChoices { empties } => refusal(15, 0, empties),
         Answer::NoChoice { tried } => refusal(16, 0, tried),
+        Answer::WrongShape { line, item } => refusal(17, line, item),
+        Answer::WrongName { line, item } => refusal(18, line, item),
+        Answer::WrongId { line } => refusal(19, line, 0),
     }
 }
 

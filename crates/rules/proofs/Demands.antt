@@ -9,7 +9,7 @@ use native.Mathlib.Decide.{decLe}
 use native.Mathlib.Nat.{lt-of-not-le}
 use lib.ListN.{length}
 use Rattle.rules.specs.declared.Answer.{Answer}
-use Rattle.rules.specs.declared.Answer.the-variants.{Accepted, ShortList, LongText, Unreadable, OutOfRange, Inapplicable, WrongNode, TooDeep, WrongClaim, Unclaimed, OrderBroken, BeforeBroken, AfterBroken, BetweenBroken, ShortOutput, TooManyChoices, NoChoice}
+use Rattle.rules.specs.declared.Answer.the-variants.{Accepted, ShortList, LongText, Unreadable, OutOfRange, Inapplicable, WrongNode, TooDeep, WrongClaim, Unclaimed, OrderBroken, BeforeBroken, AfterBroken, BetweenBroken, ShortOutput, TooManyChoices, NoChoice, WrongShape, WrongName, WrongId}
 use Rattle.rules.specs.Result.{Result, found, refused, _>>=_, _>>_}
 use Rattle.rules.specs.Case.{L, Case, readCase}
 use Rattle.rules.specs.Tree.{Tree, isIn, mayClaim, levelCount}
@@ -75,6 +75,9 @@ Settles (BetweenBroken l i) = Unit {0}
 Settles (ShortOutput i) = Unit {0}
 Settles (TooManyChoices i) = Unit {0}
 Settles (NoChoice i) = Unit {0}
+Settles (WrongShape l i) = Unit {0}
+Settles (WrongName l i) = Unit {0}
+Settles (WrongId l) = Unit {0}
 
 -- A settled answer has passed rows 1 and 2.
 settled-admits : (lists : List Lent) (text : List ℕ) → Settles (answerOf (check lists text)) → Each LongEnough lists × (length text ≤ textMost)

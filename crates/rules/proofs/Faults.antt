@@ -8,7 +8,7 @@ use lib.ListN.{length, replicate}
 use borrow.Author.Tests.{ltb-true}
 use Rattle.rules.specs.declared.Header.{Header}
 use Rattle.rules.specs.declared.Answer.{Answer}
-use Rattle.rules.specs.declared.Answer.the-variants.{Accepted, ShortList, LongText, Unreadable, OutOfRange, Inapplicable, WrongNode, TooDeep, WrongClaim, Unclaimed, OrderBroken, BeforeBroken, AfterBroken, BetweenBroken, ShortOutput, TooManyChoices, NoChoice}
+use Rattle.rules.specs.declared.Answer.the-variants.{Accepted, ShortList, LongText, Unreadable, OutOfRange, Inapplicable, WrongNode, TooDeep, WrongClaim, Unclaimed, OrderBroken, BeforeBroken, AfterBroken, BetweenBroken, ShortOutput, TooManyChoices, NoChoice, WrongShape, WrongName, WrongId}
 use Rattle.rules.specs.Table.{Role, header, initial, action, method, constraint, plan, node, Value, LineRead, line, readLine}
 use Rattle.rules.specs.Result.{Result, found, refused, _>>=_, _>>_}
 use Rattle.rules.specs.Case.{Case, Valued, scalarAt, headerOf, initialOf, actionOf, asConstraint, planOf, asNode, Read, readAs, oneLine, many, oneMethod, readBody, noHeader, readFrom, noSurplus, readCase}
@@ -39,6 +39,9 @@ FaultSays text (BetweenBroken l c) = ⊥
 FaultSays text (ShortOutput i) = ⊥
 FaultSays text (TooManyChoices i) = ⊥
 FaultSays text (NoChoice i) = ⊥
+FaultSays text (WrongShape l i) = ⊥
+FaultSays text (WrongName l i) = ⊥
+FaultSays text (WrongId l) = ⊥
 
 abbrev pub CaseSays : List ℕ → Result Case → Type 0
 CaseSays text (found k) = Unit {0}

@@ -6,7 +6,7 @@ use mathlib.Core.List.{List, [], _∷_}
 use Prim.Native.Nat.{ℕ}
 use lib.Dec.{eqb}
 use Rattle.rules.specs.declared.Answer.{Answer}
-use Rattle.rules.specs.declared.Answer.the-variants.{Accepted, ShortList, LongText, Unreadable, OutOfRange, Inapplicable, WrongNode, TooDeep, WrongClaim, Unclaimed, OrderBroken, BeforeBroken, AfterBroken, BetweenBroken, ShortOutput, TooManyChoices, NoChoice}
+use Rattle.rules.specs.declared.Answer.the-variants.{Accepted, ShortList, LongText, Unreadable, OutOfRange, Inapplicable, WrongNode, TooDeep, WrongClaim, Unclaimed, OrderBroken, BeforeBroken, AfterBroken, BetweenBroken, ShortOutput, TooManyChoices, NoChoice, WrongShape, WrongName, WrongId}
 use Rattle.rules.specs.Verdict.{Report, reported}
 
 -- "No.", and the answer that has it.
@@ -29,6 +29,9 @@ numbers r =
     ∷ (14, ShortOutput (r .item))
     ∷ (15, TooManyChoices (r .item))
     ∷ (16, NoChoice (r .item))
+    ∷ (17, WrongShape (r .line) (r .item))
+    ∷ (18, WrongName (r .line) (r .item))
+    ∷ (19, WrongId (r .line))
     ∷ []
 
 abbrev numbered : ℕ → List (ℕ × Answer) → Answer
@@ -57,6 +60,9 @@ answered-reported (BetweenBroken l i) = refl
 answered-reported (ShortOutput i) = refl
 answered-reported (TooManyChoices i) = refl
 answered-reported (NoChoice i) = refl
+answered-reported (WrongShape l i) = refl
+answered-reported (WrongName l i) = refl
+answered-reported (WrongId l) = refl
 
 pub reported-one : (a b : Answer) → reported a ≡ reported b → a ≡ b
 reported-one a b e = sym (answered-reported a) ∙ ap answered e ∙ answered-reported b

@@ -22,6 +22,10 @@ pub mod Demands
 -- The calls that the cards add, each in a file of its own.
 pub mod Writing
 pub mod Gaps
+pub mod Tokens
+pub mod Naming
+pub mod Form
+pub mod Import
 -- The program's line, and 01's ten panel cases.
 pub mod Line
 pub mod Panel

@@ -7,7 +7,7 @@ use Prim.Native.Nat.{ℕ, _+_, _-_, _*_, _/_, _%_, _<_}
 use lib.Dec.{eqb, ltb}
 use lib.ListN.{length, getD, replicate}
 use Rattle.rules.specs.declared.Answer.{Answer}
-use Rattle.rules.specs.declared.Answer.the-variants.{Accepted, ShortList, LongText, Unreadable, OutOfRange, Inapplicable, WrongNode, TooDeep, WrongClaim, Unclaimed, OrderBroken, BeforeBroken, AfterBroken, BetweenBroken, ShortOutput, TooManyChoices, NoChoice}
+use Rattle.rules.specs.declared.Answer.the-variants.{Accepted, ShortList, LongText, Unreadable, OutOfRange, Inapplicable, WrongNode, TooDeep, WrongClaim, Unclaimed, OrderBroken, BeforeBroken, AfterBroken, BetweenBroken, ShortOutput, TooManyChoices, NoChoice, WrongShape, WrongName, WrongId}
 use Rattle.rules.specs.declared.Node.{Node}
 use Rattle.rules.specs.State.{State, wordCount, bit, member, states, stateAt, firstStop}
 use Rattle.rules.specs.Index.{Span}
@@ -49,6 +49,11 @@ reported (ShortOutput needed) = refusal 14 0 needed
 -- "15, that power is over 1,000,000 [..] item e; 16, none, given last, item the number tried; both with line 0" (02, Card 4)
 reported (TooManyChoices empties) = refusal 15 0 empties
 reported (NoChoice tried) = refusal 16 0 tried
+-- "17, line missing, surplus [..] or of another shape"; "18, a name not listed for that use [..]"; "19, first line that defines [..]": "each with
+-- the line, item 1 in the name list, else 0" (02, Card 6)
+reported (WrongShape line item) = refusal 17 line item
+reported (WrongName line item) = refusal 18 line item
+reported (WrongId line) = refusal 19 line 0
 
 -- ---- Row by row
 

@@ -43,6 +43,9 @@ pub enum Answer {
     ShortOutput { needed: u32 },
     TooManyChoices { empties: u32 },
     NoChoice { tried: u32 },
+    WrongShape { line: u32, item: u32 },
+    WrongName { line: u32, item: u32 },
+    WrongId { line: u32 },
 }
 
 // What a condition asks of a proposition in a state: that it be true, or that it be false (02, Card 1).

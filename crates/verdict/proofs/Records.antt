@@ -12,7 +12,7 @@ use Prim.Native.Nat.{ℕ, _+_, _-_, _≤_, _<_}
 use native.Mathlib.Omega.{arith}
 use lib.ListN.{replicate}
 use Rattle.rules.specs.declared.Answer.{Answer}
-use Rattle.rules.specs.declared.Answer.the-variants.{Accepted, ShortList, LongText, Unreadable, OutOfRange, Inapplicable, WrongNode, TooDeep, WrongClaim, Unclaimed, OrderBroken, BeforeBroken, AfterBroken, BetweenBroken, ShortOutput, TooManyChoices, NoChoice}
+use Rattle.rules.specs.declared.Answer.the-variants.{Accepted, ShortList, LongText, Unreadable, OutOfRange, Inapplicable, WrongNode, TooDeep, WrongClaim, Unclaimed, OrderBroken, BeforeBroken, AfterBroken, BetweenBroken, ShortOutput, TooManyChoices, NoChoice, WrongShape, WrongName, WrongId}
 use Rattle.rules.specs.Result.{found, refused}
 use Rattle.rules.specs.Case.{Case}
 use Rattle.rules.specs.Tree.{Tree}
@@ -43,6 +43,9 @@ no-records (BetweenBroken l i) h = refl
 no-records (ShortOutput i) h = refl
 no-records (TooManyChoices i) h = refl
 no-records (NoChoice i) h = refl
+no-records (WrongShape l i) h = refl
+no-records (WrongName l i) h = refl
+no-records (WrongId l) h = refl
 
 refused-none : (s n w : ℕ) (text : List ℕ) (r : Answer) → CheckSays (checkLists s n w) text (refused r) → reported r .nodes ≡ 0
 unfolding reported

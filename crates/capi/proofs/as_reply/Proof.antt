@@ -112,6 +112,24 @@ enum-known-answer-16 c = search needs
 refusal-requires-16 : tie.Need-refusal-requires-16
 refusal-requires-16 c κs = search needs
 
+enum-known-answer-17 : tie.Need-enum-known-answer-17
+enum-known-answer-17 c = search needs
+
+refusal-requires-17 : tie.Need-refusal-requires-17
+refusal-requires-17 c κs = search needs
+
+enum-known-answer-18 : tie.Need-enum-known-answer-18
+enum-known-answer-18 c = search needs
+
+refusal-requires-18 : tie.Need-refusal-requires-18
+refusal-requires-18 c κs = search needs
+
+enum-known-answer-19 : tie.Need-enum-known-answer-19
+enum-known-answer-19 c = search needs
+
+refusal-requires-19 : tie.Need-refusal-requires-19
+refusal-requires-19 c κs = search needs
+
 returns : tie.Need-returns
 unfolding reported
 returns c = sym (ap reported (c .before .answer .given .1))
@@ -180,6 +198,18 @@ returns-17 : tie.Need-returns-17
 unfolding reported
 returns-17 c = told _ _ _ (c .before .before .answer16 .given .1) (c .refusal16 .ensures)
 
+returns-18 : tie.Need-returns-18
+unfolding reported
+returns-18 c = told _ _ _ (c .before .before .answer17 .given .1) (c .refusal17 .ensures)
+
+returns-19 : tie.Need-returns-19
+unfolding reported
+returns-19 c = told _ _ _ (c .before .before .answer18 .given .1) (c .refusal18 .ensures)
+
+returns-20 : tie.Need-returns-20
+unfolding reported
+returns-20 c = told _ _ _ (c .before .before .answer19 .given .1) (c .refusal19 .ensures)
+
 pub as-reply-spec : {M : Type 1} → statement M
 as-reply-spec =
     tie.close
@@ -217,6 +247,12 @@ as-reply-spec =
     refusal-requires-15
     enum-known-answer-16
     refusal-requires-16
+    enum-known-answer-17
+    refusal-requires-17
+    enum-known-answer-18
+    refusal-requires-18
+    enum-known-answer-19
+    refusal-requires-19
     returns
     returns-2
     returns-3
@@ -233,4 +269,7 @@ as-reply-spec =
     returns-14
     returns-15
     returns-16
-    returns-17)
+    returns-17
+    returns-18
+    returns-19
+    returns-20)

@@ -207,6 +207,9 @@ module _ (lists : List Lent) (text : List ℕ) where
       unread-shows a (Answer.ShortOutput i) f = absurd f
       unread-shows a (Answer.TooManyChoices i) f = absurd f
       unread-shows a (Answer.NoChoice i) f = absurd f
+      unread-shows a (Answer.WrongShape line i) f = absurd f
+      unread-shows a (Answer.WrongName line i) f = absurd f
+      unread-shows a (Answer.WrongId line) f = absurd f
 
       reading : Admits lists text → (r : Result Case) → readCase text ≡ r → CaseSays text r → CheckSays lists text (r >>= λ k. fromRun fromTree k)
       reading a (found k) e s = run-says k a e
