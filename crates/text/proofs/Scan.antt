@@ -79,10 +79,10 @@ continued-large v here f h =
 pub continued-over : (v here : ℕ) → v ≤ 4294967295 → continued v here [] ≡ number v here
 continued-over v here h = rw (le-leb v 4294967295 h, add-zero here)
 
-continued-digit : (v here b : ℕ) (f : List ℕ) → isDigit b ≡ true → continued v here (b ∷ f) ≡ continued (v * 10 + (b - 48)) (here + 1) f
+pub continued-digit : (v here b : ℕ) (f : List ℕ) → isDigit b ≡ true → continued v here (b ∷ f) ≡ continued (v * 10 + (b - 48)) (here + 1) f
 continued-digit v here b f d = let same : here + suc (length f) ≡ here + 1 + length f = omega arith in rw (d, same)
 
-continued-other : (v here b : ℕ) (f : List ℕ) → isDigit b ≡ false → continued v here (b ∷ f) ≡ notPlain
+pub continued-other : (v here b : ℕ) (f : List ℕ) → isDigit b ≡ false → continued v here (b ∷ f) ≡ notPlain
 continued-other v here b f d = rw d
 
 module _ (v here b : ℕ) (bs : List ℕ) where
@@ -111,17 +111,17 @@ unfolding isPlain
 first-none from = refl
 
 module _ (from b : ℕ) where
-  first-wrong : (f : List ℕ) → isDigit b ≡ false → numberIn from (b ∷ f) ≡ notPlain
+  pub first-wrong : (f : List ℕ) → isDigit b ≡ false → numberIn from (b ∷ f) ≡ notPlain
   unfolding isPlain
   first-wrong [] d = number-accepted from (b ∷ []) ∙ rw d
   first-wrong (c ∷ f) d = number-accepted from (b ∷ c ∷ f) ∙ rw d
 
-  first-zero : (f : List ℕ) → isDigit b ≡ true → b ≡ 48 → numberIn from (b ∷ f) ≡ closed 0 (from + 1) f
+  pub first-zero : (f : List ℕ) → isDigit b ≡ true → b ≡ 48 → numberIn from (b ∷ f) ≡ closed 0 (from + 1) f
   unfolding isPlain
   first-zero [] d e = number-accepted from (b ∷ []) ∙ rw (d, e)
   first-zero (c ∷ f) d e = number-accepted from (b ∷ c ∷ f) ∙ rw (d, eq-eqb b 48 e)
 
-  first-digit : (f : List ℕ) → isDigit b ≡ true → (b ≡ 48 → ⊥) → numberIn from (b ∷ f) ≡ continued (0 * 10 + (b - 48)) (from + 1) f
+  pub first-digit : (f : List ℕ) → isDigit b ≡ true → (b ≡ 48 → ⊥) → numberIn from (b ∷ f) ≡ continued (0 * 10 + (b - 48)) (from + 1) f
   unfolding isPlain
   first-digit [] d n =
       number-accepted from (b ∷ [])

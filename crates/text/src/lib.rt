@@ -44,13 +44,13 @@ fn ends_field(b: u8) -> bool
     if b == b',' { true } else { b == b'\n' }
 }
 
-fn is_digit(b: u8) -> bool
+pub fn is_digit(b: u8) -> bool
     ensures { λ r. ⌜ r ≡ isDigit b ⌝ }
 {
     if b'0' <= b { b <= b'9' } else { false }
 }
 
-fn digit_value(b: u8) -> u64
+pub fn digit_value(b: u8) -> u64
     requires { ⌜ isDigit b ≡ true ⌝ }
     ensures { λ r. ⌜ r ≡ b - 48 ⌝ }
 {
