@@ -11,7 +11,7 @@ use borrow.Author.Tests.{lt-ltb, le-ltb}
 use lib.ListN.{length, getD, set}
 use lib.Seq.{getD-set-same, getD-set-other}
 use Rattle.probing.specs.declared.Look.{Look}
-use Rattle.probing.specs.declared.Look.the-variants.{Empty, Same, Other}
+use Rattle.probing.specs.declared.Look.the-variants.{Empty, Other}
 use Rattle.probing.specs.declared.Walk.{Walk}
 use Rattle.probing.specs.declared.Walk.the-variants.{Hit, Free, Full}
 use Rattle.probing.specs.declared.Found.the-variants.{Nothing}

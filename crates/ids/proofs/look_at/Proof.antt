@@ -1,7 +1,6 @@
 -- `ids::look_at` meets its contract. Assumes nothing.
 use lib.ListN.{getD}
 use mathlib.Core.Bool.{true, false}
-use native.Mathlib.Omega.{arith}
 use borrow.Author.Tests.{eq-eqb, ne-eqb}
 use Rattle.probing.proofs.Walks.{look-empty, look-taken}
 use Rattle.ids.specs.Ids.{sameId}
