@@ -13,6 +13,7 @@ use probing::Walk;
 // How many slots the table has: for at most 2,048 names of a use, so that at least half of them stay free.
 pub const SLOTS: usize = 4096;
 
+// A byte as a number of 64 bits: its own function, so that the loop below asks nothing of the cast.
 fn wide(b: u8) -> u64
     ensures { λ r. ⌜ r ≡ b ⌝ }
 {
