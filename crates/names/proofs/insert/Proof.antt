@@ -1,0 +1,135 @@
+-- `names::insert` meets its contract. Assumes nothing.
+use mathlib.Core.Path.{sym, _∙_}
+use Prim.Native.Nat.{_+_}
+use native.Mathlib.Omega.{arith}
+use borrow.Author.Needs.{needs, scaled-fits}
+use lib.ListN.{length}
+use Rattle.names.proofs.Keys.{name-puts}
+use Rattle.names.proofs.insert.Statement.{statement}
+use Rattle.names.proofs.insert.Tie as tie
+
+mul-from : tie.Need-mul-from
+mul-from c = search needs
+
+shared-slice-read-from : tie.Need-shared-slice-read-from
+shared-slice-read-from c = search needs
+
+mul-to : tie.Need-mul-to
+mul-to c = search needs
+
+shared-slice-read-to : tie.Need-shared-slice-read-to
+shared-slice-read-to c = search needs
+
+sub-walk-to : tie.Need-sub-walk-to
+sub-walk-to c =
+    let s = c .before .before .before .before .before .before .before in
+    let order = s .pre .3 .order (s .args .count) (s .pre .2) in
+    let inside = s .pre .3 .inside (s .args .count) (s .pre .2) in
+    search needs
+
+part-walk-to-start : tie.Need-part-walk-to-start
+part-walk-to-start c =
+    let s = c .before .before .before .before .before .before .before in
+    let order = s .pre .3 .order (s .args .count) (s .pre .2) in
+    let inside = s .pre .3 .inside (s .args .count) (s .pre .2) in
+    search needs
+
+part-walk-to-end : tie.Need-part-walk-to-end
+part-walk-to-end c =
+    let s = c .before .before .before .before .before .before .before in
+    let order = s .pre .3 .order (s .args .count) (s .pre .2) in
+    let inside = s .pre .3 .inside (s .args .count) (s .pre .2) in
+    search needs
+
+walk-to-requires : tie.Need-walk-to-requires
+walk-to-requires c κs = let s = c .before .before .before .before .before .before .before .before in (s .pre .0, s .pre .3, λ i. omega (arith, s .pre .4 .low i))
+
+enum-known-e : tie.Need-enum-known-e
+enum-known-e c = search needs
+
+enum-known-p : tie.Need-enum-known-p
+enum-known-p c = search needs
+
+add-slots : tie.Need-add-slots
+add-slots c = search needs
+
+cast-slots : tie.Need-cast-slots
+cast-slots c = search needs
+
+mul-slots : tie.Need-mul-slots
+mul-slots c =
+    let w = c .before .before .before in
+    let s = w .before .before .before .before .before .before .before .before .before in
+    let a = s .args in
+    let x = c .before .p .given in
+    let in-table = name-puts (a .text .now) (a .starts .now) (a .ends .now) (a .slots .now) (a .count) (s .pre .0) (s .pre .4) .spot (x .0 .0) (sym (x .1) ∙ w .walk-to .ensures) in
+    scaled-fits (x .0 .0) (length (a .slots .now)) 4 in-table (s .good .1 .1 .1 .0 .1)
+
+slice-write-slots : tie.Need-slice-write-slots
+slice-write-slots c =
+    let w = c .before .before .before in
+    let s = w .before .before .before .before .before .before .before .before .before in
+    let a = s .args in
+    let x = c .before .p .given in
+    name-puts (a .text .now) (a .starts .now) (a .ends .now) (a .slots .now) (a .count) (s .pre .0) (s .pre .4) .spot (x .0 .0) (sym (x .1) ∙ w .walk-to .ensures)
+
+enum-told : tie.Need-enum-told
+enum-told c = search needs
+
+same-length : tie.Need-same-length
+same-length c = search needs
+
+returns : tie.Need-returns
+returns c =
+    let w = c .before .before .before in
+    let s = w .before .before .before .before .before .before .before .before .before in
+    let a = s .args in
+    let x = c .before .e .given in
+    name-puts (a .text .now) (a .starts .now) (a .ends .now) (a .slots .now) (a .count) (s .pre .0) (s .pre .4) .hit (x .0 .0) (sym (x .1) ∙ w .walk-to .ensures)
+
+same-length-2 : tie.Need-same-length-2
+same-length-2 c = search needs
+
+returns-2 : tie.Need-returns-2
+returns-2 c =
+    let w = c .before .before .before in
+    let s = w .before .before .before .before .before .before .before .before .before in
+    let a = s .args in
+    let x = c .before .p .given in
+    name-puts (a .text .now) (a .starts .now) (a .ends .now) (a .slots .now) (a .count) (s .pre .0) (s .pre .4) .free (x .0 .0) (a .count + 1) (sym (x .1) ∙ w .walk-to .ensures) (omega arith)
+
+same-length-3 : tie.Need-same-length-3
+same-length-3 c = search needs
+
+returns-3 : tie.Need-returns-3
+returns-3 c =
+    let w = c .before .before in
+    let s = w .before .before .before .before .before .before .before .before .before in
+    let a = s .args in
+    absurd (name-puts (a .text .now) (a .starts .now) (a .ends .now) (a .slots .now) (a .count) (s .pre .0) (s .pre .4) .full (omega arith) (sym (c .enum-told .given .1) ∙ w .walk-to .ensures))
+
+pub insert-spec : {M : Type 1} → statement M
+insert-spec =
+    tie.close
+    (tie.spec
+    mul-from
+    shared-slice-read-from
+    mul-to
+    shared-slice-read-to
+    sub-walk-to
+    part-walk-to-start
+    part-walk-to-end
+    walk-to-requires
+    enum-known-e
+    enum-known-p
+    add-slots
+    cast-slots
+    mul-slots
+    slice-write-slots
+    enum-told
+    same-length
+    returns
+    same-length-2
+    returns-2
+    same-length-3
+    returns-3)
