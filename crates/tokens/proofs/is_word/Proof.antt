@@ -25,8 +25,7 @@ abbrev μ-loop : tie.MeasureT-loop
 loop-holds : tie.Need-loop-holds Inv-loop μ-loop
 loop-holds c =
     let s = c .before .before in
-    let here : s .args .from ≡ s .args .from + 0 = omega arith in
-    (
+    let here : s .args .from ≡ s .args .from + 0 = omega arith in (
       omega arith,
       ap (feedFollows (s .args .text .now)) (sym here) ∙ s .pre .1,
       ap (λ (p : ℕ). sameBytes (pieceFrom (s .args .separator) (s .args .text .now) p) (s .args .word .now)) here,
@@ -69,14 +68,13 @@ loop-again c =
     let l = c .before .before .before .before .loop in
     let a = s .args in
     let more = c .before .before .before .loop-test .taken in
-    let on : a .from + l .i + 1 ≡ a .from + (l .i + 1) = omega arith in
-    (
+    let on : a .from + l .i + 1 ≡ a .from + (l .i + 1) = omega arith in (
       omega arith,
       ap (feedFollows (a .text .now)) (sym on)
-      ∙ word-feeds (a .separator) (a .text .now) (a .from + l .i) (l .inv .1) (a .word .now) (l .i) (s .pre .0) more (c .if1 .left),
+          ∙ word-feeds (a .separator) (a .text .now) (a .from + l .i) (l .inv .1) (a .word .now) (l .i) (s .pre .0) more (c .if1 .left),
       l .inv .2
-      ∙ (word-next (a .separator) (a .text .now) (a .from + l .i) (l .inv .1) (a .word .now) (l .i) (s .pre .0) more (c .if1 .left)
-      ∙ ap (λ (p : ℕ). sameBytes (pieceFrom (a .separator) (a .text .now) p) (drop (l .i + 1) (a .word .now))) on),
+          ∙ (word-next (a .separator) (a .text .now) (a .from + l .i) (l .inv .1) (a .word .now) (l .i) (s .pre .0) more (c .if1 .left)
+          ∙ ap (λ (p : ℕ). sameBytes (pieceFrom (a .separator) (a .text .now) p) (drop (l .i + 1) (a .word .now))) on),
     )
 
 add-ends-piece : tie.Need-add-ends-piece Inv-loop μ-loop

@@ -46,8 +46,7 @@ loop-again c =
     let l = c .before .before .before .loop in
     let s = c .before .before .before .before .before in
     let a = s .args in
-    let e = sym (c .before .in-name .ensures) ∙ c .if1 .taken in
-    (
+    let e = sym (c .before .in-name .ensures) ∙ c .if1 .taken in (
       inner-feeds (a .separator) (a .text .now) (l .at) (l .inv .0) (name-stays (a .separator) (getD (a .text .now) (l .at) 0) (s .pre .0) e),
       l .inv .1 ∙ name-on (a .separator) (a .text .now) (a .from) (l .at) (l .inv .0) (s .pre .0) e,
     )
