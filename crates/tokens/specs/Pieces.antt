@@ -4,8 +4,8 @@ use mathlib.Core.Bool.{Bool, true, false, _||_}
 use mathlib.Core.List.{List, [], _∷_}
 use Prim.Native.Nat.{ℕ, _+_}
 use lib.Dec.{eqb}
-use lib.ListN.{length, drop}
-use Rattle.rules.specs.Text.{isFeed, Number, number, notPlain, missing}
+use lib.ListN.{length, getD, drop}
+use Rattle.rules.specs.Text.{isFeed, Number, number, notPlain, missing, numberIn, feedFollows}
 use Rattle.rules.specs.Tokens.{allInName}
 use Rattle.tokens.specs.declared.Plain.{Plain}
 use Rattle.tokens.specs.declared.Plain.the-variants.{Number as PlainNumber, Other}
@@ -34,3 +34,11 @@ asPlain missing = Other
 -- Where the piece ends that starts here, if all its bytes are a name's; or else here. An empty piece, which is no name, ends here too.
 abbrev pub nameEnd : ℕ → List ℕ → ℕ
 nameEnd from piece = elim (allInName piece) [ true ↦ from + length piece | false ↦ from ]
+
+-- From a place on a line goes on with these numbers, a space ahead of each, and then it ends.
+abbrev pub Spells : List ℕ → ℕ → List ℕ → Type 0
+Spells text at [] = (feedFollows text at ≡ true) × (getD text at 0 ≡ 10)
+Spells text at (v ∷ vs) =
+    (feedFollows text at ≡ true)
+    × (getD text at 0 ≡ 32)
+    × ((next : ℕ) × (numberIn (at + 1) (pieceFrom 32 text (at + 1)) ≡ number v next) × Spells text next vs)

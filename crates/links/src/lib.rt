@@ -1,0 +1,1 @@
+// The ids of a form's lines (02, Card 6).
