@@ -347,11 +347,11 @@ abbrev madeIn : Found (Tree × List ℕ) → List ℕ
 madeIn (seen (k, (t, made))) = made
 madeIn (refused r) = []
 
+abbrev shown : Found (Tree × List ℕ) → List ℕ × List ℕ × List ℕ
+shown f = (printedAnswer (answerOf f), madeIn f, gapsIn f)
+
 abbrev Imports : List Imported → Type 0
-Imports cases =
-    (map (λ i. printedAnswer (answerOf (imported i))) cases ≡ map (λ i. textOf (i .answer ∷ [])) cases)
-    × (map (λ i. madeIn (imported i)) cases ≡ map (λ i. textOf (i .made)) cases)
-    × (map (λ i. gapsIn (imported i)) cases ≡ map (λ i. i .gaps) cases)
+Imports cases = map (λ i. shown (imported i)) cases ≡ map (λ i. (textOf (i .answer ∷ []), textOf (i .made), i .gaps)) cases
 
 -- "that power is over 1,000,000": 10 to the power 6 is not.
 abbrev AtMostMillion : Type 0
@@ -374,4 +374,4 @@ NeedsStates = (stateNeed ≡ 8008) × (withStates 8007 caseA ≡ textOf ("R,1,0,
 -- Each case is answered as 01 prints it; "a. [..] doubled spans 1-4, 1-1, 2-2, 4-4"; and as Cards 1 to 6 have it.
 pub answers : Answered table × (spansOf (checked caseA) ≡ doubled 1 4 ∷ doubled 1 1 ∷ doubled 2 2 ∷ doubled 4 4 ∷ []) × Answered signedTable × Puts writtenTable × Answered wideTable × NeedsStates × Seeks soughtTable × AtMostMillion × Steps steppedTable × Imports importedTable
 unfolding St.wordCount St.propositionMost St.bit St.member St.noPropositions St.insert St.without St.appliesWord St.applies St.nextWord St.next St.step St.quiet St.touched St.computed St.noAction St.actionAt St.states St.stateAt St.firstStop Ix.ofCue Ix.ofGap Ix.at Ix.least Ix.greatest Ix.hull Ix.partOf Ix.only Ix.pick Ix.spanOfPart Ix.roundedUp Ix.roundedDown Ix.c Ix.f Ix.isBefore Tx.isFeed Tx.isComma Tx.isDigit Tx.endsField Tx.isPlain Tx.numberAt Tx.letterAt Tx.endingAt Tx.feedFollows Tb.table Tb.rowOf Tb.roleNumber Tb.isCompound Tb.inRange Tb.readList Tb.readItem Tb.readLine Ca.noMethod Ca.methodAt Ca.scalarAt Ca.membersAt Ca.setAt Ca.headerOf Ca.initialOf Ca.actionOf Ca.signOf Ca.constraintOf Ca.asConstraint Ca.planOf Ca.nodeOf Ca.asNode Ca.oneLine Ca.oneMethod Ca.noSurplus Ca.readBody Ca.noHeader Ca.readFrom Ca.readCase Tr.preorder Tr.preorders Tr.rootLine Tr.span Tr.spans Tr.subtaskSpans Tr.noSubtasks Tr.isMethodOf Tr.fits Tr.isIn Tr.mayClaim Tr.walkNode Tr.levelCount Tr.walkTree Co.signed Co.holdsIn Co.holdsFrom Co.keeps Co.constraintsOf Co.partsOf Co.brokenAt Co.firstBroken Ve.reported De.asAsked Ve.stateNeed Ve.nodeNeed Ve.workNeed Ve.checkLists Ve.statesOf Ve.planRuns Ve.allClaimed Ve.noneBroken Ve.textMost Ve.check Tx.decimal Li.printedAnswer Fi.lineFields Fi.propositionsOf Fi.headerLine Fi.initialLine Fi.actionLine Fi.constraintLine Fi.methodLines Fi.cuesLine Fi.nodeLine Fi.linesOf Fi.planLineOf Pr.lineText Pr.printed Wr.rank Wr.sortKey Wr.precedes Wr.sorted Wr.tidiedMethod Wr.tidied Wr.written Wr.outputLong Wr.write Ga.power Ga.caseWith Ga.textWith Ga.choiceCount Ga.choiceMost Ga.fewChoices Ga.beforeChoices Ga.findGaps To.dueLine To.noMore To.isSpace To.wordsOf To.inName To.idOf Na.listedAt Na.notAgain Na.readNames Fo.openingWord Fo.rootWord Fo.arrowWord Fo.closingWord Fo.actionNamed Fo.compoundNamed Fo.suits Fo.methodNamed Fo.formLineMost Fo.frontLine Fo.backLine Fo.bothNamed Fo.readForm Fo.formLines Fo.allDefined Fo.allUsed Fo.isReached Fo.isWrong Fo.wrongLine Fo.idsRight Im.madeNodes Im.madeHeader Im.madeCase Im.madeFrom Im.importForm flatten
-answers = (refl, refl, refl, (refl, refl), refl, (refl, refl, refl), (refl, refl), (refl, refl), (refl, refl), (refl, refl, refl))
+answers = (refl, refl, refl, (refl, refl), refl, (refl, refl, refl), (refl, refl), (refl, refl), (refl, refl), refl)
