@@ -26,3 +26,5 @@ pub mod Demands
 pub mod Writing
 -- The promises of the find-the-gaps call: the text with other gaps, and the first choice that would be accepted.
 pub mod Gaps
+-- The promises of the import call: the ids that a form reaches, and the tree that is found.
+pub mod Import

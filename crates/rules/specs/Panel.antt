@@ -1,5 +1,5 @@
 -- The ten panel cases (01, "Panel cases"): text and answer of each, in one table under one lemma; and beside them cases of Cards 1
--- to 5 of 02.
+-- to 6 of 02.
 -- Assumes nothing.
 use mathlib.Core.Path.{_≡_, refl}
 use mathlib.Core.Bool.{Bool, true, false}
@@ -21,6 +21,10 @@ use Rattle.rules.specs.Fields as Fi
 use Rattle.rules.specs.Print as Pr
 use Rattle.rules.specs.Writing as Wr
 use Rattle.rules.specs.Gaps as Ga
+use Rattle.rules.specs.Tokens as To
+use Rattle.rules.specs.Naming as Na
+use Rattle.rules.specs.Form as Fo
+use Rattle.rules.specs.Import as Im
 use Rattle.rules.specs.Line as Li
 use Rattle.rules.specs.Index.{Span}
 use Rattle.rules.specs.Tree.{Tree, preorder, span}
@@ -29,6 +33,7 @@ use Rattle.rules.specs.Verdict.{Found, stateNeed, nodeNeed, workNeed, ch
 use Rattle.rules.specs.Demands.{asAsked}
 use Rattle.rules.specs.Writing.{written, write}
 use Rattle.rules.specs.Gaps.{power, gapsOf, choiceMost, findGaps}
+use Rattle.rules.specs.Import.{importForm}
 use Rattle.rules.specs.Line.{printedAnswer}
 
 -- The bytes of a text of characters below 128.
@@ -223,6 +228,76 @@ steppedTable =
     ∷ steps (0 ∷ 0 ∷ 0 ∷ 0 ∷ 0 ∷ 0 ∷ 0 ∷ 0 ∷ []) (0 ∷ 0 ∷ 0 ∷ 0 ∷ 0 ∷ 0 ∷ 0 ∷ 0 ∷ []) (0 ∷ 0 ∷ 0 ∷ 0 ∷ 0 ∷ 0 ∷ 0 ∷ 0 ∷ []) (1 ∷ 1 ∷ 1 ∷ 1 ∷ 1 ∷ 1 ∷ 1 ∷ 1 ∷ []) (0 ∷ 0 ∷ 0 ∷ 0 ∷ 0 ∷ 0 ∷ 0 ∷ 0 ∷ []) true (1 ∷ 1 ∷ 1 ∷ 1 ∷ 1 ∷ 1 ∷ 1 ∷ 1 ∷ []) 255
     ∷ []
 
+-- Card 6. A case, a name list and a form, the length of the output lent, the number of choices tried; the answer, the text that is made, and
+-- the gaps that are found.
+pub record Imported : Type 0 where
+  pub lines : List String
+  pub names : List String
+  pub form : List ℕ
+  pub room : ℕ
+  pub tried : ℕ
+  pub answer : String
+  pub made : List String
+  pub gaps : List ℕ
+
+-- What is made and found is said of one that is accepted.
+abbrev imports : List String → List String → List ℕ → ℕ → String → List String → List ℕ → Imported
+imports lines names form tried answer made gaps =
+    record { lines = lines; names = names; form = form; room = 400; tried = tried; answer = answer; made = made; gaps = gaps }
+
+abbrev turnsDown : List String → List String → List ℕ → ℕ → String → Imported
+turnsDown lines names form room answer =
+    record { lines = lines; names = names; form = form; room = room; tried = 3; answer = answer; made = []; gaps = [] }
+
+-- The panel's names, but for those of task 2 and of method 0.
+abbrev listing : String → String → List String
+listing take whole = "0,convert" ∷ "1,load" ∷ take ∷ "3,panel" ∷ "4,in-km/h" ∷ whole ∷ "1,by-convert" ∷ "2,as-is" ∷ []
+
+abbrev named : List String
+named = listing "2,take" "0,whole"
+
+-- A form that begins with the line of load.
+abbrev formOf : List String → List ℕ
+formOf lines = textOf ("==>" ∷ "1 load" ∷ lines ++ ("<==" ∷ []))
+
+-- Its other lines for panel case a: take; the root; panel; "in km/h".
+abbrev others : String → String → String → List String
+others take root whole = take ∷ root ∷ whole ∷ "3 in-km/h -> as-is" ∷ []
+
+abbrev formA : List ℕ
+formA = formOf (others "2 take" "root 0" "0 panel -> whole 3 1 2")
+
+-- Panel case a; one like it for which gap 1 is the first that is accepted; one for which none is.
+abbrev panelA : List String
+panelA = caseA .lines
+
+abbrev secondGap : List String
+secondGap = panelAt "I,0" "A,0,0,2,0,1,0" "E,2,0"
+
+abbrev noGap : List String
+noGap = panelAt "I,0" "A,0,0,1,1,0" "E,2,0"
+
+-- The case's own plan and nodes are replaced; compound lines in another order; the gap found is 1, the text keeps 0; 16. Then 17 and 18 in the
+-- name list; two spaces; no last line feed; a name of another use; two subtasks for three; 19 in four ways; 14 ahead of 16.
+abbrev pub importedTable : List Imported
+importedTable =
+    imports (panel "N,3,3,2,3,3,0,1" "I,1,0" "P" ("D,0" ∷ []) "" .lines) named formA 1 "Y,2,4" panelA (0 ∷ [])
+    ∷ imports panelA named (formOf ("2 take" ∷ "root 0" ∷ "3 in-km/h -> as-is" ∷ "0 panel -> whole 3 1 2" ∷ [])) 1 "Y,2,4" panelA (0 ∷ [])
+    ∷ imports secondGap named formA 2 "Y,2,4" secondGap (1 ∷ [])
+    ∷ turnsDown noGap named formA 400 "R,16,0,3"
+    ∷ turnsDown panelA (listing "2,take" "5,whole") formA 400 "R,17,6,1"
+    ∷ turnsDown panelA (listing "2,load" "0,whole") (bytes "x") 400 "R,18,3,1"
+    ∷ turnsDown panelA named (formOf (others "2 take" "root  0" "0 panel -> whole 3 1 2")) 400 "R,17,4,0"
+    ∷ turnsDown panelA named (textOf ("==>" ∷ "1 load" ∷ others "2 take" "root 0" "0 panel -> whole 3 1 2") ++ bytes "<==") 400 "R,17,7,0"
+    ∷ turnsDown panelA named (formOf (others "2 panel" "root 0" "0 panel -> whole 3 1 2")) 400 "R,18,3,0"
+    ∷ turnsDown panelA named (formOf (others "2 take" "root 0" "0 panel -> whole 3 1")) 400 "R,18,5,0"
+    ∷ turnsDown panelA named (formOf (others "1 take" "root 0" "0 panel -> whole 3 1 1")) 400 "R,19,2,0"
+    ∷ turnsDown panelA named (formOf (others "2 take" "root 0" "0 panel -> whole 0 1 2")) 400 "R,19,5,0"
+    ∷ turnsDown panelA named (formOf ("2 take" ∷ others "9 take" "root 0" "0 panel -> whole 3 1 2")) 400 "R,19,4,0"
+    ∷ turnsDown panelA named (formOf (others "2 take" "root 0" "0 panel -> whole 7 1 2")) 400 "R,19,5,0"
+    ∷ turnsDown noGap named formA 147 "R,14,0,148"
+    ∷ []
+
 -- With lists as long as is asked.
 abbrev checked : Panel → Found Tree
 checked p = check asAsked (textOf (p .lines))
@@ -255,14 +330,28 @@ Puts cases =
 abbrev soughtIn : Sought → Found Tree
 soughtIn s = findGaps (s .tried) asAsked (textOf (s .lines))
 
-abbrev gapsIn : Found Tree → List ℕ
-gapsIn (seen (k, t)) = gapsOf (k .nodes)
+abbrev gapsIn : {A : Type 0} → Found A → List ℕ
+gapsIn (seen (k, a)) = gapsOf (k .nodes)
 gapsIn (refused r) = []
 
 abbrev Seeks : List Sought → Type 0
 Seeks cases =
     (map (λ s. printedAnswer (answerOf (soughtIn s))) cases ≡ map (λ s. textOf (s .answer ∷ [])) cases)
     × (map (λ s. gapsIn (soughtIn s)) cases ≡ map (λ s. s .gaps) cases)
+
+-- What the import call answers, the text that it makes, and the gaps that it finds.
+abbrev imported : Imported → Found (Tree × List ℕ)
+imported i = importForm (i .tried) asAsked (i .room) (textOf (i .lines)) (textOf (i .names)) (i .form)
+
+abbrev madeIn : Found (Tree × List ℕ) → List ℕ
+madeIn (seen (k, (t, made))) = made
+madeIn (refused r) = []
+
+abbrev shown : Found (Tree × List ℕ) → List ℕ × List ℕ × List ℕ
+shown f = (printedAnswer (answerOf f), madeIn f, gapsIn f)
+
+abbrev Imports : List Imported → Type 0
+Imports cases = map (λ i. shown (imported i)) cases ≡ map (λ i. (textOf (i .answer ∷ []), textOf (i .made), i .gaps)) cases
 
 -- "that power is over 1,000,000": 10 to the power 6 is not.
 abbrev AtMostMillion : Type 0
@@ -282,7 +371,7 @@ withStates n p = printedAnswer (answerOf (check (checkLists n nodeNeed workNeed)
 abbrev NeedsStates : Type 0
 NeedsStates = (stateNeed ≡ 8008) × (withStates 8007 caseA ≡ textOf ("R,1,0,1" ∷ [])) × (withStates 8008 caseA ≡ textOf ("Y,2,4" ∷ []))
 
--- Each case is answered as 01 prints it; "a. [..] doubled spans 1-4, 1-1, 2-2, 4-4"; and as Cards 1 to 5 have it.
-pub answers : Answered table × (spansOf (checked caseA) ≡ doubled 1 4 ∷ doubled 1 1 ∷ doubled 2 2 ∷ doubled 4 4 ∷ []) × Answered signedTable × Puts writtenTable × Answered wideTable × NeedsStates × Seeks soughtTable × AtMostMillion × Steps steppedTable
-unfolding St.wordCount St.propositionMost St.bit St.member St.noPropositions St.insert St.without St.appliesWord St.applies St.nextWord St.next St.step St.quiet St.touched St.computed St.noAction St.actionAt St.states St.stateAt St.firstStop Ix.ofCue Ix.ofGap Ix.at Ix.least Ix.greatest Ix.hull Ix.partOf Ix.only Ix.pick Ix.spanOfPart Ix.roundedUp Ix.roundedDown Ix.c Ix.f Ix.isBefore Tx.isFeed Tx.isComma Tx.isDigit Tx.endsField Tx.isPlain Tx.numberAt Tx.letterAt Tx.endingAt Tx.feedFollows Tb.table Tb.rowOf Tb.roleNumber Tb.isCompound Tb.inRange Tb.readList Tb.readItem Tb.readLine Ca.noMethod Ca.methodAt Ca.scalarAt Ca.membersAt Ca.setAt Ca.headerOf Ca.initialOf Ca.actionOf Ca.signOf Ca.constraintOf Ca.asConstraint Ca.planOf Ca.nodeOf Ca.asNode Ca.oneLine Ca.oneMethod Ca.noSurplus Ca.readBody Ca.noHeader Ca.readFrom Ca.readCase Tr.preorder Tr.preorders Tr.rootLine Tr.span Tr.spans Tr.subtaskSpans Tr.noSubtasks Tr.isMethodOf Tr.fits Tr.isIn Tr.mayClaim Tr.walkNode Tr.levelCount Tr.walkTree Co.signed Co.holdsIn Co.holdsFrom Co.keeps Co.constraintsOf Co.partsOf Co.brokenAt Co.firstBroken Ve.reported De.asAsked Ve.stateNeed Ve.nodeNeed Ve.workNeed Ve.checkLists Ve.statesOf Ve.planRuns Ve.allClaimed Ve.noneBroken Ve.textMost Ve.check Tx.decimal Li.printedAnswer Fi.lineFields Fi.propositionsOf Fi.headerLine Fi.initialLine Fi.actionLine Fi.constraintLine Fi.methodLines Fi.cuesLine Fi.nodeLine Fi.linesOf Fi.planLineOf Pr.lineText Pr.printed Wr.rank Wr.sortKey Wr.precedes Wr.sorted Wr.tidiedMethod Wr.tidied Wr.written Wr.outputLong Wr.write Ga.power Ga.caseWith Ga.textWith Ga.choiceCount Ga.choiceMost Ga.fewChoices Ga.beforeChoices Ga.findGaps flatten
-answers = (refl, refl, refl, (refl, refl), refl, (refl, refl, refl), (refl, refl), (refl, refl), (refl, refl))
+-- Each case is answered as 01 prints it; "a. [..] doubled spans 1-4, 1-1, 2-2, 4-4"; and as Cards 1 to 6 have it.
+pub answers : Answered table × (spansOf (checked caseA) ≡ doubled 1 4 ∷ doubled 1 1 ∷ doubled 2 2 ∷ doubled 4 4 ∷ []) × Answered signedTable × Puts writtenTable × Answered wideTable × NeedsStates × Seeks soughtTable × AtMostMillion × Steps steppedTable × Imports importedTable
+unfolding St.wordCount St.propositionMost St.bit St.member St.noPropositions St.insert St.without St.appliesWord St.applies St.nextWord St.next St.step St.quiet St.touched St.computed St.noAction St.actionAt St.states St.stateAt St.firstStop Ix.ofCue Ix.ofGap Ix.at Ix.least Ix.greatest Ix.hull Ix.partOf Ix.only Ix.pick Ix.spanOfPart Ix.roundedUp Ix.roundedDown Ix.c Ix.f Ix.isBefore Tx.isFeed Tx.isComma Tx.isDigit Tx.endsField Tx.isPlain Tx.numberAt Tx.letterAt Tx.endingAt Tx.feedFollows Tb.table Tb.rowOf Tb.roleNumber Tb.isCompound Tb.inRange Tb.readList Tb.readItem Tb.readLine Ca.noMethod Ca.methodAt Ca.scalarAt Ca.membersAt Ca.setAt Ca.headerOf Ca.initialOf Ca.actionOf Ca.signOf Ca.constraintOf Ca.asConstraint Ca.planOf Ca.nodeOf Ca.asNode Ca.oneLine Ca.oneMethod Ca.noSurplus Ca.readBody Ca.noHeader Ca.readFrom Ca.readCase Tr.preorder Tr.preorders Tr.rootLine Tr.span Tr.spans Tr.subtaskSpans Tr.noSubtasks Tr.isMethodOf Tr.fits Tr.isIn Tr.mayClaim Tr.walkNode Tr.levelCount Tr.walkTree Co.signed Co.holdsIn Co.holdsFrom Co.keeps Co.constraintsOf Co.partsOf Co.brokenAt Co.firstBroken Ve.reported De.asAsked Ve.stateNeed Ve.nodeNeed Ve.workNeed Ve.checkLists Ve.statesOf Ve.planRuns Ve.allClaimed Ve.noneBroken Ve.textMost Ve.check Tx.decimal Li.printedAnswer Fi.lineFields Fi.propositionsOf Fi.headerLine Fi.initialLine Fi.actionLine Fi.constraintLine Fi.methodLines Fi.cuesLine Fi.nodeLine Fi.linesOf Fi.planLineOf Pr.lineText Pr.printed Wr.rank Wr.sortKey Wr.precedes Wr.sorted Wr.tidiedMethod Wr.tidied Wr.written Wr.outputLong Wr.write Ga.power Ga.caseWith Ga.textWith Ga.choiceCount Ga.choiceMost Ga.fewChoices Ga.beforeChoices Ga.findGaps To.dueLine To.noMore To.isSpace To.wordsOf To.inName To.idOf Na.listedAt Na.notAgain Na.readNames Fo.openingWord Fo.rootWord Fo.arrowWord Fo.closingWord Fo.actionNamed Fo.compoundNamed Fo.suits Fo.methodNamed Fo.formLineMost Fo.frontLine Fo.backLine Fo.bothNamed Fo.readForm Fo.formLines Fo.allDefined Fo.allUsed Fo.isReached Fo.isWrong Fo.wrongLine Fo.idsRight Im.madeNodes Im.madeHeader Im.madeCase Im.madeFrom Im.importForm flatten
+answers = (refl, refl, refl, (refl, refl), refl, (refl, refl, refl), (refl, refl), (refl, refl), (refl, refl), refl)

@@ -21,7 +21,7 @@ use Rattle.rules.proofs.Printing.Tests.{OkMembers, OkList, OkItem, OkIt
 
 -- ---- What stands first, and a line feed later
 
-ends-numbers : (ns rest : List ℕ) → Ends rest → Ends (numbersOnto ns rest)
+pub ends-numbers : (ns rest : List ℕ) → Ends rest → Ends (numbersOnto ns rest)
 unfolding endsField isComma
 ends-numbers [] rest e = e
 ends-numbers (n ∷ ns) rest e = refl

@@ -1,0 +1,13 @@
+-- The laws of the import call (02, Card 6), as laws of its definitions: which ids a form reaches, what its lines and ids are, and that what is
+-- found has the form's tree and plan. Assumes nothing.
+pub use Rattle.rules.proofs.Import.Reach.{is-reached}
+pub use Rattle.rules.proofs.Import.Made.{made-reads}
+pub use Rattle.rules.proofs.Import.Found.{has-form}
+-- The lines and the ids of a form that was read, and the tree that hangs from its root.
+pub mod Reach
+pub mod Lines
+pub mod Ids
+pub mod Trees
+-- The made case, and what is found of it.
+pub mod Made
+pub mod Found
