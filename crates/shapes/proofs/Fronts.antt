@@ -17,7 +17,7 @@ use Rattle.tokens.proofs.Lines.{pieceEnd}
 use Rattle.tokens.proofs.Words.{IsNumber}
 use Rattle.shapes.specs.declared.Front.the-variants.{Action, Root, Other}
 use Rattle.shapes.specs.Shapes.{bytes, wordsAt, endAt, wordsAfter, Numbered, FrontIs}
-use Rattle.shapes.proofs.Words.{apart, word-more, word-last, word-feed-or-space, words-after, words-some, plain-apart, same-is, NameAt, name-here, no-name}
+use Rattle.shapes.proofs.Words.{apart, word-inside, word-more, word-last, word-feed-or-space, words-after, words-some, plain-apart, same-is, NameAt, name-here, no-name}
 
 -- ---- By the words
 
@@ -27,15 +27,15 @@ tried x y w v = elim x [ true ↦ some (theRoot (idOf v)) | false ↦ elim y [ t
 pair-is : (w v : List ℕ) (x y : Bool) → (sameBytes w rootWord && isPlain v) ≡ x → (isPlain w && isName v) ≡ y → frontOf (w ∷ v ∷ []) ≡ tried x y w v
 pair-is w v x y e f = ap₂ (λ (p q : Bool). tried p q w v) e f
 
-both-false : (a b : Bool) → b ≡ false → (a && b) ≡ false
+pub both-false : (a b : Bool) → b ≡ false → (a && b) ≡ false
 both-false true b e = e
 both-false false b e = refl
 
-both-true : (a b : Bool) → a ≡ true → b ≡ true → (a && b) ≡ true
+pub both-true : (a b : Bool) → a ≡ true → b ≡ true → (a && b) ≡ true
 both-true true b e f = f
 both-true false b e f = e
 
-first-false : (a b : Bool) → a ≡ false → (a && b) ≡ false
+pub first-false : (a b : Bool) → a ≡ false → (a && b) ≡ false
 first-false true b e = apart (cc)
 first-false false b e = refl
 
@@ -158,55 +158,63 @@ module _ (t : List ℕ) (at id next : ℕ) (w : Numbered t at id next) where
 
 -- ---- The root line
 
-module _ (t : List ℕ) (at : ℕ) (f : feedFollows t at ≡ true) (plain : isPlain (pieceFrom 32 t at) ≡ false) where
-  pub no-root-word : sameBytes (pieceFrom 32 t at) rootWord ≡ false → FrontIs t at Other
-  no-root-word e =
-      front-none t at f
-      (ap frontOf (words-after t at (pieceEnd 32 t at) f refl .0) ∙ none-any (pieceFrom 32 t at) (wordsAfter t (pieceEnd 32 t at)) e plain)
+module _ (t : List ℕ) (at : ℕ) (f : feedFollows t at ≡ true) where
+  root-at : sameBytes (pieceFrom 32 t at) rootWord ≡ true → at + 4 ≡ pieceEnd 32 t at
+  unfolding rootWord
+  root-at is = ap (λ (l : List ℕ). at + length l) (sym (same-is (pieceFrom 32 t at) rootWord is))
 
-  module _ (is : sameBytes (pieceFrom 32 t at) rootWord ≡ true) (end : ℕ) (here : end ≡ at + 4) where
-    pub root-ends : end ≡ pieceEnd 32 t at
-    unfolding rootWord
-    root-ends = here ∙ ap (λ (l : List ℕ). at + length l) (sym (same-is (pieceFrom 32 t at) rootWord is))
+  pub root-inside : sameBytes (pieceFrom 32 t at) rootWord ≡ true → at + 4 < length t
+  root-inside is = word-inside t at (at + 4) f (root-at is)
 
-    pub root-alone : (getD t end 0 ≡ 32 → ⊥) → FrontIs t at Other
-    root-alone n = front-none t at f (ap frontOf (word-last t at end f root-ends n .0))
+  module _ (is : sameBytes (pieceFrom 32 t at) rootWord ≡ true) (s : getD t (at + 4) 0 ≡ 32) where
+    pub id-feeds : feedFollows t (at + 4 + 1) ≡ true
+    id-feeds = word-more t at (at + 4) f (root-at is) s .2
 
-    module _ (s : getD t end 0 ≡ 32) where
-      pub id-feeds : feedFollows t (end + 1) ≡ true
-      id-feeds = word-more t at end f root-ends s .2
+    pub id-inside : {id next : ℕ} → IsNumber (at + 4 + 1) (pieceFrom 32 t (at + 4 + 1)) id next → next < length t
+    id-inside {id} {next} v = word-inside t (at + 4 + 1) next id-feeds (v .ends)
 
-      both : wordsAt t at ≡ pieceFrom 32 t at ∷ pieceFrom 32 t (end + 1) ∷ wordsAfter t (pieceEnd 32 t (end + 1))
-      both =
-          word-more t at end f root-ends s .0
-          ∙ ap (λ (ws : List (List ℕ)). pieceFrom 32 t at ∷ ws) (words-after t (end + 1) (pieceEnd 32 t (end + 1)) id-feeds refl .0)
+  module _ (plain : isPlain (pieceFrom 32 t at) ≡ false) where
+    pub no-root-word : sameBytes (pieceFrom 32 t at) rootWord ≡ false → FrontIs t at Other
+    no-root-word e =
+        front-none t at f
+        (ap frontOf (words-after t at (pieceEnd 32 t at) f refl .0) ∙ none-any (pieceFrom 32 t at) (wordsAfter t (pieceEnd 32 t at)) e plain)
 
-      pub no-id : isPlain (pieceFrom 32 t (end + 1)) ≡ false → FrontIs t at Other
-      no-id e =
-          front-none t at f
-          (ap frontOf both
-          ∙ none-two (pieceFrom 32 t at) (pieceFrom 32 t (end + 1)) (wordsAfter t (pieceEnd 32 t (end + 1)))
-          (both-false (sameBytes (pieceFrom 32 t at) rootWord) (isPlain (pieceFrom 32 t (end + 1))) e)
-          (first-false (isPlain (pieceFrom 32 t at)) (isName (pieceFrom 32 t (end + 1))) plain))
+    module _ (is : sameBytes (pieceFrom 32 t at) rootWord ≡ true) where
+      pub root-alone : (getD t (at + 4) 0 ≡ 32 → ⊥) → FrontIs t at Other
+      root-alone n = front-none t at f (ap frontOf (word-last t at (at + 4) f (root-at is) n .0))
 
-      module _ (id next : ℕ) (v : IsNumber (end + 1) (pieceFrom 32 t (end + 1)) id next) where
-        pub more-words : (getD t next 0 ≡ 10 → ⊥) → FrontIs t at Other
-        more-words m =
-            let q = word-feed-or-space t (end + 1) next id-feeds (v .ends) m in
-            let more = word-more t (end + 1) next id-feeds (v .ends) q .0 in
-            let some = words-some t (next + 1) in
+      module _ (s : getD t (at + 4) 0 ≡ 32) where
+        both : wordsAt t at ≡ pieceFrom 32 t at ∷ pieceFrom 32 t (at + 4 + 1) ∷ wordsAfter t (pieceEnd 32 t (at + 4 + 1))
+        both =
+            word-more t at (at + 4) f (root-at is) s .0
+            ∙ ap (λ (ws : List (List ℕ)). pieceFrom 32 t at ∷ ws) (words-after t (at + 4 + 1) (pieceEnd 32 t (at + 4 + 1)) (id-feeds is s) refl .0)
+
+        pub no-id : isPlain (pieceFrom 32 t (at + 4 + 1)) ≡ false → FrontIs t at Other
+        no-id e =
             front-none t at f
-            (ap frontOf
-            (word-more t at end f root-ends s .0
-            ∙ ap (λ (ws : List (List ℕ)). pieceFrom 32 t at ∷ ws) (more ∙ ap (λ (ws : List (List ℕ)). pieceFrom 32 t (end + 1) ∷ ws) (some .2))))
+            (ap frontOf both
+            ∙ none-two (pieceFrom 32 t at) (pieceFrom 32 t (at + 4 + 1)) (wordsAfter t (pieceEnd 32 t (at + 4 + 1)))
+            (both-false (sameBytes (pieceFrom 32 t at) rootWord) (isPlain (pieceFrom 32 t (at + 4 + 1))) e)
+            (first-false (isPlain (pieceFrom 32 t at)) (isName (pieceFrom 32 t (at + 4 + 1))) plain))
 
-        pub root-there : getD t next 0 ≡ 10 → FrontIs t at (Root id (next + 1))
-        unfolding idOf
-        root-there q =
-            let last = word-last t (end + 1) next id-feeds (v .ends) (λ z. omega arith) in
-            let x = pieceFrom 32 t (end + 1) in
-            front-root t at f id (next + 1)
-            (ap frontOf (word-more t at end f root-ends s .0 ∙ ap (λ (ws : List (List ℕ)). pieceFrom 32 t at ∷ ws) (last .0))
-            ∙ (pair-is (pieceFrom 32 t at) x true false (both-true (sameBytes (pieceFrom 32 t at) rootWord) (isPlain x) is (v .plain)) (first-false (isPlain (pieceFrom 32 t at)) (isName x) plain)
-            ∙ ap (λ (i : ℕ). some (theRoot i)) (sym (v .worth))))
-            (ap (λ (i : ℕ). i + 1) (sym (last .1) ∙ sym (word-more t at end f root-ends s .1)))
+        module _ (id next : ℕ) (v : IsNumber (at + 4 + 1) (pieceFrom 32 t (at + 4 + 1)) id next) where
+          pub more-words : (getD t next 0 ≡ 10 → ⊥) → FrontIs t at Other
+          more-words m =
+              let q = word-feed-or-space t (at + 4 + 1) next (id-feeds is s) (v .ends) m in
+              let more = word-more t (at + 4 + 1) next (id-feeds is s) (v .ends) q .0 in
+              let some = words-some t (next + 1) in
+              front-none t at f
+              (ap frontOf
+              (word-more t at (at + 4) f (root-at is) s .0
+              ∙ ap (λ (ws : List (List ℕ)). pieceFrom 32 t at ∷ ws) (more ∙ ap (λ (ws : List (List ℕ)). pieceFrom 32 t (at + 4 + 1) ∷ ws) (some .2))))
+
+          pub root-there : getD t next 0 ≡ 10 → FrontIs t at (Root id (next + 1))
+          unfolding idOf
+          root-there q =
+              let last = word-last t (at + 4 + 1) next (id-feeds is s) (v .ends) (λ z. omega arith) in
+              let x = pieceFrom 32 t (at + 4 + 1) in
+              front-root t at f id (next + 1)
+              (ap frontOf (word-more t at (at + 4) f (root-at is) s .0 ∙ ap (λ (ws : List (List ℕ)). pieceFrom 32 t at ∷ ws) (last .0))
+              ∙ (pair-is (pieceFrom 32 t at) x true false (both-true (sameBytes (pieceFrom 32 t at) rootWord) (isPlain x) is (v .plain)) (first-false (isPlain (pieceFrom 32 t at)) (isName x) plain)
+              ∙ ap (λ (i : ℕ). some (theRoot i)) (sym (v .worth))))
+              (ap (λ (i : ℕ). i + 1) (sym (last .1) ∙ sym (word-more t at (at + 4) f (root-at is) s .1)))

@@ -1,2 +1,4 @@
 pub mod Words
 pub mod Fronts
+pub mod Idents
+pub mod Backs

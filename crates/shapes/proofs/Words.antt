@@ -1,6 +1,6 @@
 -- The words of a line at the places where they start and end: a word is followed by those after its end. Assumes nothing.
 use mathlib.Core.Path.{_≡_, refl, sym, ap, ap₂, _∙_}
-use mathlib.Core.Bool.{Bool, true, false, _&&_}
+use mathlib.Core.Bool.{Bool, true, false, _&&_, not}
 use mathlib.Core.List.{List, [], _∷_}
 use Prim.Native.Nat.{ℕ, suc, _+_, _-_, _≤_, _<_}
 use native.Mathlib.Decide.{decLt}
@@ -21,6 +21,15 @@ use Rattle.shapes.specs.Shapes.{bytes, wordsAt, endAt, wordsAfter, endAf
 
 pub apart : {A : Type 0} → _≡_ {A = ℕ} 0 1 → A
 apart z = absurd (omega arith)
+
+-- A test that is turned round.
+pub is-not : (r : Bool) → not r ≡ true → r ≡ false
+is-not true e = apart (cc)
+is-not false e = refl
+
+pub is-so : (r : Bool) → not r ≡ false → r ≡ true
+is-so true e = refl
+is-so false e = apart (cc)
 
 -- ---- A word, and what comes after it
 
