@@ -12,7 +12,8 @@ use Rattle.rules.specs.Result.{found, refused, _>>=_}
 use Rattle.rules.specs.Case.{Read}
 use Rattle.rules.specs.Tokens.{lineOf, dueLine, shaped, wordsOf, isName, sameBytes, allPlain, idOf}
 use Rattle.rules.specs.Form.{arrowWord, closingWord, Back, aCompound, theEnd, backOf, backLine}
-use Rattle.tokens.specs.Pieces.{pieceFrom, nameEnd, Spells}
+use Rattle.text.proofs.Feeds.{feed-inside}
+use Rattle.tokens.specs.Pieces.{endsPiece, pieceFrom, nameEnd, Spells}
 use Rattle.tokens.proofs.Lines.{pieceEnd}
 use Rattle.shapes.specs.declared.Back.the-variants.{Compound, End, Other}
 use Rattle.shapes.specs.declared.Ids.the-variants.{All, Other as OtherIds}
@@ -236,6 +237,9 @@ module _ (t : List ℕ) (at id from to : ℕ) (h : Headed t at id from to) where
           pub ids-feed : feedFollows t end ≡ true
           ids-feed = word-feeds t (to + 4) end method-feeds (method-is .ends)
 
+          pub ids-end : endsPiece 32 (getD t end 0) ≡ true
+          ids-end = word-ends t (to + 4) end method-feeds (method-is .ends)
+
           four : wordsAt t at ≡ after (pieceFrom 32 t (to + 4) ∷ wordsAfter t end)
           four = three ∙ ap after (words-after t (to + 4) end method-feeds (method-is .ends) .0)
 
@@ -245,20 +249,20 @@ module _ (t : List ℕ) (at id from to : ℕ) (h : Headed t at id from to) where
               (ap backOf four
               ∙ no-ids (pieceFrom 32 t at) (bytes t from to) (pieceFrom 32 t (to + 1)) (pieceFrom 32 t (to + 4)) (wordsAfter t end) i)
 
-          pub all-ids : (count next : ℕ) → to < length t → IdsAre t end (All count next) → BackIs t at (Compound id from to (to + 4) end count next)
-          all-ids count next inside (ids, spells, many, plains, values, past) =
+          pub all-ids : (count next : ℕ) → IdsAre t end (All count next) → BackIs t at (Compound id from to (to + 4) end count next)
+          all-ids count next (ids, spells, many, plains, values, past) =
+              let past-it = feed-inside t (to + 1) (h .goes) in
               let tests =
-                  both-true (isPlain (pieceFrom 32 t at)) _ (h .plain)
-                  (both-true (isName (bytes t from to)) _ (h .named)
-                  (both-true (sameBytes (pieceFrom 32 t (to + 1)) arrowWord) _ is
-                  (both-true (isName (pieceFrom 32 t (to + 4))) (allPlain (wordsAfter t end)) (method-is .named) plains))) in
+              both-true (isPlain (pieceFrom 32 t at)) _ (h .plain)
+              (both-true (isName (bytes t from to)) _ (h .named)
+              (both-true (sameBytes (pieceFrom 32 t (to + 1)) arrowWord) _ is
+              (both-true (isName (pieceFrom 32 t (to + 4))) (allPlain (wordsAfter t end)) (method-is .named) plains))) in
               let ends : endAt t at ≡ endAfter t end =
-                  h .ends
-                  ∙ (word-more t (to + 1) (to + 3) (h .goes) (arrow-at is) s .1
-                  ∙ (ap (endAt t) same ∙ words-after t (to + 4) end method-feeds (method-is .ends) .1)) in
-              (
+              h .ends
+              ∙ (word-more t (to + 1) (to + 3) (h .goes) (arrow-at is) s .1
+              ∙ (ap (endAt t) same ∙ words-after t (to + 4) end method-feeds (method-is .ends) .1)) in (
                 h .order,
-                inside,
+                omega arith,
                 method-is .order,
                 method-is .inside,
                 (
@@ -266,10 +270,10 @@ module _ (t : List ℕ) (at id from to : ℕ) (h : Headed t at id from to) where
                   spells,
                   many,
                   back-some t at (h .feeds) (aCompound id (bytes t from to) (bytes t (to + 4) end) ids) next
-                  (ap backOf four
-                  ∙ (four-is (pieceFrom 32 t at) (bytes t from to) (pieceFrom 32 t (to + 1)) (pieceFrom 32 t (to + 4)) (wordsAfter t end) true tests
-                  ∙ (ap (λ (i : ℕ). some (aCompound i (bytes t from to) (pieceFrom 32 t (to + 4)) (map idOf (wordsAfter t end)))) (sym (h .worth))
-                  ∙ ap₂ (λ (m : List ℕ) (l : List ℕ). some (aCompound id (bytes t from to) m l)) (method-is .same) values)))
-                  (past ∙ ap (λ (i : ℕ). i + 1) (sym ends)),
+                      (ap backOf four
+                      ∙ (four-is (pieceFrom 32 t at) (bytes t from to) (pieceFrom 32 t (to + 1)) (pieceFrom 32 t (to + 4)) (wordsAfter t end) true tests
+                      ∙ (ap (λ (i : ℕ). some (aCompound i (bytes t from to) (pieceFrom 32 t (to + 4)) (map idOf (wordsAfter t end)))) (sym (h .worth))
+                      ∙ ap₂ (λ (m : List ℕ) (l : List ℕ). some (aCompound id (bytes t from to) m l)) (method-is .same) values)))
+                      (past ∙ ap (λ (i : ℕ). i + 1) (sym ends)),
                 ),
               )

@@ -65,20 +65,20 @@ module _ (t : List ℕ) (at : ℕ) where
   by-feed n true e =
       ap
       (λ (y : Bool).
-        elim y as (λ z. Read (List ℕ)) [
-          | true ↦ found (lineOf (drop at t), n + 1, at + suc (length (lineOf (drop at t))))
-          | false ↦ refused (WrongShape n 0)
-        ]
-        >>= λ (line, n′, place′). shaped 0 n (frontOf (wordsOf line)) >>= λ front. found (front, n′, place′))
+      elim y as (λ z. Read (List ℕ)) [
+        | true ↦ found (lineOf (drop at t), n + 1, at + suc (length (lineOf (drop at t))))
+        | false ↦ refused (WrongShape n 0)
+      ]
+      >>= λ (line, n′, place′). shaped 0 n (frontOf (wordsOf line)) >>= λ front. found (front, n′, place′))
       e
   by-feed n false e =
       ap
       (λ (y : Bool).
-        elim y as (λ z. Read (List ℕ)) [
-          | true ↦ found (lineOf (drop at t), n + 1, at + suc (length (lineOf (drop at t))))
-          | false ↦ refused (WrongShape n 0)
-        ]
-        >>= λ (line, n′, place′). shaped 0 n (frontOf (wordsOf line)) >>= λ front. found (front, n′, place′))
+      elim y as (λ z. Read (List ℕ)) [
+        | true ↦ found (lineOf (drop at t), n + 1, at + suc (length (lineOf (drop at t))))
+        | false ↦ refused (WrongShape n 0)
+      ]
+      >>= λ (line, n′, place′). shaped 0 n (frontOf (wordsOf line)) >>= λ front. found (front, n′, place′))
       e
 
   pub front-out : feedFollows t at ≡ false → FrontIs t at Other

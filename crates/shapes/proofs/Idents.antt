@@ -115,8 +115,7 @@ module _ (t : List ℕ) where
     pub passed-all : (getD t at 0 ≡ 32 → ⊥) → IdsAre t from (All count (at + 1))
     passed-all n =
         let w = after-none at n in
-        let feed = ends-by 32 (getD t at 0) (p .stops) n in
-        (
+        let feed = ends-by 32 (getD t at 0) (p .stops) n in (
           p .ids,
           subst (Spells t from) (append-nil (p .ids)) (p .spells [] (p .feeds, feed)),
           p .many,

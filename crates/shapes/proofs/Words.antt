@@ -5,9 +5,9 @@ use mathlib.Core.List.{List, [], _∷_}
 use Prim.Native.Nat.{ℕ, suc, _+_, _-_, _≤_, _<_}
 use native.Mathlib.Decide.{decLt}
 use native.Mathlib.Omega.{arith}
-use lib.Dec.{eqb}
+use lib.Dec.{eqb, ltb}
 use lib.ListN.{length, getD, take, drop}
-use borrow.Author.Tests.{eq-eqb, ne-eqb, eqb-true, eqb-false}
+use borrow.Author.Tests.{eq-eqb, ne-eqb, eqb-true, eqb-false, lt-ltb}
 use Rattle.rules.specs.Text.{isFeed, isDigit, allDigits, digitsOnly, isPlain, valueOf, number, numberIn, feedFollows}
 use Rattle.rules.specs.Faults.{onto, pieces}
 use Rattle.rules.specs.Tokens.{lineOf, isSpace, inName, wordsOf, allInName, isName, sameBytes, idOf}
@@ -31,6 +31,14 @@ pub is-so : (r : Bool) → not r ≡ false → r ≡ true
 is-so true e = refl
 is-so false e = apart (cc)
 
+-- A line feed follows the start of a text, if the place past the last one is not 0.
+pub some-feed : (t : List ℕ) (past : ℕ) → ((p : ℕ) → feedFollows t p ≡ ltb p past) → (past ≡ 0 → ⊥) → feedFollows t 0 ≡ true
+some-feed t past follows n = go (decLt 0 past)
+  where
+    go : Dec (0 < past) → feedFollows t 0 ≡ true
+    go (yes h) = follows 0 ∙ lt-ltb 0 past h
+    go (no h) = absurd (n (omega arith))
+
 -- ---- A word, and what comes after it
 
 module _ (t : List ℕ) (p e : ℕ) (f : feedFollows t p ≡ true) (here : e ≡ pieceEnd 32 t p) where
@@ -51,8 +59,7 @@ module _ (t : List ℕ) (p e : ℕ) (f : feedFollows t p ≡ true) (here : e ≡
       → (wordsAt t p ≡ pieceFrom 32 t p ∷ wordsAt t (e + 1)) × (endAt t p ≡ endAt t (e + 1)) × (feedFollows t (e + 1) ≡ true)
   unfolding wordsOf isSpace
   word-more q =
-      let r = line-more 32 t p f no-feed (ap (λ (i : ℕ). getD t i 0) (sym here) ∙ q) in
-      (
+      let r = line-more 32 t p f no-feed (ap (λ (i : ℕ). getD t i 0) (sym here) ∙ q) in (
         r .0 ∙ ap (λ (i : ℕ). pieceFrom 32 t p ∷ wordsAt t (i + 1)) (sym here),
         r .1 ∙ ap (λ (i : ℕ). endAt t (i + 1)) (sym here),
         ap (λ (i : ℕ). feedFollows t (i + 1)) here ∙ r .2,
