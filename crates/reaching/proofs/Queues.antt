@@ -164,3 +164,8 @@ among-next links from i f a b =
     (λ d p. ⊎-elim (λ s. inr (at-same links i (p .0) (sym s) ∙ p .3)) (λ o. inl (p .0, p .1, omega (arith, p .2), p .3)) (same-or-not (p .0) i))
     a
     b
+
+-- All.
+pub among-all : (links : List ℕ) (from i to : ℕ) {m q m' q' : List ℕ} {t t' : ℕ} → i ≡ to → Adds (Among links from i) m q t m' q' t'
+    → Adds (Among links from to) m q t m' q' t'
+among-all links from i to s a = rw s at a
