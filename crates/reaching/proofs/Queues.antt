@@ -69,6 +69,10 @@ queued-none m q z =
       placed = λ d h. absurd (omega (arith, z d));
     }
 
+-- The queue holds no more than it has room for.
+pub tail-most : {m q : List ℕ} {t : ℕ} → Queued m q t → t ≤ length q
+tail-most {m} {q} k = omega (arith, k .counted, total-most m (k .bit) (length q))
+
 -- A line that is not marked finds room in the queue.
 pub room-left : (m q : List ℕ) (t d : ℕ) → Queued m q t → getD m d 0 ≡ 0 → d < length q → t < length q
 room-left m q t d k z h = omega (arith, k .counted, total-free m (k .bit) d (length q) z h)
