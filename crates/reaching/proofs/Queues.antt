@@ -4,13 +4,13 @@ use mathlib.Core.Path.{_≡_, refl, sym, ap, _∙_}
 use mathlib.Core.Bool.{Bool, true, false}
 use mathlib.Core.List.{List}
 use mathlib.Core.Logic.{_⊎_, inl, inr, ⊎-elim}
-use Prim.Native.Nat.{ℕ, zero, suc, _+_, _-_, _≤_, _<_}
+use Prim.Native.Nat.{ℕ, zero, suc, _+_, _≤_, _<_}
 use native.Mathlib.Omega.{arith}
 use borrow.Author.Tests.{eqb-true, eqb-false}
 use lib.Dec.{eqb}
 use lib.ListN.{length, getD, set, length-set}
 use lib.Seq.{getD-set-same, getD-set-other}
-use Rattle.reaching.specs.Queued.{total, Queued, Adds, Names, Among, Room}
+use Rattle.reaching.specs.Queued.{total, Queued, Adds, Names, Among, Follows, Room, Line}
 
 pub same-or-not : (a b : ℕ) → (a ≡ b) ⊎ (a ≡ b → ⊥)
 same-or-not a b = go (eqb a b) refl
@@ -25,6 +25,13 @@ at-same l a b s = ap (λ (x : ℕ). getD l x 0) s
 -- A mark that is not 0 is 1.
 pub not-zero : (m : List ℕ) (d : ℕ) → getD m d 0 ≤ 1 → (getD m d 0 ≡ 0 → ⊥) → getD m d 0 ≡ 1
 not-zero m d b h = ⊎-elim (λ s. absurd (h s)) (λ o. omega arith) (same-or-not (getD m d 0) 0)
+
+-- Whatever a link of a line names, the lists have room for it.
+pub links-room : {starts links twin marks queue : List ℕ} {e : ℕ} → Line starts links twin e marks queue → (u : ℕ) → getD starts e 0 ≤ u
+    → u < getD starts (e + 1) 0 → Room (getD links u 0) marks queue
+links-room {e = e} n u from to =
+    let low = n .graph .links-low e u (n .low) from to in
+    (omega (arith, n .room .0), omega (arith, n .room .1))
 
 -- ---- How many lines are marked
 
@@ -141,7 +148,7 @@ module _ (m q : List ℕ) (t d : ℕ) (k : Queued m q t) (z : getD m d 0 ≡ 0) 
       }
 
 -- Two steps, one after the other.
-pub adds-both : {A B C : ℕ → Type 0} {m q m' q' m'' q'' : List ℕ} {t t' t'' : ℕ} → ((d : ℕ) → A d ⊎ B d → C d) → ((d : ℕ) → C d → A d ⊎ B d)
+adds-both : {A B C : ℕ → Type 0} {m q m' q' m'' q'' : List ℕ} {t t' t'' : ℕ} → ((d : ℕ) → A d ⊎ B d → C d) → ((d : ℕ) → C d → A d ⊎ B d)
     → Adds A m q t m' q' t' → Adds B m' q' t' m'' q'' t'' → Adds C m q t m'' q'' t''
 adds-both to from a b =
     record {
@@ -155,11 +162,11 @@ adds-both to from a b =
 
 -- ---- The links of a line
 
--- None yet.
+-- None of them yet.
 pub among-none : (links : List ℕ) (from : ℕ) {m q : List ℕ} {t : ℕ} → Queued m q t → Adds (Among links from from) m q t m q t
 among-none links from k = adds-none k (λ d n. absurd (omega (arith, n .1, n .2)))
 
--- One more.
+-- One of them more.
 pub among-next : (links : List ℕ) (from i : ℕ) {m q m' q' m'' q'' : List ℕ} {t t' t'' : ℕ} → from ≤ i → Adds (Among links from i) m q t m' q' t'
     → Adds (Names (getD links i 0)) m' q' t' m'' q'' t'' → Adds (Among links from (i + 1)) m q t m'' q'' t''
 among-next links from i f a b =
@@ -169,7 +176,13 @@ among-next links from i f a b =
     a
     b
 
--- All.
+-- All of them.
 pub among-all : (links : List ℕ) (from i to : ℕ) {m q m' q' : List ℕ} {t t' : ℕ} → i ≡ to → Adds (Among links from i) m q t m' q' t'
     → Adds (Among links from to) m q t m' q' t'
 among-all links from i to s a = rw s at a
+
+-- The links, and then the twin.
+pub follows-both : (starts links twin : List ℕ) (e : ℕ) {m q m' q' m'' q'' : List ℕ} {t t' t'' : ℕ}
+    → Adds (Among links (getD starts e 0) (getD starts (e + 1) 0)) m q t m' q' t' → Adds (Names (getD twin e 0)) m' q' t' m'' q'' t''
+    → Adds (Follows starts links twin e) m q t m'' q'' t''
+follows-both starts links twin e a b = adds-both (λ d n. n) (λ d n. n) a b

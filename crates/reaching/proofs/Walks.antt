@@ -1,13 +1,13 @@
 -- A walk over the queue: each marked line is visited, and what follows a line that was taken is marked. So with no line left to take, the visited
 -- lines are the marked ones. Assumes nothing.
-use mathlib.Core.Path.{_≡_, refl, sym, ap, _∙_, subst}
+use mathlib.Core.Path.{_≡_, sym, _∙_, subst}
 use mathlib.Core.List.{List}
 use mathlib.Core.Logic.{inl, inr, ⊎-elim}
-use Prim.Native.Nat.{ℕ, suc, _+_, _≤_, _<_}
+use Prim.Native.Nat.{ℕ, _+_, _≤_, _<_}
 use native.Mathlib.Omega.{arith}
-use lib.ListN.{length, getD}
+use lib.ListN.{getD}
 use Rattle.reaching.specs.Visited.{Visited, begin, linked, twinned, Graph, Marked}
-use Rattle.reaching.specs.Queued.{Queued, Adds, Names, Among, Follows}
+use Rattle.reaching.specs.Queued.{Queued, Adds, Names, Follows}
 use Rattle.reaching.proofs.Queues.{same-or-not, at-same, not-zero}
 
 -- A visited line is one of the graph's.

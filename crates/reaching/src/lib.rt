@@ -25,13 +25,18 @@ fn mark(target: u32, marks: &mut [u32], queue: &mut [u32], tail: usize) -> usize
 }
 
 // Marks the lines that the links from one place up to another name.
-fn mark_links(links: &[u16], from: usize, to: usize, marks: &mut [u32], queue: &mut [u32], tail: usize) -> usize
+fn mark_links(
+    links: &[u16],
+    from: usize,
+    to: usize,
+    marks: &mut [u32],
+    queue: &mut [u32],
+    tail: usize,
+) -> usize
     requires queued { ⌜ Queued (now marks) (now queue) tail ⌝ }
     requires within { ⌜ (from ≤ to) × (to ≤ length (now links)) ⌝ }
     requires low { ⌜ ((u : ℕ) → from ≤ u → u < to → Room (getD (now links) u 0) (now marks) (now queue)) ⌝ }
-    ensures {
-        λ r. ⌜ Adds (Among (now (links .entry)) from to) (now (marks .entry)) (now (queue .entry)) tail (now (marks .exit)) (now (queue .exit)) r ⌝
-    }
+    ensures { λ r. ⌜ Adds (Among (now (links .entry)) from to) (now (marks .entry)) (now (queue .entry)) tail (now (marks .exit)) (now (queue .exit)) r ⌝ }
 {
     let mut end = tail;
     let mut i = from;
@@ -43,12 +48,18 @@ fn mark_links(links: &[u16], from: usize, to: usize, marks: &mut [u32], queue: &
 }
 
 // Marks the lines that follow the line e.
-fn follow(starts: &[u32], links: &[u16], twin: &[u32], e: usize, marks: &mut [u32], queue: &mut [u32], tail: usize) -> usize
+fn follow(
+    starts: &[u32],
+    links: &[u16],
+    twin: &[u32],
+    e: usize,
+    marks: &mut [u32],
+    queue: &mut [u32],
+    tail: usize,
+) -> usize
     requires { ⌜ Queued (now marks) (now queue) tail × Line (now starts) (now links) (now twin) e (now marks) (now queue) ⌝ }
-    ensures {
-        λ r. ⌜ Adds (Follows (now (starts .entry)) (now (links .entry)) (now (twin .entry)) e) (now (marks .entry)) (now (queue .entry)) tail
-            (now (marks .exit)) (now (queue .exit)) r ⌝
-    }
+    ensures { λ r. ⌜ Adds (Follows (now (starts .entry)) (now (links .entry)) (now (twin .entry)) e) (now (marks .entry)) (now (queue .entry)) tail
+        (now (marks .exit)) (now (queue .exit)) r ⌝ }
 {
     let from = starts[e] as usize;
     let to = starts[e + 1] as usize;
@@ -57,7 +68,15 @@ fn follow(starts: &[u32], links: &[u16], twin: &[u32], e: usize, marks: &mut [u3
 }
 
 // Marks the lines that are visited from the root. The marks come in as 0; the queue is room to work in.
-pub fn visit(starts: &[u32], links: &[u16], twin: &[u32], count: usize, root: usize, marks: &mut [u32], queue: &mut [u32])
+pub fn visit(
+    starts: &[u32],
+    links: &[u16],
+    twin: &[u32],
+    count: usize,
+    root: usize,
+    marks: &mut [u32],
+    queue: &mut [u32],
+)
     requires graph { ⌜ Graph (now starts) (now links) (now twin) count ⌝ }
     requires root { ⌜ (root < count) × (count ≤ 3000) ⌝ }
     requires room { ⌜ (count ≤ length (now marks)) × (count ≤ length (now queue)) ⌝ }

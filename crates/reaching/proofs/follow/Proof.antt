@@ -2,13 +2,9 @@
 use Prim.Native.Nat.{_+_}
 use native.Mathlib.Omega.{arith}
 use borrow.Author.Needs.{needs}
-use Rattle.reaching.proofs.Queues.{adds-both}
+use Rattle.reaching.proofs.Queues.{links-room, follows-both}
 use Rattle.reaching.proofs.follow.Statement.{statement}
 use Rattle.reaching.proofs.follow.Tie as tie
-use Rattle.reaching.proofs.follow.Reads as reads
-use Rattle.reaching.proofs.follow.Lts as lts
-use Rattle.reaching.proofs.mark.Reads as mark-reads
-use Rattle.reaching.proofs.mark_links.Reads as mark-links-reads
 
 mul-from : tie.Need-mul-from
 mul-from c = search needs
@@ -32,13 +28,10 @@ cast-to : tie.Need-cast-to
 cast-to c = omega (arith, c .shared-slice-known5 .given (c .before .before .before .before .before .before .before .args .e + 1))
 
 mark-links-requires : tie.Need-mark-links-requires
-mark-links-requires c κs = 
+mark-links-requires c κs =
     let s = c .before .before .before .before .before .before .before .before .before in
     let n = s .pre .1 in
-    let g = n .graph in (
-      s .pre .0,
-      ((g .ordered (s .args .e) (n .low), g .inside (s .args .e + 1) (omega (arith, n .low))), λ u from to. let r = g .links-low (s .args .e) u (n .low) from to in (omega (arith, r, n .room), omega (arith, r, n .room))),
-    )
+    (s .pre .0, ((n .graph .ordered (s .args .e) (n .low), n .graph .inside (s .args .e + 1) (omega (arith, n .low))), links-room n))
 
 mul-mark : tie.Need-mul-mark
 mul-mark c = search needs
@@ -47,12 +40,13 @@ shared-slice-read-mark : tie.Need-shared-slice-read-mark
 shared-slice-read-mark c = search needs
 
 mark-requires : tie.Need-mark-requires
-mark-requires c κs = 
+mark-requires c κs =
     let m = c .before .before .before .before .before .before .before in
     let s = m .before .before .before .before .before .before .before .before .before .before in
     let n = s .pre .1 in
-    let r = n .graph .twins-low (s .args .e) (n .low) in
-    (m .mark-links .ensures .queued, (omega (arith, r, n .room .0, m .mark-links .kept .1 .1 .1 .0), omega (arith, r, n .room .1, m .mark-links .kept .1 .1 .1 .1 .0)))
+    let low = n .graph .twins-low (s .args .e) (n .low) in
+    let kept = m .mark-links .kept .1 .1 .1 in
+    (m .mark-links .ensures .queued, (omega (arith, n .room .0, kept .0), omega (arith, n .room .1, kept .1 .0)))
 
 same-length : tie.Need-same-length
 same-length c = search needs
@@ -61,9 +55,11 @@ same-length-2 : tie.Need-same-length-2
 same-length-2 c = search needs
 
 returns : tie.Need-returns
-returns c = 
+returns c =
     let k = c .before .before .before .before in
-    adds-both (λ d n. n) (λ d n. n) (k .before .before .before .before .before .before .before .before .mark-links .ensures) (k .mark .ensures)
+    let l = k .before .before .before .before .before .before .before .before in
+    let a = l .before .before .before .before .before .before .before .before .before .before .args in
+    follows-both (a .starts .now) (a .links .now) (a .twin .now) (a .e) (l .mark-links .ensures) (k .mark .ensures)
 
 pub follow-spec : {M : Type 1} → statement M
 follow-spec =

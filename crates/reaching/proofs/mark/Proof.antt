@@ -1,5 +1,4 @@
 -- `reaching::mark` meets its contract. Assumes nothing.
-use mathlib.Core.Path.{_≡_}
 use Prim.Native.Nat.{_-_, _<_}
 use native.Mathlib.Omega.{arith}
 use borrow.Author.Needs.{needs, scaled-fits}
@@ -7,8 +6,6 @@ use lib.ListN.{length}
 use Rattle.reaching.proofs.Queues.{room-left, adds-none, adds-one, adds-known}
 use Rattle.reaching.proofs.mark.Statement.{statement}
 use Rattle.reaching.proofs.mark.Tie as tie
-use Rattle.reaching.proofs.mark.Reads as reads
-use Rattle.reaching.proofs.mark.Lts as lts
 
 returns : tie.Need-returns
 returns c = adds-none (c .before .pre .0) (λ d n. absurd (omega arith))

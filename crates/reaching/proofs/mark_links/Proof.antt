@@ -1,5 +1,5 @@
 -- `reaching::mark_links` meets its contract: the links passed are marked. Assumes nothing.
-use mathlib.Core.Path.{_≡_, refl, sym, _∙_}
+use mathlib.Core.Path.{_≡_, refl, _∙_}
 use Prim.Native.Nat.{_-_, _≤_}
 use native.Mathlib.Omega.{arith}
 use borrow.Author.Needs.{needs, scaled-fits}
@@ -8,9 +8,6 @@ use Rattle.reaching.specs.Queued.{Adds, Among}
 use Rattle.reaching.proofs.Queues.{among-none, among-next, among-all}
 use Rattle.reaching.proofs.mark_links.Statement.{statement}
 use Rattle.reaching.proofs.mark_links.Tie as tie
-use Rattle.reaching.proofs.mark_links.Reads as reads
-use Rattle.reaching.proofs.mark_links.Lts as lts
-use Rattle.reaching.proofs.mark.Reads as mark-reads
 
 abbrev Inv-loop : tie.InvT-loop
 Inv-loop links from to marks₀ queue₀ tail end₀ i₀ marks queue end i =
@@ -20,12 +17,12 @@ abbrev μ-loop : tie.MeasureT-loop
 μ-loop links from to marks₀ queue₀ tail end₀ i₀ marks queue end i = to - i
 
 loop-holds : tie.Need-loop-holds Inv-loop μ-loop
-loop-holds c = 
+loop-holds c =
     let s = c .before .before .before in
     (omega arith, omega arith, refl, refl, among-none (s .args .links .now) (s .args .from) (s .pre .0))
 
 mul-mark : tie.Need-mul-mark Inv-loop μ-loop
-mul-mark c = 
+mul-mark c =
     let s = c .before .before .before .before .before in
     scaled-fits (c .before .loop .i) (length (s .args .links .now)) 2 (omega arith) (s .good .0 .1)
 
@@ -36,7 +33,7 @@ cast-mark : tie.Need-cast-mark Inv-loop μ-loop
 cast-mark c = omega (arith, c .shared-slice-known2 .given (c .before .before .loop .i))
 
 mark-requires : tie.Need-mark-requires Inv-loop μ-loop
-mark-requires c κs = 
+mark-requires c κs =
     let p = c .before .before .before .before in
     let l = p .loop in
     let r = p .before .before .before .before .pre .1 .1 (l .i) (omega arith) (omega arith) in
@@ -49,7 +46,7 @@ loop-less : tie.Need-loop-less Inv-loop μ-loop
 loop-less c = omega arith
 
 loop-again : tie.Need-loop-again Inv-loop μ-loop
-loop-again c = 
+loop-again c =
     let m = c .before .before .before .before in
     let p = m .before .before .before .before .before in
     let l = p .loop in
@@ -68,7 +65,7 @@ same-length-2 : tie.Need-same-length-2 Inv-loop μ-loop
 same-length-2 c = search needs
 
 returns : tie.Need-returns Inv-loop μ-loop
-returns c = 
+returns c =
     let l = c .before .loop in
     let a = c .before .before .before .before .before .args in
     among-all (a .links .now) (a .from) (l .i) (a .to) (omega arith) (l .inv .4)
