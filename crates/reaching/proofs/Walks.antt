@@ -20,7 +20,6 @@ visited-low g h (twinned e d v l) = omega (arith, g .twins-low e (visited-low g 
 -- The first `head` lines of the queue were taken.
 pub record Walked (starts links twin : List ℕ) (root head : ℕ) (marks queue : List ℕ) (tail : ℕ) : Type 0 where
   pub queued : Queued marks queue tail
-  pub front : head ≤ tail
   pub rooted : getD marks root 0 ≡ 1
   pub visited : (d : ℕ) → getD marks d 0 ≡ 1 → Visited starts links twin root d
   pub closed : (i d : ℕ) → i < head → Follows starts links twin (getD queue i 0) d → getD marks d 0 ≡ 1
@@ -32,7 +31,6 @@ module _ (starts links twin : List ℕ) (root : ℕ) where
   walk-starts z a =
       record {
         queued = a .queued;
-        front = omega arith;
         rooted = a .all root (omega arith);
         visited =
             λ d h. ⊎-elim
@@ -56,7 +54,6 @@ module _ (starts links twin : List ℕ) (root : ℕ) where
     walk-on {m'} {q'} l a =
         record {
           queued = a .queued;
-          front = omega (arith, a .longer);
           rooted = a .stays root (w .rooted);
           visited = λ d h. ⊎-elim (λ old. w .visited d old) (λ f. follows-visited (taken-visited l) f) (a .only d h);
           closed = λ i d h f. closed i d h (a .same i (omega arith)) f;

@@ -64,7 +64,8 @@ fn follow(
     let from = starts[e] as usize;
     let to = starts[e + 1] as usize;
     let end = mark_links(links, from, to, marks, queue, tail);
-    mark(twin[e], marks, queue, end)
+    let next = twin[e];
+    mark(next, marks, queue, end)
 }
 
 // Marks the lines that are visited from the root. The marks come in as 0; the queue is room to work in.

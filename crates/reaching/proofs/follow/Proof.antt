@@ -33,11 +33,11 @@ mark-links-requires c κs =
     let n = s .pre .1 in
     (s .pre .0, ((n .graph .ordered (s .args .e) (n .low), n .graph .inside (s .args .e + 1) (omega (arith, n .low))), links-room n))
 
-mul-mark : tie.Need-mul-mark
-mul-mark c = search needs
+mul-next : tie.Need-mul-next
+mul-next c = search needs
 
-shared-slice-read-mark : tie.Need-shared-slice-read-mark
-shared-slice-read-mark c = search needs
+shared-slice-read-next : tie.Need-shared-slice-read-next
+shared-slice-read-next c = search needs
 
 mark-requires : tie.Need-mark-requires
 mark-requires c κs =
@@ -73,8 +73,8 @@ follow-spec =
     shared-slice-read-to
     cast-to
     mark-links-requires
-    mul-mark
-    shared-slice-read-mark
+    mul-next
+    shared-slice-read-next
     mark-requires
     same-length
     same-length-2
