@@ -1,0 +1,2 @@
+-- What one line of the list says.
+pub mod Shapes
