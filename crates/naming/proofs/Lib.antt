@@ -2,3 +2,6 @@
 pub mod Shapes
 -- One name after others.
 pub mod Entries
+-- The lines of one use.
+pub mod Turns
+pub mod Progress
