@@ -2,9 +2,9 @@
 -- that it can end. Assumes nothing.
 use mathlib.Core.Path.{_≡_, refl, sym, ap, ap₂, subst, _∙_}
 use mathlib.Core.Bool.{Bool, true, false, _||_}
-use mathlib.Core.List.{List, [], _∷_}
+use mathlib.Core.List.{List, _∷_}
 use mathlib.Core.Option.{Option, none, some}
-use Prim.Native.Nat.{ℕ, zero, suc, _+_, _-_, _≤_, _<_}
+use Prim.Native.Nat.{ℕ, zero, suc, _+_, _-_, _<_}
 use native.Mathlib.Omega.{arith}
 use lib.ListN.{length, getD, take, drop, set, length-set}
 use lib.Seq.{getD-set-same, getD-set-other}
@@ -20,9 +20,8 @@ use Rattle.probing.specs.declared.Found.the-variants.{At, Nothing}
 use Rattle.probing.specs.Probing.{earlier, first, Kept}
 use Rattle.names.specs.Names.{nameAt, sameName, Placed, hashName}
 use Rattle.names.proofs.Keys.{kept-set, placed-set}
-use Rattle.naming.specs.declared.Group.{Group}
 use Rattle.naming.specs.declared.Group.the-variants.{Done, Refused}
-use Rattle.naming.specs.Lines.{spot, nameIf, nameDue, Lists, earlierNames, Entered, oneName, OneLeft}
+use Rattle.naming.specs.Lines.{spot, nameIf, nameDue, Lists, earlierNames, Entered, oneName, NextName, Left}
 
 -- ---- The names of the first entries
 
@@ -89,9 +88,9 @@ module _ (text starts ends slots : List ℕ) (i n place : ℕ) where
   abbrev due : Read (List ℕ)
   due = oneName text i (earlierNames text starts ends i) n place
 
-  pub other-left : nameDue text i place ≡ none → (s e l : List ℕ) → OneLeft text starts ends i due (Refused (WrongShape n 1)) s e l
+  pub other-left : nameDue text i place ≡ none → (s e l : List ℕ) → Left (NextName text starts ends i s e l) due (Refused (WrongShape n 1))
   other-left h s e l =
-      subst (λ (r : Read (List ℕ)). OneLeft text starts ends i r (Refused (WrongShape n 1)) s e l)
+      subst (λ (r : Read (List ℕ)). Left (NextName text starts ends i s e l) r (Refused (WrongShape n 1)))
       (sym (one-wrong text i (earlierNames text starts ends i) n place h)) refl
 
   module _ (from to : ℕ) (entered : Entered text starts ends slots i) (few : i < 2048) (lists : Lists text i place from to) where
@@ -135,18 +134,20 @@ module _ (text starts ends slots : List ℕ) (i n place : ℕ) where
         ∙ (among-first text starts′ ends′ name i ∙ sym (ap isAt (e ∙ ap (λ (k : List ℕ). first (sameName text starts′ ends′ k) i) stored)))
 
     pub again-left : (x : ℕ) → At x ≡ first (sameName text starts′ ends′ (nameAt text starts′ ends′ i)) i → (s e l : List ℕ)
-        → OneLeft text starts ends i due (Refused (WrongName n 1)) s e l
+        → Left (NextName text starts ends i s e l) due (Refused (WrongName n 1))
     again-left x h s e l =
-        subst (λ (r : Read (List ℕ)). OneLeft text starts ends i r (Refused (WrongName n 1)) s e l)
+        subst (λ (r : Read (List ℕ)). Left (NextName text starts ends i s e l) r (Refused (WrongName n 1)))
         (sym (one-by text i (earlierNames text starts ends i) n place name true (lists .name) (among (At x) h))) refl
 
     pub name-left : Nothing ≡ first (sameName text starts′ ends′ (nameAt text starts′ ends′ i)) i → (l : List ℕ) → length l ≡ length slots
-        → Kept (sameName text starts′ ends′) hashName l (suc i) → OneLeft text starts ends i due (Done (spot (n + 1) (to + 1))) starts′ ends′ l
+        → Kept (sameName text starts′ ends′) hashName l (suc i) → Left (NextName text starts ends i starts′ ends′ l) due (Done (spot (n + 1) (to + 1)))
     name-left h l same kept =
         let next : to + 1 ≡ place + suc (length (lineOf (drop place text))) = omega (arith, lists .ends) in
-        subst (λ (r : Read (List ℕ)). OneLeft text starts ends i r (Done (spot (n + 1) (to + 1))) starts′ ends′ l)
+        subst (λ (r : Read (List ℕ)). Left (NextName text starts ends i starts′ ends′ l) r (Done (spot (n + 1) (to + 1))))
         (sym (one-by text i (earlierNames text starts ends i) n place name false (lists .name) (among Nothing h))) (
           ap (λ (p : ℕ). Done (spot (n + 1) p)) next,
-          record { placed = placed′; kept = kept; starts-length = long; slots-length = same ∙ entered .slots-length },
-          ap₂ _∷_ stored others,
+          record {
+            entered = record { placed = placed′; kept = kept; starts-length = long; slots-length = same ∙ entered .slots-length };
+            names = ap₂ _∷_ stored others;
+          },
         )

@@ -3,8 +3,8 @@ use mathlib.Core.Path.{_≡_, refl, sym, ap, subst, _∙_}
 use mathlib.Core.Bool.{Bool, true, false}
 use mathlib.Core.List.{List, [], _∷_}
 use mathlib.Core.Logic.{⊎-elim}
-use mathlib.Core.Option.{Option, none, some}
-use Prim.Native.Nat.{ℕ, zero, suc, _+_, _≤_, _<_}
+use mathlib.Core.Option.{Option, some}
+use Prim.Native.Nat.{ℕ, suc, _+_, _≤_, _<_}
 use native.Mathlib.Omega.{arith}
 use lib.ListN.{length, getD}
 use Rattle.rules.specs.Tokens.{sameBytes}
@@ -12,7 +12,7 @@ use Rattle.rules.specs.Naming.{listedFrom, listedAt}
 use Rattle.probing.specs.declared.Found.{Found}
 use Rattle.probing.specs.Probing.{first, Kept}
 use Rattle.probing.proofs.First.{below, none-first, at-first}
-use Rattle.names.specs.Names.{nameAt, sameName, Placed, hashName}
+use Rattle.names.specs.Names.{sameName, Placed, hashName}
 use Rattle.naming.specs.Listing.{Listed, asFound}
 
 -- The first place with a name among the places from i on, where none before i has it.

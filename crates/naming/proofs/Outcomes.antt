@@ -19,32 +19,12 @@ use Rattle.naming.specs.declared.Group.{Group}
 use Rattle.naming.specs.declared.Group.the-variants.{Done, Refused}
 use Rattle.naming.specs.declared.NamesRead.{NamesRead}
 use Rattle.naming.specs.declared.NamesRead.the-variants.{Read as NamesAre, Refused as NamesRefused}
-use Rattle.naming.specs.Lines.{spot, LinesLeft, wholeIf, wholeList}
+use Rattle.naming.specs.Lines.{Left, wholeIf, wholeList}
 use Rattle.naming.specs.Listing.{Listed, NamesLeft}
-use Rattle.naming.proofs.Turns.{Counts, lines-count}
+use Rattle.naming.proofs.Turns.{went, halted, Counts, lines-count}
 
 apart : {A : Type 0} → _≡_ {A = ℕ} 0 1 → A
 apart z = absurd (omega arith)
-
--- ---- The names of one use
-
-record Went (text : List ℕ) (r : Read (List (List ℕ))) (s : Spot) (starts ends slots : List ℕ) : Type 0 where
-  names : List (List ℕ)
-  read : r ≡ found (names, s .line, s .at)
-  listed : Listed text starts ends slots names
-
-went : (text : List ℕ) (r : Read (List (List ℕ))) (g : Group) (starts ends slots : List ℕ) → LinesLeft text r g starts ends slots → (s : Spot) → g ≡ Done s
-    → Went text r s starts ends slots
-went text (found (names, n, place)) g starts ends slots h s e =
-    let w = sym (h .0) ∙ e in
-    let q : spot n place ≡ s = cc in
-    record { names = names; read = ap (λ (x : Spot). found (names, x .line, x .at)) q; listed = h .1 }
-went text (refused a) g starts ends slots h s e = let w = sym h ∙ e in apart (cc)
-
-halted : (text : List ℕ) (r : Read (List (List ℕ))) (g : Group) (starts ends slots : List ℕ) → LinesLeft text r g starts ends slots → (a : Answer)
-    → g ≡ Refused a → r ≡ refused a
-halted text (found (names, n, place)) g starts ends slots h a e = let w = sym (h .0) ∙ e in apart (cc)
-halted text (refused b) g starts ends slots h a e = let w = sym h ∙ e in let q : b ≡ a = cc in ap refused q
 
 -- ---- The two uses, one after the other
 
@@ -67,45 +47,45 @@ module _ (text : List ℕ) (h : Header) where
   unfolding readNames
   names-are = refl
 
-  module _ (g : Group) (ts te tl : List ℕ) (left : LinesLeft text (nameLines text (h .actions + h .compounds) 0 [] 1 0) g ts te tl) where
+  module _ (g : Group) (ts te tl : List ℕ) (left : Left (Listed text ts te tl) (nameLines text (h .actions + h .compounds) 0 [] 1 0) g) where
     pub tasks-refused : (a : Answer) → g ≡ Refused a → (s e l ms me ml : List ℕ) → NamesLeft text (readNames h text) (NamesRefused a) s e l ms me ml
     tasks-refused a e s t l ms me ml =
-        subst (λ (r : Result Names). NamesLeft text r (NamesRefused a) s t l ms me ml) (sym (names-are ∙ ap afterTasks (halted text taskLines g ts te tl left a e))) refl
+        subst (λ (r : Result Names). NamesLeft text r (NamesRefused a) s t l ms me ml) (sym (names-are ∙ ap afterTasks (halted (Listed text ts te tl) taskLines g left a e))) refl
 
     module _ (next : Spot) (e : g ≡ Done next) where
-      w : Went text taskLines next ts te tl
-      w = went text taskLines g ts te tl left next e
+      w : (tasks : List (List ℕ)) × (taskLines ≡ found (tasks, next .line, next .at)) × Listed text ts te tl tasks
+      w = went (Listed text ts te tl) taskLines g left next e
 
       -- The number of the methods' first line.
       pub next-few : h .actions + h .compounds ≤ 2048 → next .line ≤ 2049
       next-few few =
-          let c = subst (Counts (h .actions + h .compounds) 1) (w .read) (lines-count text (h .actions + h .compounds) 0 [] 1 0) in
+          let c = subst (Counts (h .actions + h .compounds) 1) (w .1) (lines-count text (h .actions + h .compounds) 0 [] 1 0) in
           omega (arith, c .1)
 
-      names-then : readNames h text ≡ afterMethods (w .names) (methodLines (next .line) (next .at))
-      names-then = names-are ∙ ap afterTasks (w .read)
+      names-then : readNames h text ≡ afterMethods (w .0) (methodLines (next .line) (next .at))
+      names-then = names-are ∙ ap afterTasks (w .1)
 
-      module _ (g′ : Group) (ms me ml : List ℕ) (left′ : LinesLeft text (nameLines text (h .methods) 0 [] (next .line) (next .at)) g′ ms me ml) where
+      module _ (g′ : Group) (ms me ml : List ℕ) (left′ : Left (Listed text ms me ml) (nameLines text (h .methods) 0 [] (next .line) (next .at)) g′) where
         pub methods-refused : (a : Answer) → g′ ≡ Refused a → (s t l s′ t′ l′ : List ℕ) → NamesLeft text (readNames h text) (NamesRefused a) s t l s′ t′ l′
         methods-refused a q s t l s′ t′ l′ =
             subst (λ (r : Result Names). NamesLeft text r (NamesRefused a) s t l s′ t′ l′)
-            (sym (names-then ∙ ap (afterMethods (w .names)) (halted text (methodLines (next .line) (next .at)) g′ ms me ml left′ a q))) refl
+            (sym (names-then ∙ ap (afterMethods (w .0)) (halted (Listed text ms me ml) (methodLines (next .line) (next .at)) g′ left′ a q))) refl
 
         pub names-left : (end : Spot) → g′ ≡ Done end → (r : NamesRead) → r ≡ wholeList text end → NamesLeft text (readNames h text) r ts te tl ms me ml
         unfolding noMore
         names-left end q r whole =
-            subst (λ (y : Result Names). NamesLeft text y r ts te tl ms me ml) (sym (names-then ∙ ap (afterMethods (w .names)) (v .read))) (go (ltb (end .at) (length text)) whole)
+            subst (λ (y : Result Names). NamesLeft text y r ts te tl ms me ml) (sym (names-then ∙ ap (afterMethods (w .0)) (v .1))) (go (ltb (end .at) (length text)) whole)
           where
-            v : Went text (methodLines (next .line) (next .at)) end ms me ml
-            v = went text (methodLines (next .line) (next .at)) g′ ms me ml left′ end q
+            v : (methods : List (List ℕ)) × (methodLines (next .line) (next .at) ≡ found (methods, end .line, end .at)) × Listed text ms me ml methods
+            v = went (Listed text ms me ml) (methodLines (next .line) (next .at)) g′ left′ end q
 
             unless : Bool → Result (Unit {0})
             unless x = elim x [ true ↦ refused (WrongShape (end .line) 1) | false ↦ found tt ]
 
             go : (x : Bool) → r ≡ wholeIf x (WrongShape (end .line) 1)
-                → NamesLeft text (unless x >> found (record { tasks = w .names; methods = v .names })) r ts te tl ms me ml
+                → NamesLeft text (unless x >> found (record { tasks = w .0; methods = v .0 })) r ts te tl ms me ml
             go true z = z
-            go false z = (z, w .listed, v .listed)
+            go false z = (z, w .2, v .2)
 
 -- ---- What a caller knows
 

@@ -19,12 +19,9 @@ use Rattle.names.proofs.Keys.{zeros-placed}
 use Rattle.naming.specs.declared.Spot.{Spot}
 use Rattle.naming.specs.declared.Group.{Group}
 use Rattle.naming.specs.declared.Group.the-variants.{Done, Refused}
-use Rattle.naming.specs.Lines.{spot, earlierNames, Entered, oneName, OneLeft, LinesLeft}
+use Rattle.naming.specs.Lines.{earlierNames, Entered, oneName, NextName, Left}
 use Rattle.naming.specs.Listing.{Blank, Listed}
-use Rattle.naming.proofs.Turns.{others, lines-by-one, Follows, one-follows}
-
-apart : {A : Type 0} → _≡_ {A = ℕ} 0 1 → A
-apart z = absurd (omega arith)
+use Rattle.naming.proofs.Turns.{went, halted, others, lines-by-one, Follows, one-follows}
 
 -- ---- Names put before others
 
@@ -65,26 +62,6 @@ module _ (text starts ends : List ℕ) where
       (below e n)
 
 -- ---- The invariant
-
--- What a line that was read left.
-pub record Went (text starts₀ ends₀ : List ℕ) (i : ℕ) (r : Read (List ℕ)) (s : Spot) (starts ends slots : List ℕ) : Type 0 where
-  pub name : List ℕ
-  pub read : r ≡ found (name, s .line, s .at)
-  pub entered : Entered text starts ends slots (suc i)
-  pub names : earlierNames text starts ends (suc i) ≡ name ∷ earlierNames text starts₀ ends₀ i
-
-module _ (text starts₀ ends₀ : List ℕ) (i : ℕ) where
-  went : (r : Read (List ℕ)) (g : Group) (starts ends slots : List ℕ) → OneLeft text starts₀ ends₀ i r g starts ends slots → (s : Spot) → g ≡ Done s
-      → Went text starts₀ ends₀ i r s starts ends slots
-  went (found (name, n, place)) g starts ends slots h s e =
-      let q : spot n place ≡ s = let w = sym (h .0) ∙ e in cc in
-      record { name = name; read = ap (λ (x : Spot). found (name, x .line, x .at)) q; entered = h .1; names = h .2 }
-  went (refused a) g starts ends slots h s e = let w = sym h ∙ e in apart (cc)
-
-  halted : (r : Read (List ℕ)) (g : Group) (starts ends slots : List ℕ) → OneLeft text starts₀ ends₀ i r g starts ends slots → (a : Answer) → g ≡ Refused a
-      → r ≡ refused a
-  halted (found (name, n, place)) g starts ends slots h a e = let w = sym (h .0) ∙ e in apart (cc)
-  halted (refused b) g starts ends slots h a e = let w = sym h ∙ e in let q : b ≡ a = cc in ap refused q
 
 module _ (text : List ℕ) (count : ℕ) (from : Spot) where
   abbrev all : Read (List (List ℕ))
@@ -134,7 +111,7 @@ module _ (text : List ℕ) (count : ℕ) (from : Spot) where
     those = earlierNames text starts ends i
 
     module _ (more : i < count) (g : Group) (starts′ ends′ slots′ : List ℕ)
-        (h : OneLeft text starts ends i (oneName text i (earlierNames text starts ends i) (at .line) (at .at)) g starts′ ends′ slots′) where
+        (h : Left (NextName text starts ends i starts′ ends′ slots′) (oneName text i (earlierNames text starts ends i) (at .line) (at .at)) g) where
       abbrev one : Read (List ℕ)
       one = oneName text i those (at .line) (at .at)
 
@@ -146,13 +123,13 @@ module _ (text : List ℕ) (count : ℕ) (from : Spot) where
           ∙ ap (readBefore those)
           (ap (λ (k : ℕ). nameLines text k i those (at .line) (at .at)) left ∙ lines-by-one text i those (at .line) (at .at) (count - (i + 1)))
 
-      pub stops : (a : Answer) → g ≡ Refused a → (s e l : List ℕ) → LinesLeft text all (Refused a) s e l
+      pub stops : (a : Answer) → g ≡ Refused a → (s e l : List ℕ) → Left (Listed text s e l) all (Refused a)
       stops a e s t l =
-          subst (λ (r : Read (List (List ℕ))). LinesLeft text r (Refused a) s t l)
+          subst (λ (r : Read (List (List ℕ))). Left (Listed text s t l) r (Refused a))
           (sym
           (split
           ∙ ap (λ (r : Read (List ℕ)). readBefore those (r >>= λ (name, n, place). others text i those (at .line) (at .at) (count - (i + 1)) name n place))
-          (halted text starts ends i one g starts′ ends′ slots′ h a e)))
+          (halted (NextName text starts ends i starts′ ends′ slots′) one g h a e)))
           refl
 
       pub goes-on : (s : Spot) → g ≡ Done s → Progress starts′ ends′ slots′ s (i + 1)
@@ -161,28 +138,28 @@ module _ (text : List ℕ) (count : ℕ) (from : Spot) where
           record {
             most = omega arith;
             line = omega (arith, p .line, follows);
-            entered = w .entered;
-            same = split ∙ (ap (λ (r : Read (List ℕ)). readBefore those (r >>= λ (name, n, place). others text i those (at .line) (at .at) (count - (i + 1)) name n place)) (w .read)
-                ∙ (moved (nameLines text (count - (i + 1)) (suc i) (w .name ∷ those) (s .line) (s .at))
-                ∙ (ap (λ (l : List (List ℕ)). readBefore l (nameLines text (count - (i + 1)) (suc i) l (s .line) (s .at))) (sym (w .names))
+            entered = w .2 .entered;
+            same = split ∙ (ap (λ (r : Read (List ℕ)). readBefore those (r >>= λ (name, n, place). others text i those (at .line) (at .at) (count - (i + 1)) name n place)) (w .1)
+                ∙ (moved (nameLines text (count - (i + 1)) (suc i) (w .0 ∷ those) (s .line) (s .at))
+                ∙ (ap (λ (l : List (List ℕ)). readBefore l (nameLines text (count - (i + 1)) (suc i) l (s .line) (s .at))) (sym (w .2 .names))
                 ∙ ap (λ (k : ℕ). readBefore (earlierNames text starts′ ends′ (suc i)) (nameLines text (count - k) (suc i) (earlierNames text starts′ ends′ (suc i)) (s .line) (s .at))) (add-one i))));
           }
         where
-          w : Went text starts ends i one s starts′ ends′ slots′
-          w = went text starts ends i one g starts′ ends′ slots′ h s e
+          w : (name : List ℕ) × (one ≡ found (name, s .line, s .at)) × NextName text starts ends i starts′ ends′ slots′ name
+          w = went (NextName text starts ends i starts′ ends′ slots′) one g h s e
 
           follows : s .line ≡ at .line + 1
-          follows = subst (Follows text i those (at .line) (at .at)) (w .read) (one-follows text i those (at .line) (at .at))
+          follows = subst (Follows text i those (at .line) (at .at)) (w .1) (one-follows text i those (at .line) (at .at))
 
           moved : (r : Read (List (List ℕ)))
-              → readBefore those (r >>= λ (names, n, place). found (w .name ∷ names, n, place)) ≡ readBefore (w .name ∷ those) r
+              → readBefore those (r >>= λ (names, n, place). found (w .0 ∷ names, n, place)) ≡ readBefore (w .0 ∷ those) r
           moved (found (names, n, place)) = refl
           moved (refused a) = refl
 
-    pub ends-here : count ≤ i → i ≤ 2048 → LinesLeft text all (Done at) starts ends slots
+    pub ends-here : count ≤ i → i ≤ 2048 → Left (Listed text starts ends slots) all (Done at)
     ends-here over few =
         let none : count - i ≡ 0 = omega arith in
-        subst (λ (r : Read (List (List ℕ))). LinesLeft text r (Done at) starts ends slots)
+        subst (λ (r : Read (List (List ℕ))). Left (Listed text starts ends slots) r (Done at))
         (sym (p .same ∙ ap (λ (k : ℕ). readBefore those (nameLines text k i those (at .line) (at .at))) none)) (refl, listed)
       where
         size : length (before those []) ≡ i

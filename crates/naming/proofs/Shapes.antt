@@ -3,19 +3,19 @@ use mathlib.Core.Path.{_≡_, refl, sym, ap, _∙_}
 use mathlib.Core.Bool.{Bool, true, false, _&&_}
 use mathlib.Core.List.{List, [], _∷_}
 use mathlib.Core.Option.{Option, none, some}
-use Prim.Native.Nat.{ℕ, suc, _+_, _-_, _≤_, _<_}
+use Prim.Native.Nat.{ℕ, _+_, _-_, _≤_, _<_}
 use native.Mathlib.Omega.{arith}
 use borrow.Author.Tests.{eq-eqb, ne-eqb, eqb-true, eqb-false, le-ltb, lt-ltb}
 use lib.Dec.{eqb, ltb}
-use lib.ListN.{length, getD, take, drop}
+use lib.ListN.{length, getD, drop}
 use Rattle.rules.specs.Text.{isComma, isDigit, isPlain, valueOf, numberIn, feedFollows}
 use Rattle.rules.specs.Faults.{onto, pieces}
 use Rattle.rules.specs.Tokens.{inName, isName, lineOf}
 use Rattle.rules.specs.Naming.{nameFor}
 use Rattle.tokens.specs.declared.Plain.the-variants.{Number as PlainNumber, Other as PlainOther}
-use Rattle.tokens.specs.Pieces.{endsPiece, pieceFrom, asPlain, nameEnd}
+use Rattle.tokens.specs.Pieces.{pieceFrom, asPlain, nameEnd}
 use Rattle.tokens.proofs.Pieces.{ends-by}
-use Rattle.tokens.proofs.Lines.{parts, pieceEnd, lineEnd, piecesAt, end-feeds, end-stops, end-inside, line-last, line-more}
+use Rattle.tokens.proofs.Lines.{parts, pieceEnd, lineEnd, piecesAt, end-stops, end-inside, line-last, line-more}
 use Rattle.tokens.proofs.Words.{number-told, other-told, name-told, no-name-told, piece-slice}
 use Rattle.naming.specs.Lines.{nameIf, nameDue, Lists}
 
@@ -124,9 +124,6 @@ module _ (t : List ℕ) (i p : ℕ) (f : feedFollows t p ≡ true) where
 
       pub name-feeds : feedFollows t (next + 1) ≡ true
       name-feeds = more .2
-
-      name : List ℕ
-      name = pieceFrom 44 t (next + 1)
 
       -- The two pieces of a line that the name ends.
       two : getD t (pieceEnd 44 t (next + 1)) 0 ≡ 10 → nameDue t i p ≡ nameBy (isName (pieceFrom 44 t (next + 1))) (pieceFrom 44 t (next + 1))

@@ -1,11 +1,13 @@
--- The lines of one use, by the first of them; how many names they list, and the number of the line after them. Assumes nothing.
+-- What is read, by the code's answer; the lines of one use, by the first of them; how many names they list, and the number of the line after
+-- them. Assumes nothing.
 use mathlib.Core.Path.{_≡_, refl, sym, ap, subst, _∙_}
 use mathlib.Core.Bool.{Bool, true, false}
-use mathlib.Core.List.{List, [], _∷_}
+use mathlib.Core.List.{List, _∷_}
 use mathlib.Core.Option.{Option, none, some}
 use Prim.Native.Nat.{ℕ, zero, suc, _+_}
 use native.Mathlib.Omega.{arith}
 use lib.ListN.{length, drop}
+use Rattle.rules.specs.declared.Answer.{Answer}
 use Rattle.rules.specs.declared.Answer.the-variants.{WrongShape}
 use Rattle.rules.specs.Result.{Result, found, refused, _>>=_, _>>_}
 use Rattle.rules.specs.Text.{isComma, feedFollows}
@@ -13,7 +15,31 @@ use Rattle.rules.specs.Case.{Read}
 use Rattle.rules.specs.Faults.{pieces}
 use Rattle.rules.specs.Tokens.{lineOf, dueLine, shaped}
 use Rattle.rules.specs.Naming.{nameFor, notAgain, nameLines}
-use Rattle.naming.specs.Lines.{oneName}
+use Rattle.naming.specs.declared.Spot.{Spot}
+use Rattle.naming.specs.declared.Group.{Group}
+use Rattle.naming.specs.declared.Group.the-variants.{Done, Refused}
+use Rattle.naming.specs.Lines.{spot, oneName, Left}
+
+apart : {A : Type 0} → _≡_ {A = ℕ} 0 1 → A
+apart z = absurd (omega arith)
+
+-- ---- By the code's answer
+
+module _ {A : Type 0} (known : A → Type 0) where
+  -- It goes on at a spot.
+  pub went : (r : Read A) (g : Group) → Left known r g → (s : Spot) → g ≡ Done s → (a : A) × (r ≡ found (a, s .line, s .at)) × known a
+  went (found (a, n, place)) g h s e =
+      let w = sym (h .0) ∙ e in
+      let q : spot n place ≡ s = cc in
+      (a, ap (λ (x : Spot). found (a, x .line, x .at)) q, h .1)
+  went (refused x) g h s e = let w = sym h ∙ e in apart (cc)
+
+  -- It refuses the text.
+  pub halted : (r : Read A) (g : Group) → Left known r g → (x : Answer) → g ≡ Refused x → r ≡ refused x
+  halted (found (a, n, place)) g h x e = let w = sym (h .0) ∙ e in apart (cc)
+  halted (refused y) g h x e = let w = sym h ∙ e in let q : y ≡ x = cc in ap refused q
+
+-- ---- By the first line
 
 module _ (text : List ℕ) (i : ℕ) (earlier : List (List ℕ)) (n place : ℕ) where
   abbrev first : Read (List ℕ) → Read (List ℕ)

@@ -23,7 +23,6 @@ use Rattle.naming.specs.declared.Group.{Group}
 use Rattle.naming.specs.declared.Group.the-variants.{Done, Refused}
 use Rattle.naming.specs.declared.NamesRead.{NamesRead}
 use Rattle.naming.specs.declared.NamesRead.the-variants.{Read as NamesAre, Refused as NamesRefused}
-use Rattle.naming.specs.Listing.{Listed}
 
 abbrev pub spot : ℕ → ℕ → Spot
 spot n place = record { line = n; at = place }
@@ -71,19 +70,19 @@ oneName text i earlier n place = do
   notAgain n earlier name
   found (name, n′, place′)
 
--- A name that is read is the next entry, after those of the lists before. Nothing is said of the lists that a refusal leaves.
-abbrev pub OneLeft : List ℕ → List ℕ → List ℕ → ℕ → Read (List ℕ) → Group → List ℕ → List ℕ → List ℕ → Type 0
-OneLeft text starts₀ ends₀ i (found (name, n, place)) r starts ends slots =
-    (r ≡ Done (spot n place)) × Entered text starts ends slots (suc i)
-    × (earlierNames text starts ends (suc i) ≡ name ∷ earlierNames text starts₀ ends₀ i)
-OneLeft text starts₀ ends₀ i (refused a) r starts ends slots = r ≡ Refused a
+-- The name is the next entry, after those of the lists before.
+pub record NextName (text starts₀ ends₀ : List ℕ) (i : ℕ) (starts ends slots : List ℕ) (name : List ℕ) : Type 0 where
+  pub entered : Entered text starts ends slots (suc i)
+  pub names : earlierNames text starts ends (suc i) ≡ name ∷ earlierNames text starts₀ ends₀ i
 
--- ---- The names of one use, and the end of the list
+-- ---- What is read
 
-abbrev pub LinesLeft : List ℕ → Read (List (List ℕ)) → Group → List ℕ → List ℕ → List ℕ → Type 0
-LinesLeft text (found (names, n, place)) r starts ends slots = (r ≡ Done (spot n place)) × Listed text starts ends slots names
-LinesLeft text (refused a) r starts ends slots = r ≡ Refused a
+-- What is known of what is read, and where the next line is; or the refusal. Nothing is said of the lists that a refusal leaves.
+abbrev pub Left : {A : Type 0} → (A → Type 0) → Read A → Group → Type 0
+Left known (found (a, n, place)) r = (r ≡ Done (spot n place)) × known a
+Left known (refused x) r = r ≡ Refused x
 
+-- A list whose lines end at a spot: whole, if the text ends there too.
 abbrev pub wholeIf : Bool → Answer → NamesRead
 wholeIf true a = NamesRefused a
 wholeIf false a = NamesAre

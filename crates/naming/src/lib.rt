@@ -6,11 +6,10 @@ ghost use mathlib.Core.Path.{_≡_};
 ghost use mathlib.Core.List.{[]};
 ghost use Prim.Native.Nat.{ℕ, _+_, _<_, _≤_};
 ghost use lib.Dec.{ltb};
-ghost use lib.ListN.{length};
 ghost use Rattle.rules.specs.Text.{feedFollows};
 ghost use Rattle.rules.specs.Naming.{nameLines, readNames};
-ghost use Rattle.naming.specs.Lines.{Told, Entered, earlierNames, oneName, OneLeft, LinesLeft, wholeList};
-ghost use Rattle.naming.specs.Listing.{Blank, NamesLeft};
+ghost use Rattle.naming.specs.Lines.{Told, Entered, earlierNames, oneName, NextName, Left, wholeList};
+ghost use Rattle.naming.specs.Listing.{Blank, Listed, NamesLeft};
 use probing::Found;
 use rules::Answer;
 use rules::Header;
@@ -83,7 +82,7 @@ fn next_name(
     requires { ⌜ ((p : ℕ) → feedFollows (now text) p ≡ ltb p past) ⌝ }
     requires { ⌜ (at .line ≤ 4096) × (number < 2048) ⌝ }
     requires { ⌜ Entered (now text) (now starts) (now ends) (now slots) number ⌝ }
-    ensures { λ r. ⌜ OneLeft (now (text .entry)) (now (starts .entry)) (now (ends .entry)) number (oneName (now (text .entry)) number (earlierNames (now (text .entry)) (now (starts .entry)) (now (ends .entry)) number) (at .line) (at .at)) r (now (starts .exit)) (now (ends .exit)) (now (slots .exit)) ⌝ }
+    ensures { λ r. ⌜ Left (NextName (now (text .entry)) (now (starts .entry)) (now (ends .entry)) number (now (starts .exit)) (now (ends .exit)) (now (slots .exit))) (oneName (now (text .entry)) number (earlierNames (now (text .entry)) (now (starts .entry)) (now (ends .entry)) number) (at .line) (at .at)) r ⌝ }
 {
     let line = at.line;
     match name_line(text, past, at.at, number) {
@@ -121,7 +120,7 @@ fn lines_of(
     requires { ⌜ ((p : ℕ) → feedFollows (now text) p ≡ ltb p past) ⌝ }
     requires { ⌜ (from .line ≤ 2049) × (count ≤ 2048) ⌝ }
     requires { ⌜ Blank (now starts) (now ends) (now slots) ⌝ }
-    ensures { λ r. ⌜ LinesLeft (now (text .entry)) (nameLines (now (text .entry)) count 0 [] (from .line) (from .at)) r (now (starts .exit)) (now (ends .exit)) (now (slots .exit)) ⌝ }
+    ensures { λ r. ⌜ Left (Listed (now (text .entry)) (now (starts .exit)) (now (ends .exit)) (now (slots .exit))) (nameLines (now (text .entry)) count 0 [] (from .line) (from .at)) r ⌝ }
 {
     probing::clear(slots);
     let mut at = from;

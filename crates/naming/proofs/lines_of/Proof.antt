@@ -1,6 +1,6 @@
 -- `lines_of`: the names so far, with those of the lines from here on, are the names of all lines (Progress). Assumes nothing.
 use mathlib.Core.Path.{_∙_}
-use Prim.Native.Nat.{_-_, _+_, _≤_, _<_}
+use Prim.Native.Nat.{_-_}
 use native.Mathlib.Omega.{arith}
 use borrow.Author.Needs.{needs}
 use Rattle.naming.proofs.Progress.{Progress, begins, sizes, goes-on, stops, ends-here}

@@ -1,6 +1,5 @@
 -- `name_line`: the laws of a line (Shapes), one for each way out. Assumes nothing.
 use mathlib.Core.Path.{sym, _∙_}
-use Prim.Native.Nat.{_+_, _<_}
 use native.Mathlib.Omega.{arith}
 use borrow.Author.Needs.{needs}
 use Rattle.naming.proofs.Shapes.{digit-comma, name-comma, no-line, line-feeds, no-number, next-inside, another-number, no-comma, name-feeds, no-name, end-in, more-after, lists}

@@ -1,9 +1,7 @@
 -- `next_name`: the line as it was told, and the table's answer, as the definition reads them (Entries). Assumes nothing.
 use mathlib.Core.Path.{sym, subst, _∙_}
-use Prim.Native.Nat.{_+_, _<_}
 use native.Mathlib.Omega.{arith}
 use borrow.Author.Needs.{needs}
-use lib.ListN.{length}
 use Rattle.naming.specs.Lines.{Told}
 use Rattle.naming.proofs.Entries.{other-left, insert-ready, again-left, name-left}
 use Rattle.naming.proofs.next_name.Statement.{statement}

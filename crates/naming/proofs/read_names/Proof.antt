@@ -1,5 +1,4 @@
 -- `read_names`: the tasks, then the methods, each as the definition reads them, then the end (Outcomes). Assumes nothing.
-use Prim.Native.Nat.{_+_, _≤_}
 use native.Mathlib.Omega.{arith}
 use Rattle.naming.proofs.Outcomes.{tasks-refused, next-few, methods-refused, names-left}
 use borrow.Author.Needs.{needs}
