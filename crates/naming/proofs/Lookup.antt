@@ -48,12 +48,16 @@ module _ (text starts ends slots : List ℕ) (names : List (List ℕ)) (listed :
       each e h = let z : 0 + e ≡ e = omega arith in ap (sameName text starts ends name) z ∙ ap (λ (l : List ℕ). sameBytes l name) (listed .each e h)
 
   module _ (count : ℕ) (all : count ≡ length names) where
-    -- What `names::find` asks of the lists.
-    pub find-ready : (length slots ≡ 4096) × (count ≤ length starts) × Placed text starts ends × Kept (sameName text starts ends) hashName slots count
-    find-ready = (
+    -- What `names::find` asks, for the name other[from..to].
+    pub find-ready : (other : List ℕ) (from to : ℕ) → from ≤ to → to ≤ length other
+        → (length slots ≡ 4096) × (count ≤ length starts) × Placed text starts ends × (from ≤ to) × (to ≤ length other)
+        × Kept (sameName text starts ends) hashName slots count
+    find-ready other from to order inside = (
       listed .slots-length,
       omega (arith, listed .most, listed .starts-length),
       listed .placed,
+      order,
+      inside,
       subst (Kept (sameName text starts ends) hashName slots) (sym all) (listed .kept),
     )
 

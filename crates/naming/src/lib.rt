@@ -1,7 +1,7 @@
 // The name list that comes beside a case (02, Card 6): "number and name by comma, for all tasks and then all methods, ascending". One pass over
 // the text leaves the place of each name by its number, and a table that finds the number of a name. The answer is that of the definitions of
-// `rules`: "17, line missing, surplus or of another shape" and "18 [..] a name [..] listed again among the tasks or among the methods (the
-// later line)", on each line 17 and then 18.
+// `rules`: "17, line missing, surplus [..] or of another shape, first on each line; 18, a name [..] listed again among the tasks or among the
+// methods (the later line) [..] next on the line [..] item 1 in the name list".
 ghost use mathlib.Core.Path.{_≡_};
 ghost use mathlib.Core.List.{[]};
 ghost use Prim.Native.Nat.{ℕ, _+_, _<_, _≤_};
@@ -137,7 +137,7 @@ fn lines_of(
     Group::Done { next: at }
 }
 
-// A list whose last due line is read, if nothing comes after it: "line [..] surplus".
+// A list whose last due line is read, if nothing comes after it: a further line is "surplus".
 fn whole(text: &[u8], end: Spot) -> NamesRead
     ensures { λ r. ⌜ r ≡ wholeList (now (text .entry)) end ⌝ }
 {

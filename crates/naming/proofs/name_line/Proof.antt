@@ -10,7 +10,7 @@ returns : tie.Need-returns
 returns c =
     let s = c .before .before in
     let a = s .args in
-    no-line (a .text .now) (a .number) (a .at) (a .past) (s .pre (a .at)) (c .if1 .taken)
+    no-line (a .text .now) (a .number) (a .at) (a .past) (s .pre (a .at)) (omega arith)
 
 number-at-requires : tie.Need-number-at-requires
 number-at-requires c κs =
@@ -30,7 +30,7 @@ returns-2 c =
     let a = s .args in
     let f = line-feeds (a .text .now) (a .at) (a .past) (s .pre (a .at)) (c .before .before .before .before .before .if1 .left) in
     let x = c .before .before .value .given in
-    another-number (a .text .now) (a .number) (a .at) f (x .0 .0) (x .0 .1 .0) (sym (x .1) ∙ c .before .before .before .before .number-at .ensures) (c .if2 .taken)
+    another-number (a .text .now) (a .number) (a .at) f (x .0 .0) (x .0 .1 .0) (sym (x .1) ∙ c .before .before .before .before .number-at .ensures) (λ q. omega arith)
 
 shared-slice-read-if3 : tie.Need-shared-slice-read-if3
 shared-slice-read-if3 c =
@@ -74,7 +74,7 @@ returns-4 c =
     let f = line-feeds (a .text .now) (a .at) (a .past) (s .pre (a .at)) (c .before .before .before .before .before .before .before .before .before .if1 .left) in
     let x = c .before .before .before .before .before .before .value .given in
     let to = c .before .name-end in
-    no-name (a .text .now) (a .number) (a .at) f (x .0 .0) (x .0 .1 .0) (sym (x .1) ∙ c .before .before .before .before .before .before .before .before .number-at .ensures) (c .before .before .before .before .if2 .left) (c .before .before .if3 .left) (to .result) (to .ensures) (c .if4 .taken)
+    no-name (a .text .now) (a .number) (a .at) f (x .0 .0) (x .0 .1 .0) (sym (x .1) ∙ c .before .before .before .before .before .before .before .before .number-at .ensures) (c .before .before .before .before .if2 .left) (c .before .before .if3 .left) (to .result) (to .ensures) (omega arith)
 
 shared-slice-read-if5 : tie.Need-shared-slice-read-if5
 shared-slice-read-if5 c =
