@@ -53,7 +53,7 @@ lines-of-requires-2 c κs =
     let r = c .before .before .before .before .before .before .before .before .before .before .before .before .before .lines-of in
     let n = c .before .before .before .before .before .next .given in
     let line = next-few (a .text .now) (a .header) (r .result) _ _ _ (r .ensures) (n .0 .0) (n .1) (few .0) in
-    (c .before .before .before .before .before .before .before .before .before .before .before .before .before .before .before .before .before .before .past-last-feed .ensures .0, ((line, few .1), s .pre .1 .1))
+    (c .before .before .before .before .before .before .before .before .before .before .before .before .before .before .before .before .before .before .past-last-feed .ensures .0, ((omega (arith, line), few .1), s .pre .1 .1))
 
 enum-known-next-2 : tie.Need-enum-known-next-2
 enum-known-next-2 c = search needs
