@@ -1,0 +1,4 @@
+-- The link of an id, by the table's answer, for callers.
+pub mod Found
+-- The lines that define the same id.
+pub mod Pairs

@@ -34,6 +34,10 @@ pub record Lines (es : List FormLine) (cues : ℕ) (ids labels : List ℕ) : Typ
   pub taskHere : (e : ℕ) → cues ≤ e → e < length es
       → (subtasks : List ℕ) × (lineAt es e ≡ taskLine (e + 3) (getD ids e 0) (getD labels e 0) subtasks) × (length subtasks ≤ 32)
 
+-- The ids that lines define, in a plain list.
+abbrev pub Defined : List FormLine → List ℕ → Type 0
+Defined es ids = (e : ℕ) → e < length es → defines (lineAt es e) ≡ getD ids e 0
+
 -- The links of each line's subtasks, in their order, from its start up to the next line's.
 pub record Linked (es : List FormLine) (starts links : List ℕ) : Type 0 where
   pub ordered : (e : ℕ) → e < length es → getD starts e 0 ≤ getD starts (e + 1) 0
