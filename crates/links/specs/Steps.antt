@@ -1,10 +1,12 @@
 -- What the steps of linking keep, a line or an id at a time. Assumes nothing.
 use mathlib.Core.Path.{_≡_}
-use mathlib.Core.Bool.{false}
-use mathlib.Core.List.{List}
+use mathlib.Core.Bool.{Bool, true, false, _||_}
+use mathlib.Core.List.{List, [], _∷_, _++_, map}
 use mathlib.Core.Logic.{_⊎_}
-use Prim.Native.Nat.{ℕ, suc, _<_}
-use lib.ListN.{getD}
+use Prim.Native.Nat.{ℕ, suc, _+_, _≤_, _<_}
+use lib.Dec.{eqb}
+use lib.ListN.{length, getD, take}
+use Rattle.rules.specs.Form.{times}
 use Rattle.probing.specs.declared.Found.{Found}
 use Rattle.probing.specs.declared.Found.the-variants.{At, Nothing}
 use Rattle.probing.specs.Probing.{first}
@@ -30,3 +32,26 @@ pub record Paired (ids : List ℕ) (n : ℕ) (twin last : List ℕ) : Type 0 whe
   pub chained : (d : ℕ) → d < n → Opens ids d ⊎ ((e : ℕ) × (getD twin e 0 ≡ suc d))
   pub ends : (f : ℕ) → f < n → Opens ids f
       → (getD last f 0 < n) × (getD ids (getD last f 0) 0 ≡ getD ids f 0) × (getD twin (getD last f 0) 0 ≡ 0)
+
+-- The first n links are stored, and each is counted at the line that it links to.
+pub record Tallied (count n : ℕ) (links used : List ℕ) : Type 0 where
+  pub within : n ≤ length links
+  pub low : (u : ℕ) → getD links u 0 ≤ count
+  pub tally : (d : ℕ) → getD used d 0 ≡ times (suc d) (take n links)
+
+-- Some of these links is none: no line defines the id.
+abbrev pub anyNone : List ℕ → Bool
+anyNone [] = false
+anyNone (l ∷ ls) = eqb l 0 || anyNone ls
+
+-- The links of these ids are stored after the first `start`: `end` links then, and whether one of the new ones is none.
+pub record Stored (linkOf : ℕ → ℕ) (ids : List ℕ) (start : ℕ) (before : List ℕ) (end : ℕ) (missing : Bool) (after : List ℕ) : Type 0 where
+  pub ends : end ≡ start + length ids
+  pub taken : take end after ≡ take start before ++ map linkOf ids
+  pub none : missing ≡ anyNone (map linkOf ids)
+
+-- Of the first n of `count` lines w is the first that fails; `count`, if none does.
+pub record FirstOf (fails : ℕ → Bool) (count n w : ℕ) : Type 0 where
+  pub most : w ≤ count
+  pub passed : (d : ℕ) → d < n → d < w → fails d ≡ false
+  pub failed : w < count → (w < n) × (fails w ≡ true)
