@@ -1,5 +1,5 @@
 -- The link of an id, by the table's answer, for callers.
-pub mod Found
+pub mod Lookups
 -- What the lines of a form that was read have, for callers.
 pub mod Written
 -- The lines that define the same id.

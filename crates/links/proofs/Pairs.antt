@@ -16,7 +16,7 @@ use Rattle.probing.proofs.First.{below, first-at, first-none}
 use Rattle.ids.specs.Ids.{sameId}
 use Rattle.links.specs.Links.{lineAt, link, Defined, Twins}
 use Rattle.links.specs.Steps.{Opens, Paired}
-use Rattle.links.proofs.Found.{link-here}
+use Rattle.links.proofs.Lookups.{link-here}
 
 pub same-or-not : (a b : ℕ) → (a ≡ b) ⊎ (a ≡ b → ⊥)
 same-or-not a b = go (eqb a b) refl

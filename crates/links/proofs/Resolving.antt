@@ -1,6 +1,6 @@
 -- The links of all lines, one line more at a time: what is kept, and what it says at the end. Assumes nothing.
 use mathlib.Core.Path.{_≡_, refl, sym, ap, subst, _∙_}
-use mathlib.Core.Bool.{Bool, true, false}
+use mathlib.Core.Bool.{Bool}
 use mathlib.Core.List.{List, [], _∷_, _++_, map, map-append}
 use mathlib.Core.Logic.{⊎-elim}
 use Prim.Native.Nat.{ℕ, suc, _+_, _*_, _≤_, _<_}
@@ -10,11 +10,11 @@ use lib.ListN.{length, getD, set, take, drop, length-append, length-map}
 use lib.Seq.{slice, getD-set-same, getD-set-other, take-take, take-at, drop-at}
 use Rattle.rules.specs.Form.{FormLine, uses, times, allDefined, allUsed, anyMissing}
 use Rattle.probing.proofs.First.{below}
-use Rattle.links.specs.Links.{lineAt, link, Linked, Counted, Resolved}
+use Rattle.links.specs.Links.{lineAt, link, Resolved}
 use Rattle.links.specs.Steps.{linkIn, anyNone, Tallied, Stored, FirstOf}
-use Rattle.links.proofs.Found.{link-in}
+use Rattle.links.proofs.Lookups.{link-in}
 use Rattle.links.proofs.Written.{Written}
-use Rattle.links.proofs.Uses.{usedBy, used-zero, used-next, used-split, used-all, used-none, used-few, none-missing}
+use Rattle.links.proofs.Uses.{usedBy, used-next, used-split, used-all, used-none, used-few, none-missing}
 
 -- Line e uses an id that no line defines.
 abbrev pub lacks : List FormLine → ℕ → Bool

@@ -1,9 +1,9 @@
 -- One link more is stored and counted; and the first line that fails, of one line more. Assumes nothing.
-use mathlib.Core.Path.{_≡_, refl, sym, ap, subst, _∙_}
+use mathlib.Core.Path.{_≡_, refl, sym, ap, _∙_}
 use mathlib.Core.Bool.{Bool, true, false, _||_}
-use mathlib.Core.List.{List, [], _∷_, _++_, map, append-assoc}
+use mathlib.Core.List.{List, [], _∷_, _++_}
 use mathlib.Core.Logic.{⊎-elim}
-use Prim.Native.Nat.{ℕ, zero, suc, _+_, _≤_, _<_}
+use Prim.Native.Nat.{ℕ, suc, _+_, _≤_, _<_}
 use native.Mathlib.Numerals.{add-one}
 use native.Mathlib.Omega.{arith}
 use borrow.Author.Tests.{eq-eqb, ne-eqb}
@@ -12,7 +12,7 @@ use lib.ListN.{length, getD, set, take, length-set}
 use lib.Seq.{getD-set-same, getD-set-other, take-suc-set, length-take-le}
 use Rattle.rules.specs.Form.{times}
 use Rattle.probing.proofs.First.{below}
-use Rattle.links.specs.Steps.{Tallied, anyNone, Stored, FirstOf}
+use Rattle.links.specs.Steps.{Tallied, Stored, FirstOf}
 use Rattle.links.proofs.Pairs.{same-or-not}
 
 -- ---- Counting

@@ -1,10 +1,10 @@
 -- What the lines of a form that was read define and use, and where the ids that they use stand. Assumes nothing.
-use mathlib.Core.Path.{_≡_, refl, sym, ap, _∙_}
+use mathlib.Core.Path.{_≡_, ap}
 use mathlib.Core.List.{List, []}
 use mathlib.Core.Logic.{⊎-elim}
 use Prim.Native.Nat.{ℕ, _≤_, _<_}
 use native.Mathlib.Omega.{arith}
-use lib.ListN.{length, getD}
+use lib.ListN.{length}
 use Rattle.rules.specs.Form.{FormLine, defines, uses}
 use Rattle.probing.proofs.First.{below}
 use Rattle.links.specs.Links.{lineAt, Lines, Defined, Spelled}

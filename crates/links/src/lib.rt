@@ -4,7 +4,6 @@ ghost use mathlib.Core.Path.{_≡_};
 ghost use mathlib.Core.Bool.{Bool};
 ghost use mathlib.Core.List.{List, [], _∷_};
 ghost use Prim.Native.Nat.{ℕ, suc, _+_, _*_, _≤_, _<_};
-ghost use lib.Dec.{eqb};
 ghost use lib.ListN.{length, getD};
 ghost use Rattle.rules.specs.Form.{FormLine};
 ghost use Rattle.probing.specs.Probing.{first, Kept};
@@ -33,8 +32,8 @@ fn follow(found: Found, e: usize, twin: &mut [u32], last: &mut [u32])
     }
 }
 
-// The table of the lines' ids, and the twin of each line: "the first line that defines" an id is the one that the table finds, and its twins
-// are the others.
+// The table of the lines' ids, and the twin of each line. The table finds the "first line that defines" an id; the others are its twins and
+// theirs.
 pub fn pair(ids: &[u32], count: usize, slots: &mut [u32], twin: &mut [u32], last: &mut [u32])
     requires { ⌜ (count ≤ 3000) × (count ≤ length (now ids)) × (length (now slots) ≡ 8192) ⌝ }
     requires { ⌜ (count ≤ length (now twin)) × (count ≤ length (now last)) × ((e : ℕ) → getD (now twin) e 0 ≡ 0) ⌝ }
@@ -84,7 +83,8 @@ fn store_link(
     }
 }
 
-// The links of one line's subtasks, whose ids stand in the text from a place on, after the first `start` links.
+// The links of one line's subtasks, whose ids stand in the text from a place on, after the first `start` links. The ids were read before, so each
+// is a plain number.
 fn link_line(
     text: &[u8],
     from: usize,

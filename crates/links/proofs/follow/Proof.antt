@@ -15,13 +15,14 @@ enum-known-found c = search needs
 inside : (c : tie.After-known-told)
     → (c .before .found .given .0 .0 < length (c .before .before .before .args .last .now))
     × (getD (c .before .before .before .args .last .now) (c .before .found .given .0 .0) 0 < length (c .before .before .before .args .twin .now))
+    × (c .before .found .given .0 .0 < c .before .before .before .args .e)
 inside c =
     let x = c .before .found .given in
     let s = c .before .before .before in
     let w = sym (x .1) ∙ s .pre .0 .1 in
     let a = first-before (s .pre .0 .2) (x .0 .0) w in
     let b = last-before (s .pre .0 .2) (x .0 .0) w in
-    (omega arith, omega arith)
+    (omega arith, omega arith, a)
 
 mul-g : tie.Need-mul-g
 mul-g c =
@@ -49,7 +50,7 @@ slice-write-twin : tie.Need-slice-write-twin
 slice-write-twin c = inside (c .before) .1
 
 cast-last : tie.Need-cast-last
-cast-last c = search needs
+cast-last c = omega (arith, inside (c .before))
 
 mul-last : tie.Need-mul-last
 mul-last c =
