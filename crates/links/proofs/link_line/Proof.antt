@@ -72,7 +72,9 @@ store-link-requires c κs =
     let t = c .before .before .before .before .before .before in
     let l = t .before .before .loop in
     let s = t .before .before .before .before .before .before .before .before in
-    let room = going-room (l .inv .3 (s .pre .0 .0) (s .pre .0 .1)) (t .if1 .taken) in
+    let g = l .inv .3 (s .pre .0 .0) (s .pre .0 .1) in
+    let room = going-room g (t .if1 .taken) in
+    let so-far = g .stored .ends in
     (s .pre .1 .0, (s .pre .1 .1 .0, omega arith, omega arith, omega arith, l .inv .2))
 
 add-n : tie.Need-add-n Inv-loop μ-loop
