@@ -9,7 +9,7 @@ use lib.Dec.{eqb}
 use lib.ListN.{length, getD}
 use lib.Seq.{slice}
 use Rattle.tokens.specs.Pieces.{Spells}
-use Rattle.rules.specs.Form.{FormLine, cueLine, taskLine, defines, uses, times, allUsed}
+use Rattle.rules.specs.Form.{FormLine, cueLine, taskLine, defines, uses, times, allDefined, allUsed, anyMissing}
 
 unfoldable pub noLine : FormLine
 noLine = cueLine 0 0 0 0
@@ -34,6 +34,10 @@ pub record Lines (es : List FormLine) (cues : ℕ) (ids labels : List ℕ) : Typ
   pub taskHere : (e : ℕ) → cues ≤ e → e < length es
       → (subtasks : List ℕ) × (lineAt es e ≡ taskLine (e + 3) (getD ids e 0) (getD labels e 0) subtasks) × (length subtasks ≤ 32)
 
+-- The ids that lines define, in a plain list.
+abbrev pub Defined : List FormLine → List ℕ → Type 0
+Defined es ids = (e : ℕ) → e < length es → defines (lineAt es e) ≡ getD ids e 0
+
 -- The links of each line's subtasks, in their order, from its start up to the next line's.
 pub record Linked (es : List FormLine) (starts links : List ℕ) : Type 0 where
   pub ordered : (e : ℕ) → e < length es → getD starts e 0 ≤ getD starts (e + 1) 0
@@ -54,3 +58,12 @@ Counted es used = (d : ℕ) → d < length es → getD used d 0 ≡ times (suc d
 -- The subtask ids of each compound line stand in the form's text from a place on: where its method's name ends.
 abbrev pub Spelled : List ℕ → List ℕ → List FormLine → ℕ → Type 0
 Spelled text places es cues = (e : ℕ) → cues ≤ e → e < length es → Spells text (getD places e 0) (uses (lineAt es e))
+
+-- What linking the lines leaves, and its answer: the first line that "uses an id never defined", or the number of lines if there is none.
+pub record Resolved (es : List FormLine) (answer : ℕ) (starts links used : List ℕ) : Type 0 where
+  pub linked : Linked es starts links
+  pub counted : Counted es used
+  pub low : (u : ℕ) → getD links u 0 ≤ length es
+  pub most : answer ≤ length es
+  pub whole : (e : ℕ) → e < answer → anyMissing (allDefined es) (uses (lineAt es e)) ≡ false
+  pub wrong : answer < length es → anyMissing (allDefined es) (uses (lineAt es answer)) ≡ true
