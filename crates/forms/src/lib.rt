@@ -24,16 +24,22 @@ use shapes::Front;
 // "the 3,001st action or compound line, counted together" is surplus.
 pub const LINES: usize = 3000;
 
+fn wide(n: u32) -> usize
+    ensures { λ r. ⌜ r ≡ n ⌝ }
+{
+    n as usize
+}
+
 // Whether method m is the task's, with so many subtasks.
 fn suits(fields: &[u32], directory: &[u32], m: usize, task: usize, count: usize) -> bool
     requires { ⌜ ((k : Case) × MethodsHere k (now fields) (now directory) × (m < k .head .methods)) ⌝ }
     ensures { λ r. ⌜ ((k : Case) → MethodsHere k (now (fields .entry)) (now (directory .entry)) → m < k .head .methods → r ≡ suits (methodAt (k .methods) m) task count) ⌝ }
 {
     let at = directory[METHODS_FROM + m] as usize;
-    if fields[at + 1] as usize != task {
+    if wide(fields[at + 1]) != task {
         return false;
     }
-    fields[at + 2] as usize == count
+    wide(fields[at + 2]) == count
 }
 
 // The action that form[from..to] names.
