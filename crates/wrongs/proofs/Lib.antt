@@ -5,3 +5,5 @@ mod Counts
 mod Reaches
 -- The first line that is wrong.
 mod Lines
+-- The test of a line.
+mod Fails

@@ -61,7 +61,7 @@ module _ {es : List FormLine} {starts links : List ℕ} (n : Linked es starts li
       let to = getD starts (e + 1) 0 in
       let i = u - from in
       let q : getD (slice from to links) i 0 ≡ getD links u 0 =
-          slice-at links from to i (omega arith) ∙ ap (λ (x : ℕ). getD links x 0) (omega arith) in
+      slice-at links from to i (omega arith) ∙ ap (λ (x : ℕ). getD links x 0) (omega arith) in
       let m = at-in 0 (slice from to links) i (omega (arith, length-slice from to links room)) in
       let (s, k, p) = of-map (link es) (uses (lineAt es e)) (subst (Mem (getD (slice from to links) i 0)) (n .here e h) m) in
       (s, k, p ∙ q)

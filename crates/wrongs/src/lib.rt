@@ -29,7 +29,14 @@ fn is_wrong(twin: &[u32], used: &[u32], marks: &[u32], lost: usize, root: u32, e
 }
 
 // The first of these lines that is wrong, or their number.
-fn first_wrong(twin: &[u32], used: &[u32], marks: &[u32], lost: usize, root: u32, count: usize) -> usize
+fn first_wrong(
+    twin: &[u32],
+    used: &[u32],
+    marks: &[u32],
+    lost: usize,
+    root: u32,
+    count: usize,
+) -> usize
     requires { ⌜ (count ≤ 3000) × (count ≤ length (now twin)) × (count ≤ length (now used)) × (count ≤ length (now marks)) ⌝ }
     ensures { λ r. ⌜ FirstFailing (fails (now (twin .entry)) (now (used .entry)) (now (marks .entry)) lost root) count r ⌝ }
 {
