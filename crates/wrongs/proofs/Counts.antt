@@ -3,8 +3,8 @@
 use mathlib.Core.Path.{_≡_, refl, sym, ap, _∙_}
 use mathlib.Core.Bool.{Bool, true, false, _||_}
 use mathlib.Core.List.{List, [], _∷_, map}
-use mathlib.Core.Logic.{_⊎_, ⊎-elim}
-use Prim.Native.Nat.{ℕ, zero, suc, _≤_, _<_}
+use mathlib.Core.Logic.{⊎-elim}
+use Prim.Native.Nat.{ℕ, zero, suc, _<_}
 use native.Mathlib.Omega.{arith}
 use lib.Dec.{eqb, ltb}
 use lib.ListN.{length, getD, length-map, List·getD-map}
@@ -41,17 +41,20 @@ at-least false n k h = h
 one-more : (x y : ℕ) (l : List ℕ) → y ≡ x → times x (y ∷ l) ≡ suc (times x l)
 one-more x y l s = ap (λ (b : Bool). elim b [ true ↦ suc (times x l) | false ↦ times x l ]) (eq-eqb y x s)
 
+-- At one place.
 once : (x : ℕ) (l : List ℕ) (a : ℕ) → a < length l → getD l a 0 ≡ x → 0 < times x l
 once x [] a h s = absurd (omega arith)
 once x (y ∷ l) zero h s = omega (arith, one-more x y l s)
 once x (y ∷ l) (suc a) h s = at-least (eqb y x) (times x l) 0 (once x l a (omega arith) s)
 
+-- At two places.
 pub twice : (x : ℕ) (l : List ℕ) (a b : ℕ) → a < b → b < length l → getD l a 0 ≡ x → getD l b 0 ≡ x → 1 < times x l
 twice x [] a b g h s t = absurd (omega arith)
 twice x (y ∷ l) a zero g h s t = absurd (omega arith)
 twice x (y ∷ l) zero (suc b) g h s t = omega (arith, one-more x y l s, once x l b (omega arith) t)
 twice x (y ∷ l) (suc a) (suc b) g h s t = at-least (eqb y x) (times x l) 1 (twice x l a b (omega arith) (omega arith) s t)
 
+-- The other way round.
 place : (x : ℕ) (l : List ℕ) → 0 < times x l → (a : ℕ) × (a < length l) × (getD l a 0 ≡ x)
 place x [] h = absurd (omega arith)
 place x (y ∷ l) h = go (eqb y x) refl h (place x l)
@@ -61,7 +64,6 @@ place x (y ∷ l) h = go (eqb y x) refl h (place x l)
     go true q h later = (0, omega arith, eqb-true y x q)
     go false q h later = let (a, k, s) = later h in (suc a, omega arith, s)
 
--- At two places.
 pub record Places (x : ℕ) (l : List ℕ) : Type 0 where
   pub a : ℕ
   pub b : ℕ
@@ -92,6 +94,7 @@ in-times x (y ∷ l) = go (eqb y x) (in-times x l)
     go true later = sym (lt-ltb 0 (suc (times x l)) (omega arith))
     go false later = later
 
+-- Of mapped numbers, where the mapped test is the same.
 times-map : (f : ℕ → ℕ) (z x : ℕ) → ((y : ℕ) → eqb (f y) z ≡ eqb y x) → (l : List ℕ) → times z (map f l) ≡ times x l
 times-map f z x same [] = refl
 times-map f z x same (y ∷ l) =

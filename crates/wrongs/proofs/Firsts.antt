@@ -10,7 +10,7 @@ use lib.ListN.{length, getD}
 use borrow.Author.Tests.{eqb-true, eqb-false, ltb-true, ltb-false, lt-ltb}
 use Rattle.rules.specs.Tree.{isIn}
 use Rattle.rules.specs.Form.{FormLine, defines, allDefined}
-use Rattle.links.specs.Links.{noLine, lineAt, linkFrom, link, Twins}
+use Rattle.links.specs.Links.{lineAt, linkFrom, link, Twins}
 
 pub same-or-not : (a b : ℕ) → (a ≡ b) ⊎ (a ≡ b → ⊥)
 same-or-not a b = go (eqb a b) refl
@@ -106,7 +106,7 @@ defined-link es id = defined-from 0 es id
 abbrev pub First : List FormLine → ℕ → Type 0
 First es e = link es (defines (lineAt es e)) ≡ suc e
 
--- Of the first line with its id, whatever another line with the same id is, it comes later.
+-- No line before the first with an id has that id.
 pub first-least : (es : List FormLine) (e d : ℕ) → First es e → defines (lineAt es d) ≡ defines (lineAt es e) → e ≤ d
 first-least es e d f s = ⊎-elim (λ l. absurd (link-first es _ e f .least d l s)) (λ l. l) (less-or-not d e)
 

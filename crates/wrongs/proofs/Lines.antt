@@ -1,8 +1,8 @@
 -- The first line that fails the test is the first that is wrong, and the line that the form's definition names. Assumes nothing.
-use mathlib.Core.Path.{_≡_, refl, sym, ap, _∙_, subst}
+use mathlib.Core.Path.{_≡_, refl, sym, ap, _∙_}
 use mathlib.Core.Bool.{Bool, true, false, not, _&&_, _||_, false≢true, or-true}
 use mathlib.Core.List.{List, [], _∷_, _++_}
-use mathlib.Core.Logic.{_⊎_, inl, inr, ⊎-elim}
+use mathlib.Core.Logic.{⊎-elim}
 use mathlib.Core.Option.{Option, none, some}
 use Prim.Native.Nat.{ℕ, zero, suc, _+_, _-_, _≤_, _<_}
 use native.Mathlib.Omega.{arith}
@@ -20,6 +20,7 @@ use Rattle.wrongs.proofs.Reaches.{marked-reached}
 
 -- ---- A wrong line
 
+-- It defines an id defined twice.
 wrong-twice : (es : List FormLine) (id : ℕ) (e : FormLine) → 1 < times (defines e) (allDefined es) → isWrong es id e ≡ true
 unfolding isWrong
 wrong-twice es id e l =
@@ -33,6 +34,7 @@ or-last false true c d = refl
 or-last false false true d = refl
 or-last false false false d = or-true d
 
+-- It uses an id never defined.
 wrong-missing : (es : List FormLine) (id : ℕ) (e : FormLine) → anyMissing (allDefined es) (uses e) ≡ true → isWrong es id e ≡ true
 unfolding isWrong
 wrong-missing es id e m =
@@ -101,6 +103,7 @@ module _ {es : List FormLine} {cues count : ℕ} {ids labels starts links twin u
       (marked-reached es starts links twin marks root id (k .linked) (k .twins) (k .rooted) (k .unmarked) (k .marked) e h)
       (lost-missing e h fine)
 
+  -- The first line that fails: no line before it is wrong, and it is.
   module _ {w : ℕ} (t : FirstFailing (fails twin used marks lost root) count w) where
     fine-below : (e : ℕ) → e ≤ w → Fine e
     fine-below zero h d l = absurd (omega arith)
@@ -119,6 +122,7 @@ module _ {es : List FormLine} {cues count : ℕ} {ids labels starts links twin u
 -- ---- The first of a list's lines
 
 module _ (wrong : FormLine → Bool) where
+  -- The first that is wrong is at this place.
   first-at : (l : List FormLine) (later : Option ℕ) (w : ℕ) → w < length l → ((d : ℕ) → d < w → wrong (getD l d noLine) ≡ false)
       → wrong (getD l w noLine) ≡ true → firstWrong wrong l later ≡ some (lineNumber (getD l w noLine))
   first-at [] later w h f t = absurd (omega arith)
@@ -127,6 +131,7 @@ module _ (wrong : FormLine → Bool) where
       ap (λ (b : Bool). elim b [ true ↦ some (lineNumber e) | false ↦ firstWrong wrong l later ]) (f 0 (omega arith))
       ∙ first-at l later w (omega arith) (λ d g. f (suc d) (omega arith)) t
 
+  -- None is.
   first-none : (l : List FormLine) (later : Option ℕ) → ((d : ℕ) → d < length l → wrong (getD l d noLine) ≡ false) → firstWrong wrong l later ≡ later
   first-none [] later f = refl
   first-none (e ∷ l) later f =
@@ -161,7 +166,7 @@ named {f} {es} {cues} h = opened f ∙ rw (h .front, h .back, h .rootAt, h .root
 
 module _ {es : List FormLine} {cues count : ℕ} {ids labels starts links twin used marks : List ℕ} {lost root id : ℕ}
     (k : Known es cues count ids labels starts links twin used marks lost root id) {w : ℕ}
-    (t : FirstFailing (fails twin used marks lost root) count w) (few : cues ≤ count) where
+    (t : FirstFailing (fails twin used marks lost root) count w) where
   abbrev choice : Option ℕ
   choice = chosen es (take cues es) (drop cues es) (2 + cues) id
 
@@ -223,15 +228,15 @@ Answers cues count twin used marks lost root r =
     (es : List FormLine) (ids labels starts links : List ℕ) (id : ℕ) → Known es cues count ids labels starts links twin used marks lost root id
     → (f : Form) → Holds f es cues id → wrongLine f ≡ asLine r
 
-module _ {cues count : ℕ} {twin used marks : List ℕ} {lost root w : ℕ} (t : FirstFailing (fails twin used marks lost root) count w) (few : cues ≤ count) where
+module _ {cues count : ℕ} {twin used marks : List ℕ} {lost root w : ℕ} (t : FirstFailing (fails twin used marks lost root) count w) where
   pub answers-front : w < cues → Answers cues count twin used marks lost root (w + 2)
-  answers-front h es ids labels starts links id k f o = named o ∙ choice-front k t few h
+  answers-front h es ids labels starts links id k f o = named o ∙ choice-front k t h
 
   pub answers-root : cues ≤ w → root ≡ 0 → Answers cues count twin used marks lost root (cues + 2)
-  answers-root h z es ids labels starts links id k f o = named o ∙ choice-root k t few h z
+  answers-root h z es ids labels starts links id k f o = named o ∙ choice-root k t h z
 
   pub answers-back : cues ≤ w → (root ≡ 0 → ⊥) → w < count → Answers cues count twin used marks lost root (w + 3)
-  answers-back h n l es ids labels starts links id k f o = named o ∙ choice-back k t few h n l
+  answers-back h n l es ids labels starts links id k f o = named o ∙ choice-back k t h n l
 
   pub answers-none : cues ≤ w → (root ≡ 0 → ⊥) → count ≤ w → Answers cues count twin used marks lost root 0
-  answers-none h n l es ids labels starts links id k f o = named o ∙ choice-none k t few h n l
+  answers-none h n l es ids labels starts links id k f o = named o ∙ choice-none k t h n l

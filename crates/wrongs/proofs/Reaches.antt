@@ -1,13 +1,13 @@
 -- The lines that are visited from the root's line are those whose ids are reached from the root. Assumes nothing.
 use mathlib.Core.Path.{_≡_, refl, sym, ap, _∙_, subst}
 use mathlib.Core.Bool.{Bool, true, false, not, false≢true}
-use mathlib.Core.List.{List, [], _∷_, map}
+use mathlib.Core.List.{List, [], _∷_}
 use mathlib.Core.List.{List·Memᴰ as Mem, List·Memᴰ·head as here, List·Memᴰ·tail as there, Memᴰ·map as in-map, Memᴰ·of-map as of-map}
-use mathlib.Core.Logic.{_⊎_, inl, inr, ⊎-elim}
+use mathlib.Core.Logic.{⊎-elim}
 use Prim.Native.Nat.{ℕ, zero, suc, _+_, _-_, _≤_, _<_}
 use native.Mathlib.Omega.{arith}
 use lib.Dec.{eqb}
-use lib.ListN.{length, getD, take, drop}
+use lib.ListN.{length, getD, take}
 use lib.Seq.{slice, length-slice, getD-take, getD-drop}
 use borrow.Author.Tests.{eq-eqb, ne-eqb}
 use Rattle.rules.specs.Form.{FormLine, defines, uses, isReached, Reached, atRoot, onward}
@@ -95,6 +95,7 @@ module _ {es : List FormLine} {starts links twin : List ℕ} (n : Linked es star
       let (u, from, to, q) = use-link n j h x m in
       linked j i u v from to (q ∙ l)
 
+  -- Each line that defines a reached id is visited.
   reached-visited : {x : ℕ} → Reached es id x → (d : ℕ) → d < length es → defines (lineAt es d) ≡ x → Visited starts links twin r d
   reached-visited atRoot d h s = all-visited (suc d) d (omega arith) id r root begin h s
   reached-visited (onward e x m v u) d h s =
@@ -105,6 +106,7 @@ module _ {es : List FormLine} {starts links twin : List ℕ} (n : Linked es star
       go zero q f = absurd (link-none es x q d h s)
       go (suc i) q f = all-visited (suc d) d (omega arith) x i q (f i q) h s
 
+  -- The id of each visited line is reached.
   visited-reached : {d : ℕ} → Visited starts links twin r d → (d < length es) × Reached es id (defines (lineAt es d))
   visited-reached begin =
       let f = link-first es id r root in

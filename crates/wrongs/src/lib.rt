@@ -60,7 +60,7 @@ pub fn wrong_line(
     cues: usize,
     count: usize,
 ) -> u32
-    requires few { ⌜ (cues ≤ count) × (count ≤ 3000) × (lost ≤ count) ⌝ }
+    requires few { ⌜ (cues ≤ count) × (count ≤ 3000) ⌝ }
     requires room { ⌜ (count ≤ length (now twin)) × (count ≤ length (now used)) × (count ≤ length (now marks)) ⌝ }
     ensures { λ r. ⌜ ((es : List FormLine) (ids labels starts links : List ℕ) (id : ℕ)
         → Known es cues count ids labels starts links (now (twin .entry)) (now (used .entry)) (now (marks .entry)) lost root id

@@ -4,7 +4,7 @@ use mathlib.Core.Bool.{false}
 use Prim.Native.Nat.{ℕ, _-_, _≤_, _<_}
 use native.Mathlib.Omega.{arith}
 use borrow.Author.Count.{below-more}
-use Rattle.wrongs.specs.Wrongs.{fails, FirstFailing}
+use Rattle.wrongs.specs.Wrongs.{fails}
 use Rattle.wrongs.proofs.first_wrong.Statement.{statement}
 use Rattle.wrongs.proofs.first_wrong.Tie as tie
 
