@@ -1,64 +1,73 @@
 -- The method's task and how many subtasks it has stand after its letter. Assumes nothing.
-use mathlib.Core.Path.{sym, ap}
-use Prim.Native.Nat.{_+_, _≤_, _<_}
+use mathlib.Core.Path.{_≡_, sym, ap, _∙_}
+use mathlib.Core.Bool.{Bool}
+use Prim.Native.Nat.{ℕ, _+_, _≤_, _<_}
 use native.Mathlib.Omega.{arith}
 use borrow.Author.Needs.{needs}
+use lib.Dec.{eqb}
 use Rattle.fields.specs.Directory.{methodsFrom}
 use Rattle.forms.proofs.Lookups.{directory-inside, head-inside, suits-not, suits-by}
 use Rattle.forms.proofs.suits.Statement.{statement}
 use Rattle.forms.proofs.suits.Tie as tie
 
 add-at : tie.Need-add-at
-add-at c = let i = directory-inside _ _ _ (c .pre .1) _ (c .pre .2) in omega arith
+add-at c = let i = directory-inside _ _ _ (c .before .before .pre .1) _ (c .before .before .pre .2) in omega arith
 
 mul-at : tie.Need-mul-at
-mul-at c = let i = directory-inside _ _ _ (c .pre .1) _ (c .pre .2) in omega arith
+mul-at c = let i = directory-inside _ _ _ (c .before .before .pre .1) _ (c .before .before .pre .2) in omega arith
 
 shared-slice-read-at : tie.Need-shared-slice-read-at
-shared-slice-read-at c = directory-inside _ _ _ (c .before .pre .1) _ (c .before .pre .2)
+shared-slice-read-at c = directory-inside _ _ _ (c .before .before .before .pre .1) _ (c .before .before .before .pre .2)
 
 cast-at : tie.Need-cast-at
 unfolding methodsFrom
-cast-at c = let i = head-inside _ _ _ (c .before .pre .1) _ (c .before .pre .2) in omega arith
+cast-at c = let i = head-inside _ _ _ (c .before .before .before .pre .1) _ (c .before .before .before .pre .2) in omega arith
 
-add-if1 : tie.Need-add-if1
+add-wide : tie.Need-add-wide
 unfolding methodsFrom
-add-if1 c = let i = head-inside _ _ _ (c .before .pre .1) _ (c .before .pre .2) in omega arith
+add-wide c = let i = head-inside _ _ _ (c .before .before .before .pre .1) _ (c .before .before .before .pre .2) in omega arith
 
-mul-if1 : tie.Need-mul-if1
+mul-wide : tie.Need-mul-wide
 unfolding methodsFrom
-mul-if1 c = let i = head-inside _ _ _ (c .before .pre .1) _ (c .before .pre .2) in omega arith
+mul-wide c = let i = head-inside _ _ _ (c .before .before .before .pre .1) _ (c .before .before .before .pre .2) in omega arith
 
-shared-slice-read-if1 : tie.Need-shared-slice-read-if1
+shared-slice-read-wide : tie.Need-shared-slice-read-wide
 unfolding methodsFrom
-shared-slice-read-if1 c = let i = head-inside _ _ _ (c .before .before .pre .1) _ (c .before .before .pre .2) in omega arith
+shared-slice-read-wide c =
+    let i = head-inside _ _ _ (c .before .before .before .before .pre .1) _ (c .before .before .before .before .pre .2) in omega arith
 
-cast-if1 : tie.Need-cast-if1
-cast-if1 c = search needs
+wide-requires : tie.Need-wide-requires
+wide-requires c κs = search needs
 
 returns : tie.Need-returns
 unfolding methodsFrom
-returns c = λ k h i. suits-not k _ _ h _ i _ _ (c .if1 .taken)
+returns c = λ k h i. suits-not k _ _ h _ i _ _ (λ q. c .if1 .taken (c .before .wide .ensures ∙ q))
 
-add-result : tie.Need-add-result
+add-wide-2 : tie.Need-add-wide-2
 unfolding methodsFrom
-add-result c = let i = head-inside _ _ _ (c .before .before .before .pre .1) _ (c .before .before .before .pre .2) in omega arith
+add-wide-2 c =
+    let i = head-inside _ _ _ (c .before .before .before .before .before .before .pre .1) _ (c .before .before .before .before .before .before .pre .2) in omega arith
 
-mul-result : tie.Need-mul-result
+mul-wide-2 : tie.Need-mul-wide-2
 unfolding methodsFrom
-mul-result c = let i = head-inside _ _ _ (c .before .before .before .pre .1) _ (c .before .before .before .pre .2) in omega arith
+mul-wide-2 c =
+    let i = head-inside _ _ _ (c .before .before .before .before .before .before .pre .1) _ (c .before .before .before .before .before .before .pre .2) in omega arith
 
-shared-slice-read-result : tie.Need-shared-slice-read-result
+shared-slice-read-wide-2 : tie.Need-shared-slice-read-wide-2
 unfolding methodsFrom
-shared-slice-read-result c =
-    let i = head-inside _ _ _ (c .before .before .before .before .pre .1) _ (c .before .before .before .before .pre .2) in omega arith
+shared-slice-read-wide-2 c =
+    let s = c .before .before .before .before .before .before .before in
+    let i = head-inside _ _ _ (s .pre .1) _ (s .pre .2) in
+    omega arith
 
-cast-result : tie.Need-cast-result
-cast-result c = search needs
+wide-requires-2 : tie.Need-wide-requires-2
+wide-requires-2 c κs = search needs
 
 returns-2 : tie.Need-returns-2
 unfolding methodsFrom
-returns-2 c = λ k h i. suits-by k _ _ h _ i _ _ (c .before .if1 .left)
+returns-2 c =
+    let s = c .before .before .before .before .before .before .before .before in
+    λ k h i. ap (λ (x : ℕ). eqb x (s .args .count)) (c .wide2 .ensures) ∙ suits-by k _ _ h _ i _ _ (sym (c .before .before .before .wide .ensures) ∙ c .before .before .if1 .left)
 
 pub suits-spec : {M : Type 1} → statement M
 suits-spec =
@@ -68,13 +77,13 @@ suits-spec =
     mul-at
     shared-slice-read-at
     cast-at
-    add-if1
-    mul-if1
-    shared-slice-read-if1
-    cast-if1
+    add-wide
+    mul-wide
+    shared-slice-read-wide
+    wide-requires
     returns
-    add-result
-    mul-result
-    shared-slice-read-result
-    cast-result
+    add-wide-2
+    mul-wide-2
+    shared-slice-read-wide-2
+    wide-requires-2
     returns-2)
