@@ -116,23 +116,21 @@ module _ (k : Case) (ns : Names) (hd : Header) (text starts ends slots : List �
       pub an-action : t < hd .actions → (actionNamed k ns n name ≡ found t) × (compoundNamed k ns n name ≡ refused (WrongName n 0))
       unfolding actionNamed compoundNamed
       an-action h =
-          let same = ap (λ (x : Header). x .actions) (s .head) in
-          (
+          let same = ap (λ (x : Header). x .actions) (s .head) in (
             ap (usedAs (λ x. ltb x (k .head .actions)) n) o
-            ∙ serves-is (λ x. ltb x (k .head .actions)) n t true (lt-ltb t (k .head .actions) (omega arith)),
+                ∙ serves-is (λ x. ltb x (k .head .actions)) n t true (lt-ltb t (k .head .actions) (omega arith)),
             ap (usedAs (λ x. leb (k .head .actions) x) n) o
-            ∙ serves-is (λ x. leb (k .head .actions) x) n t false (lt-leb (k .head .actions) t (omega arith)),
+                ∙ serves-is (λ x. leb (k .head .actions) x) n t false (lt-leb (k .head .actions) t (omega arith)),
           )
 
       pub a-compound : hd .actions ≤ t → (actionNamed k ns n name ≡ refused (WrongName n 0)) × (compoundNamed k ns n name ≡ found t)
       unfolding actionNamed compoundNamed
       a-compound h =
-          let same = ap (λ (x : Header). x .actions) (s .head) in
-          (
+          let same = ap (λ (x : Header). x .actions) (s .head) in (
             ap (usedAs (λ x. ltb x (k .head .actions)) n) o
-            ∙ serves-is (λ x. ltb x (k .head .actions)) n t false (le-ltb t (k .head .actions) (omega arith)),
+                ∙ serves-is (λ x. ltb x (k .head .actions)) n t false (le-ltb t (k .head .actions) (omega arith)),
             ap (usedAs (λ x. leb (k .head .actions) x) n) o
-            ∙ serves-is (λ x. leb (k .head .actions) x) n t true (le-leb (k .head .actions) t (omega arith)),
+                ∙ serves-is (λ x. leb (k .head .actions) x) n t true (le-leb (k .head .actions) t (omega arith)),
           )
 
 -- The methods'.
@@ -145,6 +143,9 @@ module _ (k : Case) (ns : Names) (hd : Header) (text starts ends slots : List �
 
   pub method-low : {m : ℕ} → At m ≡ amongMethods → m < hd .methods
   method-low {m} e = first-at (sameName text starts ends name) (hd .methods) m (sym e) .0
+
+  pub model-low : {m : ℕ} → At m ≡ amongMethods → m < k .head .methods
+  model-low {m} e = let low = method-low e in let same = ap (λ (x : Header). x .methods) (s .head) in omega arith
 
   module _ (n t : ℕ) (ids : List ℕ) where
     pub no-method : Nothing ≡ amongMethods → methodNamed k ns n t name ids ≡ refused (WrongName n 0)

@@ -19,7 +19,8 @@ find-requires : tie.Need-find-requires
 find-requires c κs =
     let s = c .before .before .before .before .before .before in
     let t = s .pre .0 .2 in
-    find-ready _ _ _ _ _ (t .listed) _ (sym (t .count)) _ _ _ (s .pre .1 .0) (s .pre .1 .1)
+    let a = s .args in
+    find-ready (a .names .now) (a .starts .now) (a .ends .now) (a .slots .now) (s .pre .0 .1 .tasks) (t .listed) (a .header .actions + a .header .compounds) (sym (t .count)) (a .form .now) (a .from) (a .to) (s .pre .1 .0) (s .pre .1 .1)
 
 enum-known-t : tie.Need-enum-known-t
 enum-known-t c = search needs
@@ -31,8 +32,7 @@ returns : tie.Need-returns
 returns c =
     let d = c .before .before .before .before .before in
     let a = d .before .before .before .before .before .before .before .args in
-    let e = sym (c .before .before .before .t .given .1) ∙ d .find .ensures in
-    (
+    let e = sym (c .before .before .before .t .given .1) ∙ d .find .ensures in (
       λ k ns t n. an-action k ns _ _ _ _ _ t (bytes (a .form .now) (a .from) (a .to)) n _ e (c .if1 .taken) .0,
       λ i q. at-low _ i _ (c .if1 .taken) q,
     )
@@ -44,8 +44,7 @@ returns-2 : tie.Need-returns-2
 returns-2 c =
     let d = c .before .before .before .before .before in
     let a = d .before .before .before .before .before .before .before .args in
-    let e = sym (c .before .before .before .t .given .1) ∙ d .find .ensures in
-    (
+    let e = sym (c .before .before .before .t .given .1) ∙ d .find .ensures in (
       λ k ns t n. a-compound k ns _ _ _ _ _ t (bytes (a .form .now) (a .from) (a .to)) n _ e (c .if1 .left) .0,
       λ i q. nothing-low i _ q,
     )
