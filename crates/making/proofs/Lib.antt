@@ -1,0 +1,4 @@
+pub mod Frames
+pub mod Leading
+pub mod Putting
+pub mod Walks
