@@ -1,4 +1,5 @@
 pub mod Frames
 pub mod Leading
+pub mod Plans
 pub mod Putting
 pub mod Walks

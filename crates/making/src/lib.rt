@@ -4,9 +4,9 @@
 ghost use mathlib.Core.Path.{_≡_};
 ghost use mathlib.Core.List.{List, [], _∷_};
 ghost use Prim.Native.Nat.{ℕ, _+_, _≤_, _<_};
-ghost use lib.ListN.{length};
+ghost use lib.ListN.{length, take};
 ghost use lib.Seq.{sets};
-ghost use Rattle.rules.specs.Fields.{lineFields, nodeLine};
+ghost use Rattle.rules.specs.Fields.{lineFields, cuesLine, nodeLine};
 ghost use Rattle.rules.specs.Form.{FormLine};
 ghost use Rattle.rules.specs.Import.{nodesOf};
 ghost use Rattle.making.specs.Nodes.{nodeAs, Pushed, Visited, Holds, Room, Stored};
@@ -106,6 +106,21 @@ fn visit(
         nodes: w.nodes + 1,
         depth,
     }
+}
+
+// The P line, stored at `from`: the actions of the action lines, "action lines plan order"; answers the place after it.
+pub fn put_plan(labels: &[u32], cues: usize, fields: &mut [u32], from: usize) -> usize
+    requires { ⌜ (cues ≤ length (now labels)) × (from + 1 + cues ≤ length (now fields)) ⌝ }
+    ensures { λ r. ⌜ (now (fields .exit) ≡ sets (now (fields .entry)) from (lineFields (cuesLine (take cues (now (labels .entry)))))) × (r ≡ from + 1 + cues) ⌝ }
+{
+    fields[from] = 80;
+    let first = from + 1;
+    let mut i: usize = 0;
+    while i < cues {
+        fields[first + i] = labels[i];
+        i += 1;
+    }
+    first + cues
 }
 
 // The node lines of the tree that hangs from the line that `root` leads to, in preorder, stored from `from` on. At most `count` links are
