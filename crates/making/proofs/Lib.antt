@@ -1,3 +1,4 @@
+pub mod Cases
 pub mod Frames
 pub mod Leading
 pub mod Plans

@@ -1,13 +1,13 @@
--- The fields of one node line, stored; and what the visit of a link leaves. Assumes nothing.
+-- The fields of one node line, stored; those of lines in two parts; and what the visit of a link leaves. Assumes nothing.
 use mathlib.Core.Path.{_≡_, refl, sym, ap, ap₂, subst, _∙_}
-use mathlib.Core.List.{List, [], _∷_, _++_, append-nil}
+use mathlib.Core.List.{List, [], _∷_, _++_, map, map-append, append-assoc, append-nil}
 use Prim.Native.Nat.{ℕ, zero, suc, _+_, _-_, _≤_, _<_}
 use native.Mathlib.Numerals.{add-one}
 use native.Mathlib.Omega.{arith}
 use lib.ListN.{length, getD, set}
 use lib.Seq.{sets, slice}
-use Rattle.rules.specs.Case.{NodeLine, D, E, L}
-use Rattle.rules.specs.Fields.{lineFields, nodeLine}
+use Rattle.rules.specs.Case.{NodeLine, D, E, L, Valued}
+use Rattle.rules.specs.Fields.{lineFields, linesFields, nodeLine}
 use Rattle.fields.proofs.Lines.{nodeFields, node-fields}
 use Rattle.making.specs.declared.Walk.{Walk}
 use Rattle.making.specs.Nodes.{nodesFields, nodeAs, Frames, Pushed, Visited}
@@ -40,6 +40,21 @@ module _ (cues d label first past : ℕ) (before : List ℕ) (at : ℕ) (after :
 
   pub puts-whole : cues ≤ d → (first ≡ past → ⊥) → after ≡ sets before at (68 ∷ label ∷ []) → Puts before at (nodeAs cues d label first past) after (at + 2)
   puts-whole h n p = put-line before at (D label) _ after (at + 2) (as-whole cues d label first past h n) p refl
+
+-- A node line has three fields at most.
+pub few-fields : (x : NodeLine) → length (nodeFields x) ≤ 3
+few-fields (D m) = omega arith
+few-fields (E m g) = omega arith
+few-fields (L a i) = omega arith
+
+-- ---- Lines in two parts
+
+pub lines-append : (xs ys : List Valued) → linesFields (xs ++ ys) ≡ linesFields xs ++ linesFields ys
+lines-append [] ys = refl
+lines-append (x ∷ xs) ys = ap (λ (l : List ℕ). lineFields x ++ l) (lines-append xs ys) ∙ sym (append-assoc (lineFields x) (linesFields xs) (linesFields ys))
+
+pub nodes-append : (xs ys : List NodeLine) → nodesFields (xs ++ ys) ≡ nodesFields xs ++ nodesFields ys
+nodes-append xs ys = ap linesFields (map-append nodeLine xs ys) ∙ lines-append (map nodeLine xs) (map nodeLine ys)
 
 -- ---- The visit of a link
 

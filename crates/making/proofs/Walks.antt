@@ -1,37 +1,27 @@
 -- The walk of the tree that hangs from a line: what is stored, followed by what is still to be walked, is the whole. Assumes nothing.
 use mathlib.Core.Path.{_≡_, refl, sym, ap, ap₂, subst, _∙_}
-use mathlib.Core.List.{List, [], _∷_, _++_, append-assoc, append-nil}
+use mathlib.Core.List.{List, [], _∷_, _++_, append-nil}
 use mathlib.Core.List.{List·Memᴰ·head as here, List·Memᴰ·append-cases as either}
 use mathlib.Core.Logic.{_⊎_, ⊎-elim}
 use Prim.Native.Nat.{ℕ, zero, suc, _+_, _-_, _*_, _≤_, _<_}
 use native.Mathlib.Omega.{arith}
 use lib.ListN.{length, getD, set, length-append, length-set}
 use lib.Seq.{sets, length-sets}
-use Rattle.rules.specs.Case.{NodeLine, D, E, L}
+use Rattle.rules.specs.Case.{NodeLine}
 use Rattle.rules.specs.Fields.{lineFields, nodeLine}
 use Rattle.rules.specs.Form.{FormLine}
 use Rattle.rules.specs.Import.{nodesOf}
 use Rattle.rules.proofs.Judgement.Each.{Each, each-nil, each-cons, each-tail}
 use Rattle.fields.proofs.Standing.{sets-append}
-use Rattle.fields.proofs.Lines.{nodeFields, node-fields}
+use Rattle.fields.proofs.Lines.{node-fields}
 use Rattle.making.specs.declared.Put.{Put}
 use Rattle.making.specs.declared.Walk.{Walk}
 use Rattle.making.specs.Nodes.{nodesFields, linkedNodes, linksBelow, framesLinks, Frames, Visited, Holds, Room, Stored}
 use Rattle.making.proofs.Frames.{frames-none, pop-frame, later, take-first, take-frame}
+use Rattle.making.proofs.Putting.{few-fields, nodes-append}
 use Rattle.making.proofs.Leading.{link-most, nodesFrom, from-none, from-first, nodes-linked, Near, linked-near}
 
 -- ---- The fields of nodes
-
-pub nodes-append : (xs ys : List NodeLine) → nodesFields (xs ++ ys) ≡ nodesFields xs ++ nodesFields ys
-nodes-append [] ys = refl
-nodes-append (x ∷ xs) ys =
-    ap (λ (l : List ℕ). lineFields (nodeLine x) ++ l) (nodes-append xs ys)
-    ∙ sym (append-assoc (lineFields (nodeLine x)) (nodesFields xs) (nodesFields ys))
-
-few-fields : (x : NodeLine) → length (nodeFields x) ≤ 3
-few-fields (D m) = omega arith
-few-fields (E m g) = omega arith
-few-fields (L a i) = omega arith
 
 -- A link has one node line at most, of three fields at most.
 linked-few : (starts labels : List ℕ) (cues l : ℕ)
@@ -58,7 +48,7 @@ module _ (starts links labels : List ℕ) (cues count : ℕ) where
   rest left todo = nodesFrom starts links labels cues left todo
 
   -- So many links may still be taken, each leads to a line, and there is room.
-  pub record Roomy (left : ℕ) (todo fields : List ℕ) (w : Walk) : Type 0 where
+  pub record Spare (left : ℕ) (todo fields : List ℕ) (w : Walk) : Type 0 where
     pub room : w .end + 3 * left ≤ length fields
     pub few : w .nodes + left ≤ count
     pub deep : w .depth + left ≤ count
@@ -66,13 +56,13 @@ module _ (starts links labels : List ℕ) (cues count : ℕ) where
 
   -- What is stored, with the nodes of the links that are still to be walked, is the whole of what was to be stored.
   pub record Walks (before : List ℕ) (b : Walk) (whole : List NodeLine) (left : ℕ) (todo fields : List ℕ) (w : Walk) : Type 0 where
-    pub roomy : Roomy left todo fields w
+    pub spare : Spare left todo fields w
     pub stored : sets fields (w .end) (nodesFields (rest left todo)) ≡ sets before (b .end) (nodesFields whole)
     pub ended : w .end + length (nodesFields (rest left todo)) ≡ b .end + length (nodesFields whole)
     pub counted : w .nodes + length (rest left todo) ≡ b .nodes + length whole
 
-  pub walks-start : (left : ℕ) (todo fields : List ℕ) (w : Walk) → Roomy left todo fields w → Walks fields w (rest left todo) left todo fields w
-  walks-start left todo fields w g = record { roomy = g; stored = refl; ended = refl; counted = refl }
+  pub walks-start : (left : ℕ) (todo fields : List ℕ) (w : Walk) → Spare left todo fields w → Walks fields w (rest left todo) left todo fields w
+  walks-start left todo fields w g = record { spare = g; stored = refl; ended = refl; counted = refl }
 
   module _ (before : List ℕ) (b : Walk) (whole : List NodeLine) where
     pub walks-end : (left : ℕ) (todo fields : List ℕ) (w : Walk) → Walks before b whole left todo fields w → rest left todo ≡ [] → Ends before b whole fields w
@@ -106,9 +96,9 @@ module _ (starts links labels : List ℕ) (cues count : ℕ) where
         let size = ap length both ∙ length-append (nodesFields own) (nodesFields others) in
         let number = ap length first ∙ length-append own others in
         let small = linked-few starts labels cues l in
-        let q = g .roomy in
+        let q = g .spare in
         record {
-          roomy = record {
+          spare = record {
             room = omega (arith, v .ended, ap length (v .put) ∙ length-sets fields (w .end) (nodesFields own));
             few = omega (arith, v .counted);
             deep = omega (arith, v .deep);
@@ -156,13 +146,13 @@ Visitable l starts labels fields w next last =
 
 module _ {starts links labels : List ℕ} {cues count : ℕ} {before : List ℕ} {b : Walk} {whole : List NodeLine} {left l : ℕ} {fields next last : List ℕ} {w : Walk} (d : Due starts links labels cues count before b whole left l fields next last w) (more : 0 < left) where
   near-due : l ≤ count
-  near-due = d .walks .roomy .near l (here refl)
+  near-due = d .walks .spare .near l (here refl)
 
   pub due-visitable : Visitable l starts labels fields w next last
   due-visitable =
       let near = near-due in
       let t = d .lent in
-      let q = d .walks .roomy in
+      let q = d .walks .spare in
       ((omega arith, omega arith, omega arith), (omega arith, omega arith, omega arith, omega arith))
 
   pub due-on : (r : Walk) (after next′ last′ : List ℕ) → Visited starts labels cues l fields w next last r after next′ last′ → length next′ ≡ length next
@@ -197,7 +187,7 @@ module _ {starts links labels : List ℕ} {cues count : ℕ} {before : List ℕ}
     todo = framesLinks links next last (w .depth);
     frames = record { stand = refl; ordered = g .frames .ordered; inside = g .frames .inside };
     walks = walks-start starts links labels cues count left (framesLinks links next last (w .depth)) fields w
-        (subst (λ (t : List ℕ). Roomy starts links labels cues count left t fields w) (sym (g .frames .stand)) (g .walks .roomy));
+        (subst (λ (t : List ℕ). Spare starts links labels cues count left t fields w) (sym (g .frames .stand)) (g .walks .spare));
   }
 
   pub turning-joins : (after : List ℕ) (r : Walk)
@@ -215,20 +205,20 @@ module _ {starts links labels : List ℕ} {cues count : ℕ} {before : List ℕ}
     top-frames = let one : w .depth ≡ suc (w .depth - 1) = omega arith in subst (λ (n : ℕ). Frames links next last n (g .todo)) one (g .frames)
 
     pub turning-top : (w .depth - 1 < length next) × (w .depth - 1 < length last) × (getD last (w .depth - 1) 0 ≤ length links)
-    turning-top = (omega (arith, g .lent .next-long, g .walks .roomy .deep), omega (arith, g .lent .last-long, g .walks .roomy .deep), top-frames .inside top (omega arith))
+    turning-top = (omega (arith, g .lent .next-long, g .walks .spare .deep), omega (arith, g .lent .last-long, g .walks .spare .deep), top-frames .inside top (omega arith))
 
     -- It has no more links.
     pub turning-pops : getD last (w .depth - 1) 0 ≤ getD next (w .depth - 1) 0 → (r : Walk) → r .end ≡ w .end → r .nodes ≡ w .nodes → r .depth ≡ w .depth - 1
         → Turning starts links labels cues count before b whole left fields next last r
     turning-pops done r e n d =
         let k = g .walks in
-        let q = k .roomy in
+        let q = k .spare in
         record {
           lent = g .lent;
           todo = g .todo;
           frames = subst (λ (t : ℕ). Frames links next last t (g .todo)) (sym d) (pop-frame links next last top (g .todo) top-frames done);
           walks = record {
-            roomy = record { room = omega arith; few = omega arith; deep = omega arith; near = q .near };
+            spare = record { room = omega arith; few = omega arith; deep = omega arith; near = q .near };
             stored = ap (λ (t : ℕ). sets fields t (nodesFields (rest starts links labels cues count left (g .todo)))) e ∙ k .stored;
             ended = omega (arith, k .ended);
             counted = omega (arith, k .counted);

@@ -3,12 +3,16 @@
 // stand in one list from the line's start up to the next line's. A link is one more than a line's number; 0 leads to no line.
 ghost use mathlib.Core.Path.{_≡_};
 ghost use mathlib.Core.List.{List, [], _∷_};
-ghost use Prim.Native.Nat.{ℕ, _+_, _≤_, _<_};
+ghost use Prim.Native.Nat.{ℕ, _+_, _*_, _≤_, _<_};
 ghost use lib.ListN.{length, take};
 ghost use lib.Seq.{sets};
-ghost use Rattle.rules.specs.Fields.{lineFields, cuesLine, nodeLine};
-ghost use Rattle.rules.specs.Form.{FormLine};
-ghost use Rattle.rules.specs.Import.{nodesOf};
+ghost use Rattle.rules.specs.Case.{Case};
+ghost use Rattle.rules.specs.Fields.{lineFields, cuesLine, nodeLine, linesOf};
+ghost use Rattle.rules.specs.Form.{FormLine, Form};
+ghost use Rattle.rules.specs.Import.{nodesOf, madeCase};
+ghost use Rattle.fields.specs.Directory.{IsRead, NodesLast};
+ghost use Rattle.output.specs.Output.{HasLines};
+ghost use Rattle.making.specs.Making.{PlanLast, Makes};
 ghost use Rattle.making.specs.Nodes.{nodeAs, Pushed, Visited, Holds, Room, Stored};
 
 // Node lines that were stored: where they end, and how many there are.
@@ -174,4 +178,49 @@ pub fn put_nodes(
         end: w.end,
         nodes: w.nodes,
     }
+}
+
+// Where the P line stands among the fields of a case that was read, by the place of its first node line and its own number of cues.
+pub fn plan_place(nodes: usize, cues: u32) -> usize
+    requires { ⌜ ((k : Case) × IsRead k × NodesLast k nodes × (k .head .cues ≡ cues)) ⌝ }
+    ensures { λ r. ⌜ ((k : Case) → IsRead k → NodesLast k nodes → k .head .cues ≡ cues → PlanLast k r) ⌝ }
+{
+    nodes - 1 - cues as usize
+}
+
+// The fields of the case that a form becomes, in the place of those of the case that came beside it: "a case, whose header k and node
+// count, P and node lines are replaced". The P line stands at `plan`. Answers how many fields there are.
+pub fn make(
+    starts: &[u32],
+    links: &[u16],
+    labels: &[u32],
+    cues: usize,
+    count: usize,
+    root: u32,
+    fields: &mut [u32],
+    plan: usize,
+    next: &mut [u32],
+    last: &mut [u32],
+) -> usize
+    requires { ⌜ ((k : Case) × (f : Form) × (es : List FormLine) × (ids : List ℕ) × Makes k f es ids (now starts) (now links) (now labels) cues count root plan (now fields)) ⌝ }
+    requires { ⌜ Room count (now starts) (now labels) (now next) (now last) (now fields) (plan + 1 + cues) ⌝ }
+    ensures { λ r. ⌜ ((k : Case) (f : Form) (es : List FormLine) (ids : List ℕ) → Makes k f es ids (now (starts .entry)) (now (links .entry)) (now (labels .entry)) cues count root plan (now (fields .entry)) → HasLines cues (now (fields .exit)) r (linesOf (madeCase k f))) ⌝ }
+    ensures { λ r. ⌜ r ≤ plan + 1 + cues + 3 * count ⌝ }
+{
+    let from = put_plan(labels, cues, fields, plan);
+    let put = put_nodes(
+        starts,
+        links,
+        labels,
+        cues,
+        count,
+        root,
+        fields,
+        from,
+        next,
+        last,
+    );
+    fields[6] = cues as u32;
+    fields[7] = put.nodes;
+    put.end
 }

@@ -54,7 +54,7 @@ slice-read-at : tie.Need-slice-read-at Inv-loop μ-loop
 slice-read-at c =
     let l = c .before .before .before .loop in
     let t = turning-top (l .inv .3) (c .before .if2 .left) in
-    t .0
+    omega arith
 
 mul-if3 : tie.Need-mul-if3 Inv-loop μ-loop
 mul-if3 c =
@@ -66,7 +66,7 @@ slice-read-if3 : tie.Need-slice-read-if3 Inv-loop μ-loop
 slice-read-if3 c =
     let l = c .before .before .before .before .loop in
     let t = turning-top (l .inv .3) (c .before .before .if2 .left) in
-    t .1
+    omega arith
 
 add-next : tie.Need-add-next Inv-loop μ-loop
 add-next c =
@@ -83,7 +83,7 @@ slice-write-next : tie.Need-slice-write-next Inv-loop μ-loop
 slice-write-next c =
     let l = c .before .before .before .before .before .loop in
     let t = turning-top (l .inv .3) (c .before .before .before .if2 .left) in
-    t .0
+    omega arith
 
 cast-wide : tie.Need-cast-wide Inv-loop μ-loop
 cast-wide c =
