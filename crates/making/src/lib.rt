@@ -15,6 +15,20 @@ ghost use Rattle.output.specs.Output.{HasLines};
 ghost use Rattle.making.specs.Making.{PlanLast, Makes};
 ghost use Rattle.making.specs.Nodes.{nodeAs, Pushed, Visited, Holds, Room, Stored};
 
+// The letters P, D, E and L, as the fields have them.
+const PLAN: u32 = 80;
+
+const TASK: u32 = 68;
+
+const EMPTY: u32 = 69;
+
+const LEAF: u32 = 76;
+
+// The fields of the header that hold k and the node count.
+const CUES: usize = 6;
+
+const NODES: usize = 7;
+
 // Node lines that were stored: where they end, and how many there are.
 pub struct Put {
     pub end: usize,
@@ -58,14 +72,14 @@ fn put_node(
     ensures { λ r. ⌜ (now (fields .exit) ≡ sets (now (fields .entry)) at (lineFields (nodeLine (nodeAs cues d label first past)))) × (r ≡ at + length (lineFields (nodeLine (nodeAs cues d label first past)))) ⌝ }
 {
     if d < cues {
-        put_three(76, label, d as u32 + 1, fields, at);
+        put_three(LEAF, label, d as u32 + 1, fields, at);
         return at + 3;
     }
     if first == past {
-        put_three(69, label, 0, fields, at);
+        put_three(EMPTY, label, 0, fields, at);
         return at + 3;
     }
-    fields[at] = 68;
+    fields[at] = TASK;
     fields[at + 1] = label;
     at + 2
 }
@@ -117,7 +131,7 @@ pub fn put_plan(labels: &[u32], cues: usize, fields: &mut [u32], from: usize) ->
     requires { ⌜ (cues ≤ length (now labels)) × (from + 1 + cues ≤ length (now fields)) ⌝ }
     ensures { λ r. ⌜ (now (fields .exit) ≡ sets (now (fields .entry)) from (lineFields (cuesLine (take cues (now (labels .entry)))))) × (r ≡ from + 1 + cues) ⌝ }
 {
-    fields[from] = 80;
+    fields[from] = PLAN;
     let first = from + 1;
     let mut i: usize = 0;
     while i < cues {
@@ -127,8 +141,9 @@ pub fn put_plan(labels: &[u32], cues: usize, fields: &mut [u32], from: usize) ->
     first + cues
 }
 
-// The node lines of the tree that hangs from the line that `root` leads to, in preorder, stored from `from` on. At most `count` links are
-// taken.
+// The node lines of the tree that hangs from the line that `root` leads to, in preorder, stored from `from` on: "subtask ids follow the
+// method's order". Frame t of the stack has the links of a line's subtasks that are still to be walked, from next[t] up to last[t]. At most
+// `count` links are taken.
 pub fn put_nodes(
     starts: &[u32],
     links: &[u16],
@@ -188,8 +203,8 @@ pub fn plan_place(nodes: usize, cues: u32) -> usize
     nodes - 1 - cues as usize
 }
 
-// The fields of the case that a form becomes, in the place of those of the case that came beside it: "a case, whose header k and node
-// count, P and node lines are replaced". The P line stands at `plan`. Answers how many fields there are.
+// The fields of the case that a form becomes, in the place of those of the case that came beside it, whose P line stands at `plan`. Answers
+// how many fields there are.
 pub fn make(
     starts: &[u32],
     links: &[u16],
@@ -220,7 +235,7 @@ pub fn make(
         next,
         last,
     );
-    fields[6] = cues as u32;
-    fields[7] = put.nodes;
+    fields[CUES] = cues as u32;
+    fields[NODES] = put.nodes;
     put.end
 }
