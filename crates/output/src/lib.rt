@@ -103,7 +103,7 @@ fn put_line(fields: &[u32], at: usize, end: usize, to: usize, out: &mut [u8]) ->
 
 // How many bytes that line has.
 fn measure_line(fields: &[u32], at: usize, end: usize) -> usize
-    requires { ⌜ (at < end) × (end ≤ length (now fields)) × (end ≤ 32768) ⌝ }
+    requires { ⌜ (at < end) × (end ≤ length (now fields)) × (end ≤ 65536) ⌝ }
     ensures { λ r. ⌜ r ≡ length (lineText (slice at end (now (fields .entry)))) ⌝ }
 {
     let mut size: usize = 2;
@@ -118,7 +118,7 @@ fn measure_line(fields: &[u32], at: usize, end: usize) -> usize
 // How many bytes the text of the first `end` fields has.
 pub fn measure(fields: &[u32], end: usize, cues: u32) -> usize
     requires { ⌜ ((xs : List Valued) × HasLines cues (now fields) end xs) ⌝ }
-    requires { ⌜ end ≤ 32768 ⌝ }
+    requires { ⌜ end ≤ 65536 ⌝ }
     ensures { λ r. ⌜ ((xs : List Valued) → HasLines cues (now (fields .entry)) end xs → r ≡ length (linesText xs)) ⌝ }
     ensures { λ r. ⌜ r ≤ 12 * end ⌝ }
 {

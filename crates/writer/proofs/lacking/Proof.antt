@@ -12,7 +12,7 @@ returns : tie.Need-returns
 returns c xs h few = let long = c .if1 .taken in lacks-none (length (linesText xs)) (c .before .before .args .room) (omega arith)
 
 measure-requires : tie.Need-measure-requires
-measure-requires c κs = let p = c .before .before .pre in ((p .0 .0, p .0 .1), p .1)
+measure-requires c κs = let p = c .before .before .pre in let few = p .1 in ((p .0 .0, p .0 .1), omega arith)
 
 returns-2 : tie.Need-returns-2
 returns-2 c xs h few =

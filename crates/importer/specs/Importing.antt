@@ -1,0 +1,72 @@
+-- What the core of the import call answers and leaves (02, Card 6). Assumes nothing.
+use mathlib.Core.Path.{_≡_}
+use mathlib.Core.List.{List}
+use Prim.Native.Nat.{ℕ, _+_, _≤_, _<_}
+use lib.ListN.{length, getD}
+use Rattle.rules.specs.declared.Header.{Header}
+use Rattle.rules.specs.Result.{Result, found, refused, _>>=_, _>>_}
+use Rattle.rules.specs.Case.{Case, methodAt, readCase}
+use Rattle.rules.specs.Fields.{fieldsOf}
+use Rattle.rules.specs.Print.{printed}
+use Rattle.rules.specs.Tree.{Tree}
+use Rattle.rules.specs.Verdict.{Lent, Found, answerOf, filled, statesAfter}
+use Rattle.rules.specs.Writing.{roomFor}
+use Rattle.rules.specs.Gaps.{findGaps, triedAfter, beforeChoices, Limited}
+use Rattle.rules.specs.Naming.{readNames}
+use Rattle.rules.specs.Form.{Form, formLines, readForm, idsRight}
+use Rattle.rules.specs.Import.{madeCase, madeFrom, foundTree, madeAfter, madeLength, LimitedMade}
+use Rattle.fields.specs.Standing.{Stands}
+use Rattle.fields.specs.Directory.{IsRead, directorySize}
+use Rattle.records.specs.Records.{RecordsHeld}
+use Rattle.links.specs.Links.{Lines, Spelled}
+use Rattle.forms.specs.declared.FormRead.{FormRead}
+use Rattle.forms.specs.Held.{MethodsHere, FormIs}
+use Rattle.making.specs.Making.{PlanLast}
+use Rattle.importer.specs.declared.Import.{Import}
+use Rattle.importer.specs.declared.Made.{Made}
+use Rattle.importer.specs.declared.Made.the-variants.{Text, Refused}
+
+-- A case that was read, with this header, and its methods among the fields.
+pub record ModelHere (k : Case) (h : Header) (fields directory : List ℕ) : Type 0 where
+  pub read : IsRead k
+  pub head : k .head ≡ h
+  pub methods : MethodsHere k fields directory
+
+-- The name list and then the form are read.
+abbrev pub BothAre : Case → List ℕ → List ℕ → FormRead → List ℕ → List ℕ → List ℕ → Type 0
+BothAre k names form r ids labels places = FormIs form (readNames (k .head) names >>= λ ns. readForm k ns form) r ids labels places
+
+-- A form that was read, as lists hold it, and the fields of the case beside it.
+pub record FormHeld (k : Case) (f : Form) (text places ids labels : List ℕ) (cues count root : ℕ) (fields : List ℕ) (plan : ℕ) : Type 0 where
+  pub read : IsRead k
+  pub stands : Stands fields 0 (fieldsOf k)
+  pub planned : PlanLast k plan
+  pub lines : Lines (formLines f) cues ids labels
+  pub spelled : Spelled text places (formLines f) cues
+  pub cued : length (f .cues) ≡ cues
+  pub counted : length (formLines f) ≡ count
+  pub rooted : f .root ≡ root
+  pub rootAt : f .rootLine ≡ 2 + cues
+
+-- 19, 14, and the made text.
+unfoldable pub madeOf : ℕ → Case → Form → Result (List ℕ)
+madeOf size k f = do
+  idsRight f
+  roomFor size (printed (madeCase k f))
+  found (printed (madeCase k f))
+
+-- The rows from reading on.
+unfoldable pub madeText : ℕ → List ℕ → List ℕ → List ℕ → Result (List ℕ)
+madeText size text names form = do
+  k ← readCase text
+  ns ← readNames (k .head) names
+  f ← readForm k ns form
+  madeOf size k f
+
+-- The made text stands in the output, the rest of which is zero; or the answer that refuses it.
+abbrev pub MadeIs : Result (List ℕ) → ℕ → Made → List ℕ → Type 0
+MadeIs (found made) size r output = (r ≡ Text (length made)) × (output ≡ filled size 0 made) × (length made ≤ size)
+MadeIs (refused a) size r output = r ≡ Refused a
+
+abbrev pub PutMade : List ℕ → ℕ → Made → List ℕ → Type 0
+PutMade made size r output = MadeIs (roomFor size made >> found made) size r output
