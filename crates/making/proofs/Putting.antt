@@ -60,7 +60,7 @@ nodes-append xs ys = ap linesFields (map-append nodeLine xs ys) ∙ lines-append
 
 module _ (starts labels : List ℕ) (cues : ℕ) (before : List ℕ) (w : Walk) (next last : List ℕ) where
   pub visits-none : (link : ℕ) → link ≡ 0 → Visited starts labels cues link before w next last w before next last
-  visits-none zero e = record { put = refl; ended = omega arith; counted = omega arith; deep = omega arith; frames = λ links todo low high f. f }
+  visits-none zero e = record { put = refl; ended = omega arith; counted = omega arith; deep = omega arith; frames = λ links todo high f. f }
   visits-none (suc d) e = absurd (omega arith)
 
   pub visits-line : (link : ℕ) → 0 < link → (end depth : ℕ) (after next′ last′ : List ℕ)
@@ -79,8 +79,8 @@ module _ (starts labels : List ℕ) (cues : ℕ) (before : List ℕ) (w : Walk) 
         ended = omega (arith, node .1, ap length whole);
         counted = n;
         deep = omega (arith, f .most);
-        frames = λ links todo low high g.
+        frames = λ links todo high g.
             subst (λ (m : ℕ). Frames links next′ last′ m (slice (getD starts d 0) (getD starts (suc d) 0) links ++ todo)) (sym t)
             (subst (λ (m : ℕ). Frames links next′ last′ depth (slice (getD starts m 0) (getD starts (suc d) 0) links ++ todo)) one
-            (f .frames links todo low high g));
+            (f .frames links todo high g));
       }

@@ -141,7 +141,7 @@ pub record Due (starts links labels : List ℕ) (cues count : ℕ) (before : Lis
 -- The visit of a link asks for this.
 abbrev Visitable : ℕ → List ℕ → List ℕ → List ℕ → Walk → List ℕ → List ℕ → Type 0
 Visitable l starts labels fields w next last =
-    ((l ≤ 3000) × (l < length starts) × (l ≤ length labels))
+    ((l ≤ 3000) × (l < length starts) × (l ≤ length labels) × (getD starts (l - 1) 0 ≤ getD starts l 0))
     × ((w .end + 3 ≤ length fields) × (w .nodes < 3000) × (w .depth < length next) × (w .depth < length last))
 
 module _ {starts links labels : List ℕ} {cues count : ℕ} {before : List ℕ} {b : Walk} {whole : List NodeLine} {left l : ℕ} {fields next last : List ℕ} {w : Walk} (d : Due starts links labels cues count before b whole left l fields next last w) (more : 0 < left) where
@@ -153,7 +153,7 @@ module _ {starts links labels : List ℕ} {cues count : ℕ} {before : List ℕ}
       let near = near-due in
       let t = d .lent in
       let q = d .walks .spare in
-      ((omega arith, omega arith, omega arith), (omega arith, omega arith, omega arith, omega arith))
+      ((omega arith, omega arith, omega arith, t .near .ordered l near), (omega arith, omega arith, omega arith, omega arith))
 
   pub due-on : (r : Walk) (after next′ last′ : List ℕ) → Visited starts labels cues l fields w next last r after next′ last′ → length next′ ≡ length next
       → length last′ ≡ length last → Turning starts links labels cues count before b whole (left - 1) after next′ last′ r
@@ -169,7 +169,7 @@ module _ {starts links labels : List ℕ} {cues count : ℕ} {before : List ℕ}
           near = t;
         };
         todo = linksBelow starts links l ++ d .todo;
-        frames = v .frames links (d .todo) (t .ordered l near-due) (t .inside l near-due) (d .frames);
+        frames = v .frames links (d .todo) (t .inside l near-due) (d .frames);
         walks = walks-on starts links labels cues count before b whole left l (d .todo) fields w (d .walks) more t next last r after next′ last′ v;
       }
 
@@ -204,49 +204,65 @@ module _ {starts links labels : List ℕ} {cues count : ℕ} {before : List ℕ}
     top-frames : Frames links next last (suc top) (g .todo)
     top-frames = let one : w .depth ≡ suc (w .depth - 1) = omega arith in subst (λ (n : ℕ). Frames links next last n (g .todo)) one (g .frames)
 
-    pub turning-top : (w .depth - 1 < length next) × (w .depth - 1 < length last) × (getD last (w .depth - 1) 0 ≤ length links)
-    turning-top = (omega (arith, g .lent .next-long, g .walks .spare .deep), omega (arith, g .lent .last-long, g .walks .spare .deep), top-frames .inside top (omega arith))
+    pub turning-top : (w .depth - 1 < length next) × (w .depth - 1 < length last) × (getD next (w .depth - 1) 0 ≤ getD last (w .depth - 1) 0) × (getD last (w .depth - 1) 0 < length links)
+    turning-top = (
+      omega (arith, g .lent .next-long, g .walks .spare .deep),
+      omega (arith, g .lent .last-long, g .walks .spare .deep),
+      top-frames .ordered top (omega arith),
+      top-frames .inside top (omega arith),
+    )
 
-    -- It has no more links.
-    pub turning-pops : getD last (w .depth - 1) 0 ≤ getD next (w .depth - 1) 0 → (r : Walk) → r .end ≡ w .end → r .nodes ≡ w .nodes → r .depth ≡ w .depth - 1
-        → Turning starts links labels cues count before b whole left fields next last r
-    turning-pops done r e n d =
+    abbrev those : List ℕ
+    those = later links next last top (g .todo) top-frames
+
+    -- Its next link is taken: the walk is where it was, but for its depth.
+    taken : (l : ℕ) → l ≡ getD links (getD next top 0) 0 → (after : List ℕ) (r : Walk) → length after ≡ length next → r .end ≡ w .end → r .nodes ≡ w .nodes → r .depth ≤ w .depth
+        → Frames links after last (r .depth) those → Due starts links labels cues count before b whole left l fields after last r
+    taken l e after r m p n d frames =
         let k = g .walks in
         let q = k .spare in
-        record {
-          lent = g .lent;
-          todo = g .todo;
-          frames = subst (λ (t : ℕ). Frames links next last t (g .todo)) (sym d) (pop-frame links next last top (g .todo) top-frames done);
-          walks = record {
-            spare = record { room = omega arith; few = omega arith; deep = omega arith; near = q .near };
-            stored = ap (λ (t : ℕ). sets fields t (nodesFields (rest starts links labels cues count left (g .todo)))) e ∙ k .stored;
-            ended = omega (arith, k .ended);
-            counted = omega (arith, k .counted);
-          };
-        }
-
-    -- Its next link is taken.
-    pub turning-due : getD next (w .depth - 1) 0 < getD last (w .depth - 1) 0 → (l : ℕ) → l ≡ getD links (getD next (w .depth - 1) 0) 0
-        → Due starts links labels cues count before b whole left l fields (set next (w .depth - 1) (getD next (w .depth - 1) 0 + 1)) last w
-    turning-due more l e =
-        let room = turning-top .0 in
-        let one : suc (w .depth - 1) ≡ w .depth = omega arith in
-        let after = set next top (getD next top 0 + 1) in
-        let those = later links next last top (g .todo) top-frames in
+        let is : l ∷ those ≡ g .todo = ap (λ (n : ℕ). n ∷ those) e ∙ sym (take-first links next last top (g .todo) top-frames) in
+        let ns = ap (nodesFrom starts links labels cues left) is in
+        let size = ap (λ (x : List NodeLine). length (nodesFields x)) ns in
+        let number = ap (length {A = NodeLine}) ns in
         record {
           lent = record {
             few = g .lent .few;
             starts-long = g .lent .starts-long;
             labels-long = g .lent .labels-long;
-            next-long = omega (arith, g .lent .next-long, length-set next top (getD next top 0 + 1));
+            next-long = omega (arith, g .lent .next-long);
             last-long = g .lent .last-long;
             near = g .lent .near;
           };
           todo = those;
-          frames = subst (λ (n : ℕ). Frames links after last n those) one (take-frame links next last top (g .todo) top-frames room more);
-          walks = subst (λ (t : List ℕ). Walks starts links labels cues count before b whole left t fields w)
-              (take-first links next last top (g .todo) top-frames more ∙ ap (λ (n : ℕ). n ∷ those) (sym e)) (g .walks);
+          frames = frames;
+          walks = record {
+            spare = record { room = omega arith; few = omega arith; deep = omega arith; near = subst (Each (λ n. n ≤ count)) (sym is) (q .near) };
+            stored = ap₂ (λ (t : ℕ) (x : List NodeLine). sets fields t (nodesFields x)) p ns ∙ k .stored;
+            ended = omega (arith, k .ended);
+            counted = omega (arith, k .counted);
+          };
         }
+
+    module _ (l : ℕ) (e : l ≡ getD links (getD next (w .depth - 1) 0) 0) (after : List ℕ) (r : Walk) where
+      -- It has more.
+      pub turning-more : getD next (w .depth - 1) 0 < getD last (w .depth - 1) 0 → after ≡ set next (w .depth - 1) (getD next (w .depth - 1) 0 + 1)
+          → r ≡ w → Due starts links labels cues count before b whole left l fields after last r
+      turning-more more p q =
+          let depth = ap (λ (v : Walk). v .depth) q in
+          let one : suc (w .depth - 1) ≡ r .depth = omega arith in
+          taken l e after r (ap length p ∙ length-set next top (getD next top 0 + 1)) (ap (λ (v : Walk). v .end) q) (ap (λ (v : Walk). v .nodes) q) (omega arith)
+          (subst (λ (a : List ℕ). Frames links a last (r .depth) those) (sym p)
+          (subst (λ (n : ℕ). Frames links (set next top (getD next top 0 + 1)) last n those) one (take-frame links next last top (g .todo) top-frames (turning-top .0) more)))
+
+      -- It was its last one.
+      pub turning-last : getD last (w .depth - 1) 0 ≤ getD next (w .depth - 1) 0 → after ≡ next → r ≡ record { end = w .end; nodes = w .nodes; depth = w .depth - 1 }
+          → Due starts links labels cues count before b whole left l fields after last r
+      turning-last done p q =
+          let depth = ap (λ (v : Walk). v .depth) q in
+          taken l e after r (ap length p) (ap (λ (v : Walk). v .end) q) (ap (λ (v : Walk). v .nodes) q) (omega arith)
+          (subst (λ (a : List ℕ). Frames links a last (r .depth) those) (sym p)
+          (subst (λ (n : ℕ). Frames links next last n those) (sym depth) (pop-frame links next last top (g .todo) top-frames done)))
 
 -- ---- The whole tree
 

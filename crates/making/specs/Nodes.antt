@@ -3,7 +3,7 @@
 use mathlib.Core.Path.{_≡_}
 use mathlib.Core.Bool.{true, false}
 use mathlib.Core.List.{List, [], _∷_, _++_, map}
-use Prim.Native.Nat.{ℕ, zero, suc, _+_, _-_, _*_, _≤_, _<_}
+use Prim.Native.Nat.{ℕ, zero, suc, _+_, _*_, _≤_, _<_}
 use lib.Dec.{eqb, ltb}
 use lib.ListN.{length, getD}
 use lib.Seq.{sets, slice}
@@ -34,21 +34,21 @@ abbrev pub linksBelow : List ℕ → List ℕ → ℕ → List ℕ
 linksBelow starts links zero = []
 linksBelow starts links (suc d) = slice (getD starts d 0) (getD starts (suc d) 0) links
 
--- The links that are still to be walked: those of the frame on top, then those of the frames under it. Frame t has the links from next[t] up
--- to last[t].
+-- The links that are still to be walked: those of the frame on top, then those of the frames under it. Frame t has the links from next[t] on,
+-- of which the last is at last[t].
 abbrev pub framesLinks : List ℕ → List ℕ → List ℕ → ℕ → List ℕ
 framesLinks links next last zero = []
-framesLinks links next last (suc t) = slice (getD next t 0) (getD last t 0) links ++ framesLinks links next last t
+framesLinks links next last (suc t) = slice (getD next t 0) (suc (getD last t 0)) links ++ framesLinks links next last t
 
 pub record Frames (links next last : List ℕ) (depth : ℕ) (todo : List ℕ) : Type 0 where
   pub stand : framesLinks links next last depth ≡ todo
   pub ordered : (t : ℕ) → t < depth → getD next t 0 ≤ getD last t 0
-  pub inside : (t : ℕ) → t < depth → getD last t 0 ≤ length links
+  pub inside : (t : ℕ) → t < depth → getD last t 0 < length links
 
 -- A frame for the links from `first` up to `past`, on top of the others.
 pub record Pushed (first past : ℕ) (next last : List ℕ) (depth : ℕ) (next′ last′ : List ℕ) (r : ℕ) : Type 0 where
   pub most : r ≤ depth + 1
-  pub frames : (links todo : List ℕ) → first ≤ past → past ≤ length links → Frames links next last depth todo
+  pub frames : (links todo : List ℕ) → past ≤ length links → Frames links next last depth todo
       → Frames links next′ last′ r (slice first past links ++ todo)
 
 -- The line that a link leads to, visited: its node line is stored, and the links of its subtasks come first.
@@ -57,8 +57,8 @@ pub record Visited (starts labels : List ℕ) (cues link : ℕ) (before : List �
   pub ended : r .end ≡ w .end + length (nodesFields (linkedNodes starts labels cues link))
   pub counted : r .nodes ≡ w .nodes + length (linkedNodes starts labels cues link)
   pub deep : r .depth ≤ w .depth + 1
-  pub frames : (links todo : List ℕ) → getD starts (link - 1) 0 ≤ getD starts link 0 → getD starts link 0 ≤ length links
-      → Frames links next last (w .depth) todo → Frames links next′ last′ (r .depth) (linksBelow starts links link ++ todo)
+  pub frames : (links todo : List ℕ) → getD starts link 0 ≤ length links → Frames links next last (w .depth) todo
+      → Frames links next′ last′ (r .depth) (linksBelow starts links link ++ todo)
 
 -- Plain lists hold the lines of a form, and the root's link is that of its id.
 pub record Holds (es : List FormLine) (ids : List ℕ) (id : ℕ) (starts links labels : List ℕ) (cues count root : ℕ) : Type 0 where

@@ -3,8 +3,8 @@
 // stand in one list from the line's start up to the next line's. A link is one more than a line's number; 0 leads to no line.
 ghost use mathlib.Core.Path.{_≡_};
 ghost use mathlib.Core.List.{List, [], _∷_};
-ghost use Prim.Native.Nat.{ℕ, _+_, _*_, _≤_, _<_};
-ghost use lib.ListN.{length, take};
+ghost use Prim.Native.Nat.{ℕ, _+_, _-_, _*_, _≤_, _<_};
+ghost use lib.ListN.{length, getD, take};
 ghost use lib.Seq.{sets};
 ghost use Rattle.rules.specs.Case.{Case};
 ghost use Rattle.rules.specs.Fields.{lineFields, cuesLine, nodeLine, linesOf};
@@ -86,14 +86,14 @@ fn put_node(
 
 // A frame for the links from `first` up to `past`, if there are any, on top of the others; answers how many frames there are.
 fn push(first: u32, past: u32, next: &mut [u32], last: &mut [u32], depth: usize) -> usize
-    requires { ⌜ (depth < length (now next)) × (depth < length (now last)) ⌝ }
+    requires { ⌜ (first ≤ past) × (depth < length (now next)) × (depth < length (now last)) ⌝ }
     ensures { λ r. ⌜ Pushed first past (now (next .entry)) (now (last .entry)) depth (now (next .exit)) (now (last .exit)) r ⌝ }
 {
     if first == past {
         return depth;
     }
     next[depth] = first;
-    last[depth] = past;
+    last[depth] = past - 1;
     depth + 1
 }
 
@@ -108,7 +108,7 @@ fn visit(
     next: &mut [u32],
     last: &mut [u32],
 ) -> Walk
-    requires { ⌜ (link ≤ 3000) × (link < length (now starts)) × (link ≤ length (now labels)) ⌝ }
+    requires { ⌜ (link ≤ 3000) × (link < length (now starts)) × (link ≤ length (now labels)) × (getD (now starts) (link - 1) 0 ≤ getD (now starts) link 0) ⌝ }
     requires { ⌜ (w .end + 3 ≤ length (now fields)) × (w .nodes < 3000) × (w .depth < length (now next)) × (w .depth < length (now last)) ⌝ }
     ensures { λ r. ⌜ Visited (now (starts .entry)) (now (labels .entry)) cues link (now (fields .entry)) w (now (next .entry)) (now (last .entry)) r (now (fields .exit)) (now (next .exit)) (now (last .exit)) ⌝ }
 {
@@ -142,7 +142,7 @@ pub fn put_plan(labels: &[u32], cues: usize, fields: &mut [u32], from: usize) ->
 }
 
 // The node lines of the tree that hangs from the line that `root` leads to, in preorder, stored from `from` on: "subtask ids follow the
-// method's order". Frame t of the stack has the links of a line's subtasks that are still to be walked, from next[t] up to last[t]. At most
+// method's order". Frame t of the stack has the links of a line's subtasks that are still to be walked, from next[t] to last[t]. At most
 // `count` links are taken.
 pub fn put_nodes(
     starts: &[u32],
@@ -180,14 +180,15 @@ pub fn put_nodes(
         }
         let top = depth - 1;
         let at = next[top];
-        if at < last[top] {
+        let end = last[top];
+        if at < end {
             next[top] = at + 1;
-            let link = wide(links[at as usize]);
-            w = visit(starts, labels, cues, link, fields, w, next, last);
-            left -= 1;
         } else {
             w.depth = top;
         }
+        let link = wide(links[at as usize]);
+        w = visit(starts, labels, cues, link, fields, w, next, last);
+        left -= 1;
     }
     Put {
         end: w.end,

@@ -13,6 +13,9 @@ mul-next c = search needs
 slice-write-next : tie.Need-slice-write-next
 slice-write-next c = search needs
 
+sub-last : tie.Need-sub-last
+sub-last c = search needs
+
 mul-last : tie.Need-mul-last
 mul-last c = search needs
 
@@ -32,7 +35,7 @@ returns-2 : tie.Need-returns-2
 returns-2 c =
     let s = c .before in
     let a = s .args in
-    push-some (a .first) (a .past) (a .next .now) (a .last .now) (a .depth) (s .pre .0) (s .pre .1)
+    push-some (a .first) (a .past) (a .next .now) (a .last .now) (a .depth) (s .pre .0) (c .if1 .left) (s .pre .1) (s .pre .2)
 
 pub push-spec : {M : Type 1} → statement M
 push-spec =
@@ -41,6 +44,7 @@ push-spec =
     returns
     mul-next
     slice-write-next
+    sub-last
     mul-last
     slice-write-last
     add-result

@@ -1,12 +1,12 @@
 -- `put_nodes`: what is stored, with the nodes of the links of the frames, is the whole tree. Assumes nothing.
-use mathlib.Core.Path.{_≡_, refl, _∙_}
-use mathlib.Core.Logic.{inl, inr}
-use Prim.Native.Nat.{_+_, _*_, _-_, _<_}
+use mathlib.Core.Path.{_≡_, refl, ap, _∙_}
+use mathlib.Core.Logic.{inl, inr, ⊎-elim}
+use Prim.Native.Nat.{_-_, _<_}
 use native.Mathlib.Omega.{arith}
 use lib.ListN.{length, length-set}
 use Rattle.making.specs.Nodes.{framesLinks}
 use Rattle.making.proofs.Leading.{nodesFrom}
-use Rattle.making.proofs.Walks.{Turning, due-visitable, due-on, turning-ends, turning-anew, turning-joins, turning-top, turning-pops, turning-due, root-due, none-stored, ends-stored}
+use Rattle.making.proofs.Walks.{Turning, due-visitable, due-on, turning-ends, turning-anew, turning-joins, turning-top, turning-more, turning-last, root-due, none-stored, ends-stored}
 use borrow.Author.Needs.{needs}
 use Rattle.making.proofs.put_nodes.Statement.{statement}
 use Rattle.making.proofs.put_nodes.Tie as tie
@@ -17,7 +17,7 @@ Inv-loop starts links labels cues count root fields₀ from next₀ last₀ w₀
     × Turning starts links labels cues count fields₀ w₀ (nodesFrom starts links labels cues left₀ (framesLinks links next₀ last₀ (w₀ .depth))) left fields next last w
 
 abbrev μ-loop : tie.MeasureT-loop
-μ-loop starts links labels cues count root fields₀ from next₀ last₀ w₀ left₀ fields next last w left = 2 * left + w .depth
+μ-loop starts links labels cues count root fields₀ from next₀ last₀ w₀ left₀ fields next last w left = left
 
 returns : tie.Need-returns Inv-loop μ-loop
 returns c =
@@ -56,14 +56,14 @@ slice-read-at c =
     let t = turning-top (l .inv .3) (c .before .if2 .left) in
     omega arith
 
-mul-if3 : tie.Need-mul-if3 Inv-loop μ-loop
-mul-if3 c =
+mul-end : tie.Need-mul-end Inv-loop μ-loop
+mul-end c =
     let l = c .before .before .before .loop in
     let t = turning-top (l .inv .3) (c .before .if2 .left) in
     omega arith
 
-slice-read-if3 : tie.Need-slice-read-if3 Inv-loop μ-loop
-slice-read-if3 c =
+slice-read-end : tie.Need-slice-read-end Inv-loop μ-loop
+slice-read-end c =
     let l = c .before .before .before .before .loop in
     let t = turning-top (l .inv .3) (c .before .before .if2 .left) in
     omega arith
@@ -88,18 +88,20 @@ slice-write-next c =
 cast-wide : tie.Need-cast-wide Inv-loop μ-loop
 cast-wide c =
     let l = c .before .before .before .before .before .loop in
-    omega (arith, c .before .before .slice-known7 .given (l .w .depth - 1))
+    let t = turning-top (l .inv .3) (c .before .before .before .if2 .left) in
+    omega (arith, c .before .slice-known8 .given (l .w .depth - 1))
 
 mul-wide : tie.Need-mul-wide Inv-loop μ-loop
 mul-wide c =
     let l = c .before .before .before .before .before .loop in
-    omega (arith, c .before .before .slice-known7 .given (l .w .depth - 1))
+    let t = turning-top (l .inv .3) (c .before .before .before .if2 .left) in
+    omega (arith, c .before .slice-known8 .given (l .w .depth - 1))
 
 shared-slice-read-wide : tie.Need-shared-slice-read-wide Inv-loop μ-loop
 shared-slice-read-wide c =
     let l = c .before .before .before .before .before .before .loop in
     let t = turning-top (l .inv .3) (c .before .before .before .before .if2 .left) in
-    omega (arith, c .before .if3 .taken)
+    omega arith
 
 wide-requires : tie.Need-wide-requires Inv-loop μ-loop
 wide-requires c κs = search needs
@@ -107,34 +109,34 @@ wide-requires c κs = search needs
 visit-requires-2 : tie.Need-visit-requires-2 Inv-loop μ-loop
 visit-requires-2 c κs =
     let l = c .before .before .before .before .before .before .before .before .before .before .loop in
-    due-visitable (turning-due (l .inv .3) (c .before .before .before .before .before .before .before .before .if2 .left) (c .before .before .before .before .before .if3 .taken) _ (c .before .before .before .wide .ensures)) (c .before .before .before .before .before .before .before .before .before .loop-test .taken)
+    let some = c .before .before .before .before .before .before .before .before .if2 .left in
+    let link = c .before .before .before .wide in
+    let j = c .before .before .before .before .before .if3 in
+    let due = ⊎-elim (λ x. turning-more (l .inv .3) some (link .result) (link .ensures) (j .next) (j .w) (x .0 .taken) (x .1) (x .2))
+    (λ x. turning-last (l .inv .3) some (link .result) (link .ensures) (j .next) (j .w) (x .0 .left) (x .1) (x .2)) (j .came) in
+    due-visitable due (c .before .before .before .before .before .before .before .before .before .loop-test .taken)
 
 sub-left-2 : tie.Need-sub-left-2 Inv-loop μ-loop
 sub-left-2 c = omega (arith, c .before .before .before .before .before .before .before .before .before .before .before .before .before .before .before .before .loop-test .taken)
 
 loop-less : tie.Need-loop-less Inv-loop μ-loop
-loop-less c =
-    let l = c .before .before .before .before .before .before .before .before .before .before .before .before .before .before .before .before .before .loop in
-    omega (arith, c .before .before .before .before .before .before .visit2 .ensures .deep, c .before .before .before .before .before .before .before .before .before .before .before .before .before .before .before .before .loop-test .taken)
+loop-less c = omega (arith, c .before .before .before .before .before .before .before .before .before .before .before .before .before .before .before .before .loop-test .taken)
 
 loop-again : tie.Need-loop-again Inv-loop μ-loop
 loop-again c =
     let l = c .before .before .before .before .before .before .before .before .before .before .before .before .before .before .before .before .before .loop in
+    let some = c .before .before .before .before .before .before .before .before .before .before .before .before .before .before .before .if2 .left in
+    let link = c .before .before .before .before .before .before .before .before .before .before .wide in
+    let j = c .before .before .before .before .before .before .before .before .before .before .before .before .if3 in
+    let due = ⊎-elim (λ x. turning-more (l .inv .3) some (link .result) (link .ensures) (j .next) (j .w) (x .0 .taken) (x .1) (x .2))
+    (λ x. turning-last (l .inv .3) some (link .result) (link .ensures) (j .next) (j .w) (x .0 .left) (x .1) (x .2)) (j .came) in
     let v = c .before .before .before .before .before .before .visit2 in
-    let due = turning-due (l .inv .3) (c .before .before .before .before .before .before .before .before .before .before .before .before .before .before .before .if2 .left) (c .before .before .before .before .before .before .before .before .before .before .before .before .if3 .taken) _ (c .before .before .before .before .before .before .before .before .before .before .wide .ensures) in (
+    let long = ⊎-elim (λ x. ap length (x .1) ∙ length-set (l .next) (l .w .depth - 1) _) (λ x. ap length (x .1)) (j .came) in (
       v .kept .1 .1 .1 .1 .0 ∙ l .inv .0,
-      v .kept .1 .1 .1 .1 .1 .1 .0 ∙ length-set (l .next) (l .w .depth - 1) _ ∙ l .inv .1,
+      v .kept .1 .1 .1 .1 .1 .1 .0 ∙ long ∙ l .inv .1,
       v .kept .1 .1 .1 .1 .1 .1 .1 .0 ∙ l .inv .2,
       due-on due (c .before .before .before .before .before .before .before .before .before .before .before .before .before .before .before .before .loop-test .taken) (v .result) _ _ _ (v .ensures) (v .kept .1 .1 .1 .1 .1 .1 .0) (v .kept .1 .1 .1 .1 .1 .1 .1 .0),
     )
-
-loop-less-2 : tie.Need-loop-less-2 Inv-loop μ-loop
-loop-less-2 c = omega (arith, c .before .before .before .if2 .left)
-
-loop-again-2 : tie.Need-loop-again-2 Inv-loop μ-loop
-loop-again-2 c =
-    let l = c .before .before .before .before .before .loop in
-    (l .inv .0, l .inv .1, l .inv .2, turning-pops (l .inv .3) (c .before .before .before .if2 .left) (c .if3 .left) _ refl refl refl)
 
 same-length : tie.Need-same-length Inv-loop μ-loop
 same-length c = c .before .loop .inv .0 ∙ c .before .before .before .before .before .before .before .before .visit .kept .1 .1 .1 .1 .0
@@ -189,8 +191,8 @@ put-nodes-spec =
     sub-top
     mul-at
     slice-read-at
-    mul-if3
-    slice-read-if3
+    mul-end
+    slice-read-end
     add-next
     mul-next
     slice-write-next
@@ -202,8 +204,6 @@ put-nodes-spec =
     sub-left-2
     loop-less
     loop-again
-    loop-less-2
-    loop-again-2
     same-length
     same-length-2
     same-length-3
