@@ -59,7 +59,7 @@ module _ {es : List FormLine} {count lost : ℕ} {starts links used : List ℕ} 
     -- The answer tells the first wrong line of each form of which all this is known.
     pub joined : (line : ℕ)
         → ((es : List FormLine) (ids labels starts links : List ℕ) (id : ℕ)
-            → Known es cues count ids labels starts links twin used marks lost root id → (f : Form) → Holds f es cues id → wrongLine f ≡ asLine line)
+        → Known es cues count ids labels starts links twin used marks lost root id → (f : Form) → Holds f es cues id → wrongLine f ≡ asLine line)
         → Joined es cues id (record { root = root; line = line }) starts links
     joined line answer =
         record {
