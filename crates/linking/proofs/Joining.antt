@@ -40,7 +40,8 @@ module _ {es : List FormLine} {count lost : ℕ} {starts links used : List ℕ} 
         twins-low = λ e h. low e;
       }
 
-  module _ {cues : ℕ} {ids labels twin marks : List ℕ} {root id : ℕ} (lines : Lines es cues ids labels) (twins : Twins es twin) (rooted : Rooted ids count id root) (from : MarkedFrom starts links twin root marks) where
+  module _ {cues : ℕ} {ids labels twin marks : List ℕ} {root id : ℕ} (lines : Lines es cues ids labels) (twins : Twins es twin)
+      (rooted : Rooted ids count id root) (from : MarkedFrom starts links twin root marks) where
     known : Known es cues count ids labels starts links twin used marks lost root id
     known =
         record {

@@ -1,9 +1,8 @@
 -- `linking::tie` meets its contract: the twins, the links, the root's, what is reached from it, and then the first wrong line. Assumes nothing.
-use mathlib.Core.Path.{_≡_, _∙_}
+use mathlib.Core.Path.{_∙_}
 use Prim.Native.Nat.{_≤_}
 use native.Mathlib.Omega.{arith}
 use borrow.Author.Needs.{needs}
-use lib.ListN.{length}
 use Rattle.links.proofs.Written.{lines-defined}
 use Rattle.reaching.specs.Visited.{Graph}
 use Rattle.linking.proofs.Joining.{graph, joined}
@@ -76,7 +75,11 @@ wrong-line-requires c κs =
     let s = start p in
     let room = s .pre .1 .1 .0 in (
       few s,
-      (omega (arith, p .pair .kept .1 .1 .1 .0, room .0), omega (arith, k .resolve .kept .1 .1 .1 .1 .1 .1 .1 .1 .0, room .1), omega (arith, m .mark-from .kept .1 .1 .1 .1 .1 .0, room .2)),
+      (
+        omega (arith, p .pair .kept .1 .1 .1 .0, room .0),
+        omega (arith, k .resolve .kept .1 .1 .1 .1 .1 .1 .1 .1 .0, room .1),
+        omega (arith, m .mark-from .kept .1 .1 .1 .1 .1 .0, room .2),
+      ),
     )
 
 same-length : tie.Need-same-length
@@ -106,8 +109,8 @@ returns c =
     let k = resolved m in
     let p = paired k .pair in (
       λ es labels lines spelled size.
-          joined size (k .resolve .ensures .0 es labels lines spelled size) lines (p .ensures .0 es size (lines-defined lines)) (m .before .before .before .before .before .before .link-of .ensures) (m .mark-from .ensures)
-          (c .wrong-line .result) (c .wrong-line .ensures),
+          joined size (k .resolve .ensures .0 es labels lines spelled size) lines (p .ensures .0 es size (lines-defined lines))
+          (m .before .before .before .before .before .before .link-of .ensures) (m .mark-from .ensures) (c .wrong-line .result) (c .wrong-line .ensures),
       k .resolve .ensures .1 .0,
     )
 
