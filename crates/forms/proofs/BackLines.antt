@@ -3,7 +3,7 @@ use mathlib.Core.Path.{_≡_, refl, sym, ap, _∙_}
 use mathlib.Core.Bool.{Bool, true, false}
 use mathlib.Core.List.{List, []}
 use mathlib.Core.Option.{Option, none, some}
-use Prim.Native.Nat.{ℕ, zero, suc, _+_, _-_, _≤_, _<_}
+use Prim.Native.Nat.{ℕ, zero, suc, _+_, _≤_, _<_}
 use native.Mathlib.Omega.{arith}
 use borrow.Author.Tests.{eqb-true}
 use lib.Dec.{eqb}
@@ -11,7 +11,7 @@ use lib.ListN.{length}
 use Rattle.rules.specs.declared.Answer.{Answer}
 use Rattle.rules.specs.declared.Answer.the-variants.{WrongShape, WrongName}
 use Rattle.rules.specs.Result.{Result, found, refused, _>>=_}
-use Rattle.rules.specs.Case.{Method, methodAt, Case, Read}
+use Rattle.rules.specs.Case.{methodAt, Case, Read}
 use Rattle.rules.specs.Naming.{Names, listedAt}
 use Rattle.rules.specs.Form.{Back, aCompound, theEnd, FormLine, taskLine, usedAs, suits, compoundNamed, methodNamed, bothNamed, backLine, onBack, withTask, backLines}
 use Rattle.text.proofs.Scan.{and-right}

@@ -11,7 +11,6 @@ use Rattle.rules.specs.Result.{found, refused}
 use Rattle.rules.specs.Case.{Case, Read}
 use Rattle.rules.specs.Naming.{Names}
 use Rattle.rules.specs.Form.{FormLine, taskLine, withTask, backLines}
-use Rattle.tokens.specs.Pieces.{Spells}
 use Rattle.links.specs.Links.{Lines, Spelled}
 use Rattle.forms.specs.declared.After.{After}
 use Rattle.forms.specs.declared.After.the-variants.{Taken, End, Refused}
@@ -92,8 +91,8 @@ module _ (k : Case) (ns : Names) (form : List ℕ) (cues from : ℕ) (cs : List 
       subst (λ (l : List ℕ). Spelled form l (cs ++ p .tasks) cues) (sym ps) (p .spelled),
       most,
       p .same
-      ∙ (ap (ahead (p .tasks)) (step (3000 - e))
-      ∙ ap₂ (λ (l : List FormLine) (n : ℕ). found (l, n, next)) (append-nil (p .tasks)) fourth),
+          ∙ (ap (ahead (p .tasks)) (step (3000 - e))
+          ∙ ap₂ (λ (l : List FormLine) (n : ℕ). found (l, n, next)) (append-nil (p .tasks)) fourth),
     )
       where
         fourth : e + 3 + 1 ≡ e + 4

@@ -1,14 +1,14 @@
 -- A line up to the root line, by what it says: what reading from it on gives. Assumes nothing.
-use mathlib.Core.Path.{_≡_, refl, ap, _∙_}
+use mathlib.Core.Path.{_≡_, ap, _∙_}
 use mathlib.Core.List.{List}
-use Prim.Native.Nat.{ℕ, zero, suc, _+_, _-_, _≤_, _<_}
+use Prim.Native.Nat.{ℕ, zero, suc, _+_, _≤_}
 use native.Mathlib.Omega.{arith}
 use Rattle.rules.specs.declared.Answer.{Answer}
-use Rattle.rules.specs.declared.Answer.the-variants.{WrongShape, WrongName}
+use Rattle.rules.specs.declared.Answer.the-variants.{WrongShape}
 use Rattle.rules.specs.Result.{Result, found, refused, _>>=_}
 use Rattle.rules.specs.Case.{Case, Read}
 use Rattle.rules.specs.Naming.{Names}
-use Rattle.rules.specs.Form.{Front, anAction, theRoot, FormLine, cueLine, Fronts, rootOnly, withCue, actionNamed, frontLine, onFront, frontLines}
+use Rattle.rules.specs.Form.{Front, anAction, theRoot, cueLine, Fronts, rootOnly, withCue, actionNamed, frontLine, onFront, frontLines}
 
 module _ (k : Case) (ns : Names) (text : List ℕ) (i n at : ℕ) where
   -- What reading goes on to, with so many lines left.

@@ -5,16 +5,17 @@ use mathlib.Core.List.{List, [], _∷_, _++_, append-nil, append-assoc}
 use Prim.Native.Nat.{ℕ, suc, _+_, _-_, _≤_, _<_}
 use native.Mathlib.Omega.{arith}
 use lib.ListN.{length, set, length-set}
+use Rattle.rules.specs.declared.Header.{Header}
 use Rattle.rules.specs.declared.Answer.{Answer}
 use Rattle.rules.specs.Result.{Result, found, refused}
 use Rattle.rules.specs.Case.{Case}
 use Rattle.rules.specs.Naming.{Names}
-use Rattle.rules.specs.Form.{FormLine, cueLine, Fronts, rootOnly, withCue, frontLines}
+use Rattle.rules.specs.Form.{FormLine, cueLine, Fronts, withCue, frontLines}
 use Rattle.links.specs.Links.{Lines}
 use Rattle.forms.specs.declared.Ahead.{Ahead}
 use Rattle.forms.specs.declared.Ahead.the-variants.{Taken, Root, Refused}
 use Rattle.forms.specs.declared.Fronts.the-variants.{Read as FrontsOf, Refused as FrontsRefused}
-use Rattle.forms.specs.Held.{AheadIs, FrontsAre}
+use Rattle.forms.specs.Held.{Tasks, AheadIs, FrontsAre}
 use Rattle.forms.proofs.Grown.{one-more, lines-cue}
 
 -- Lines put ahead of others.
@@ -91,9 +92,9 @@ module _ (k : Case) (ns : Names) (form : List ℕ) (from : ℕ) where
       ap length is ∙ ids-long,
       ap length ls ∙ labels-long,
       p .same
-      ∙ (ap (ahead (p .cues)) (step (3000 - e))
-      ∙ (ap (λ (cs : List FormLine). found (record { cues = cs; root = root; left = 3000 - e; next = e + 2 + 1; place = next })) (append-nil (p .cues))
-      ∙ ap (λ (n : ℕ). found (record { cues = p .cues; root = root; left = 3000 - e; next = n; place = next })) third)),
+          ∙ (ap (ahead (p .cues)) (step (3000 - e))
+          ∙ (ap (λ (cs : List FormLine). found (record { cues = cs; root = root; left = 3000 - e; next = e + 2 + 1; place = next })) (append-nil (p .cues))
+          ∙ ap (λ (n : ℕ). found (record { cues = p .cues; root = root; left = 3000 - e; next = n; place = next })) third)),
     )
       where
         third : e + 2 + 1 ≡ e + 3
@@ -103,6 +104,10 @@ module _ (k : Case) (ns : Names) (form : List ℕ) (from : ℕ) where
     so-far-refused answer h = p .same ∙ ap (ahead (p .cues)) h
 
 -- ---- For every case that the names fit
+
+-- What the code asks of a case.
+abbrev pub Modelled : Header → List ℕ → List ℕ → List ℕ → List ℕ → Case → Names → Type 0
+Modelled header names starts ends slots k ns = Tasks k ns header names starts ends slots
 
 pub record Fronting (Fits : Case → Names → Type 0) (form : List ℕ) (from : ℕ) (ids labels : List ℕ) (at e : ℕ) : Type 0 where
   pub most : e ≤ 3000

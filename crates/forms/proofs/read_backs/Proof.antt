@@ -1,17 +1,11 @@
 -- `read_backs`: the lines so far, with those from here on, are all lines (BackTurns). Assumes nothing.
-use mathlib.Core.Path.{_≡_, refl, sym, ap, subst, _∙_}
-use Prim.Native.Nat.{ℕ, suc, _+_, _-_, _≤_, _<_}
+use mathlib.Core.Path.{sym, _∙_}
+use Prim.Native.Nat.{_-_}
 use native.Mathlib.Omega.{arith}
 use borrow.Author.Needs.{needs}
-use Rattle.rules.specs.Case.{Case}
-use Rattle.rules.specs.Naming.{Names}
-use Rattle.forms.specs.Held.{MethodsHere, Tasks, Methods}
 use Rattle.forms.proofs.BackTurns.{Modelled, Backing, backing-starts, backing-few, backing-more, backing-end, backing-refused}
 use Rattle.forms.proofs.read_backs.Statement.{statement}
 use Rattle.forms.proofs.read_backs.Tie as tie
-use Rattle.forms.proofs.read_backs.Reads as reads
-use Rattle.forms.proofs.read_backs.Lts as lts
-use Rattle.forms.proofs.take_after.Reads as take-after-reads
 
 abbrev Inv-loop : tie.InvT-loop
 Inv-loop form past from cues names task-starts task-ends task-slots method-starts method-ends method-slots header fields directory ids₀ labels₀ places₀ at₀ e₀ ids labels places at e =

@@ -1,17 +1,9 @@
 -- `read_form`: by the opening line, the lines up to the root line, those after it, and what follows them (Whole). Assumes nothing.
-use mathlib.Core.Path.{_≡_, refl, sym, ap, subst, _∙_}
-use Prim.Native.Nat.{ℕ, _+_, _≤_, _<_}
 use native.Mathlib.Omega.{arith}
-use Rattle.forms.proofs.Whole.{fronts-few, no-opening, front-refusal, back-refusal, backs-few, more-refusal, whole}
 use borrow.Author.Needs.{needs}
+use Rattle.forms.proofs.Whole.{fronts-few, no-opening, front-refusal, back-refusal, backs-few, more-refusal, whole}
 use Rattle.forms.proofs.read_form.Statement.{statement}
 use Rattle.forms.proofs.read_form.Tie as tie
-use Rattle.forms.proofs.read_form.Reads as reads
-use Rattle.forms.proofs.read_form.Lts as lts
-use Rattle.forms.proofs.read_backs.Reads as read-backs-reads
-use Rattle.forms.proofs.read_fronts.Reads as read-fronts-reads
-use Rattle.shapes.proofs.past_opening.Reads as past-opening-reads
-use Rattle.text.proofs.past_last_feed.Reads as past-last-feed-reads
 
 past-last-feed-requires : tie.Need-past-last-feed-requires
 past-last-feed-requires c κs = search needs

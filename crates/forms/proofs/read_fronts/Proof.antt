@@ -1,21 +1,15 @@
 -- `read_fronts`: the lines so far, with those from here on, are all lines (FrontTurns). Assumes nothing.
-use mathlib.Core.Path.{_≡_, refl, sym, ap, subst, _∙_}
-use Prim.Native.Nat.{ℕ, suc, _+_, _-_, _≤_, _<_}
+use mathlib.Core.Path.{sym, _∙_}
+use Prim.Native.Nat.{_-_}
 use native.Mathlib.Omega.{arith}
 use borrow.Author.Needs.{needs}
-use Rattle.rules.specs.Case.{Case}
-use Rattle.rules.specs.Naming.{Names}
-use Rattle.forms.specs.Held.{Tasks}
-use Rattle.forms.proofs.FrontTurns.{Fronting, fronting-starts, fronting-few, fronting-more, fronting-root, fronting-refused}
+use Rattle.forms.proofs.FrontTurns.{Modelled, Fronting, fronting-starts, fronting-few, fronting-more, fronting-root, fronting-refused}
 use Rattle.forms.proofs.read_fronts.Statement.{statement}
 use Rattle.forms.proofs.read_fronts.Tie as tie
-use Rattle.forms.proofs.read_fronts.Reads as reads
-use Rattle.forms.proofs.read_fronts.Lts as lts
-use Rattle.forms.proofs.take_ahead.Reads as take-ahead-reads
 
 abbrev Inv-loop : tie.InvT-loop
 Inv-loop form past from names starts ends slots header ids₀ labels₀ at₀ e₀ ids labels at e =
-    Fronting (λ k ns. Tasks k ns header names starts ends slots) form from ids labels at e
+    Fronting (Modelled header names starts ends slots) form from ids labels at e
 
 abbrev μ-loop : tie.MeasureT-loop
 μ-loop form past from names starts ends slots header ids₀ labels₀ at₀ e₀ ids labels at e = 3000 - e
@@ -24,7 +18,7 @@ loop-holds : tie.Need-loop-holds Inv-loop μ-loop
 loop-holds c =
     let s = c .before .before .before .before .before .before .before in
     let a = s .args in
-    fronting-starts (λ (k : Case) (ns : Names). Tasks k ns (a .header) (a .names .now) (a .starts .now) (a .ends .now) (a .slots .now)) (a .form .now) (a .from) _ _ (s .pre .1 .1 .0) (s .pre .1 .1 .1)
+    fronting-starts (Modelled (a .header) (a .names .now) (a .starts .now) (a .ends .now) (a .slots .now)) (a .form .now) (a .from) _ _ (s .pre .1 .1 .0) (s .pre .1 .1 .1)
 
 take-ahead-requires : tie.Need-take-ahead-requires Inv-loop μ-loop
 take-ahead-requires c κs =
@@ -46,7 +40,7 @@ loop-less c =
     let a = s .args in
     let l = c .before .before .before .before .before .before .before .before .before .before .loop in
     let r = c .before .before .before .before .before .before .before .take-ahead in
-    let few = fronting-few (λ (k : Case) (ns : Names). Tasks k ns (a .header) (a .names .now) (a .starts .now) (a .ends .now) (a .slots .now)) (a .form .now) (a .from) _ _ (l .at) (l .e) (l .inv) (r .result) _ _ (r .ensures) (s .pre .0) _ (c .before .next .given .1) in
+    let few = fronting-few (Modelled (a .header) (a .names .now) (a .starts .now) (a .ends .now) (a .slots .now)) (a .form .now) (a .from) _ _ (l .at) (l .e) (l .inv) (r .result) _ _ (r .ensures) (s .pre .0) _ (c .before .next .given .1) in
     omega arith
 
 loop-again : tie.Need-loop-again Inv-loop μ-loop
@@ -55,7 +49,7 @@ loop-again c =
     let a = s .args in
     let l = c .before .before .before .before .before .before .before .before .before .before .loop in
     let r = c .before .before .before .before .before .before .before .take-ahead in
-    fronting-more (λ (k : Case) (ns : Names). Tasks k ns (a .header) (a .names .now) (a .starts .now) (a .ends .now) (a .slots .now)) (a .form .now) (a .from) _ _ (l .at) (l .e) (l .inv) (r .result) _ _ (r .ensures) (s .pre .0) _ (c .before .next .given .1)
+    fronting-more (Modelled (a .header) (a .names .now) (a .starts .now) (a .ends .now) (a .slots .now)) (a .form .now) (a .from) _ _ (l .at) (l .e) (l .inv) (r .result) _ _ (r .ensures) (s .pre .0) _ (c .before .next .given .1)
 
 enum-known-id : tie.Need-enum-known-id Inv-loop μ-loop
 enum-known-id c = search needs
@@ -72,7 +66,7 @@ returns c =
     let a = s .args in
     let l = c .before .before .before .before .before .before .before .before .before .before .loop in
     let r = c .before .before .before .before .before .before .before .take-ahead in
-    λ k ns t. fronting-root (λ (k : Case) (ns : Names). Tasks k ns (a .header) (a .names .now) (a .starts .now) (a .ends .now) (a .slots .now)) (a .form .now) (a .from) _ _ (l .at) (l .e) (l .inv) (r .result) _ _ (r .ensures) k ns t _ _ (c .before .id .given .1)
+    λ k ns t. fronting-root (Modelled (a .header) (a .names .now) (a .starts .now) (a .ends .now) (a .slots .now)) (a .form .now) (a .from) _ _ (l .at) (l .e) (l .inv) (r .result) _ _ (r .ensures) k ns t _ _ (c .before .id .given .1)
 
 enum-known-answer : tie.Need-enum-known-answer Inv-loop μ-loop
 enum-known-answer c = search needs
@@ -89,7 +83,7 @@ returns-2 c =
     let a = s .args in
     let l = c .before .before .before .before .before .before .before .before .before .before .loop in
     let r = c .before .before .before .before .before .before .before .take-ahead in
-    λ k ns t. fronting-refused (λ (k : Case) (ns : Names). Tasks k ns (a .header) (a .names .now) (a .starts .now) (a .ends .now) (a .slots .now)) (a .form .now) (a .from) _ _ (l .at) (l .e) (l .inv) (r .result) _ _ (r .ensures) k ns t _ (c .before .answer .given .1)
+    λ k ns t. fronting-refused (Modelled (a .header) (a .names .now) (a .starts .now) (a .ends .now) (a .slots .now)) (a .form .now) (a .from) _ _ (l .at) (l .e) (l .inv) (r .result) _ _ (r .ensures) k ns t _ (c .before .answer .given .1)
 
 pub read-fronts-spec : {M : Type 1} → statement M
 read-fronts-spec =

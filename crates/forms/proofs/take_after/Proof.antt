@@ -1,18 +1,14 @@
 -- `take_after`: by the line's shape, by how many lines there were, and by its names. Assumes nothing.
-use mathlib.Core.Path.{_≡_, refl, sym, ap, subst, _∙_}
-use Prim.Native.Nat.{ℕ, suc, _+_, _-_, _≤_, _<_}
+use mathlib.Core.Path.{refl, sym, ap, subst, _∙_}
+use Prim.Native.Nat.{_+_, _-_, _<_}
 use native.Mathlib.Omega.{arith}
+use borrow.Author.Needs.{needs}
 use Rattle.rules.specs.declared.Header.{Header}
 use Rattle.shapes.specs.Shapes.{BackIs}
 use Rattle.forms.specs.Held.{named}
 use Rattle.forms.proofs.BackLines.{back-other, back-end, back-surplus, back-unnamed, back-taken, few-subtasks}
-use borrow.Author.Needs.{needs}
 use Rattle.forms.proofs.take_after.Statement.{statement}
 use Rattle.forms.proofs.take_after.Tie as tie
-use Rattle.forms.proofs.take_after.Reads as reads
-use Rattle.forms.proofs.take_after.Lts as lts
-use Rattle.forms.proofs.both_named.Reads as both-named-reads
-use Rattle.shapes.proofs.back_line.Reads as back-line-reads
 
 cast-line : tie.Need-cast-line
 cast-line c = search needs
@@ -123,8 +119,7 @@ returns-2 c =
     let fewer = c .before .before .before .before .if1 .left in
     λ k ns t ms h.
     let m = c .before .before .before .both-named .ensures .0 k ns t ms h (a .e + 3) (f .4 .0) (f .4 .2) ∙ ap (named (a .e + 3)) (c .before .m .given .1) in
-    let low = subst (λ (x : Header). _ < x .methods) (sym (ms .head)) (c .before .before .before .both-named .ensures .1 _ (c .before .m .given .1)) in
-    (
+    let low = subst (λ (x : Header). _ < x .methods) (sym (ms .head)) (c .before .before .before .both-named .ensures .1 _ (c .before .m .given .1)) in (
       _,
       _,
       _,

@@ -1,6 +1,6 @@
 -- `take_ahead`: by the line's shape, by how many lines there were, and by its name. Assumes nothing.
-use mathlib.Core.Path.{_≡_, refl, sym, ap, subst, _∙_}
-use Prim.Native.Nat.{ℕ, suc, _+_, _-_, _≤_, _<_}
+use mathlib.Core.Path.{refl, ap, subst, _∙_}
+use Prim.Native.Nat.{_+_, _-_}
 use native.Mathlib.Omega.{arith}
 use borrow.Author.Needs.{needs}
 use Rattle.shapes.specs.Shapes.{FrontIs}
@@ -8,8 +8,6 @@ use Rattle.forms.specs.Held.{named}
 use Rattle.forms.proofs.FrontLines.{front-other, front-root, front-surplus, front-unnamed, front-taken}
 use Rattle.forms.proofs.take_ahead.Statement.{statement}
 use Rattle.forms.proofs.take_ahead.Tie as tie
-use Rattle.forms.proofs.take_ahead.Reads as reads
-use Rattle.forms.proofs.take_ahead.Lts as lts
 
 cast-line : tie.Need-cast-line
 cast-line c = search needs
@@ -94,8 +92,8 @@ returns-2 c =
       refl,
       omega arith,
       λ left.
-      front-taken k ns (a .form .now) (a .e + 1) (a .e + 2) (a .at) _ _ _ (f .2 (a .e + 2)) left _
-      (c .before .before .before .action-named .ensures .0 k ns t (a .e + 2) ∙ ap (named (a .e + 2)) (c .before .a .given .1)),
+          front-taken k ns (a .form .now) (a .e + 1) (a .e + 2) (a .at) _ _ _ (f .2 (a .e + 2)) left _
+          (c .before .before .before .action-named .ensures .0 k ns t (a .e + 2) ∙ ap (named (a .e + 2)) (c .before .a .given .1)),
     )
 
 returns-3 : tie.Need-returns-3
