@@ -1,1 +1,7 @@
 pub mod Lookups
+pub mod Grown
+pub mod FrontLines
+pub mod FrontTurns
+pub mod BackLines
+pub mod BackTurns
+pub mod Whole
