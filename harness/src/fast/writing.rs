@@ -48,7 +48,7 @@ fn put_method(text: &[u8], before: &[u8], method: &Method, constraints: &[Constr
 }
 
 /// No constraint line is longer.
-const LONGEST: usize = 32;
+pub const LONGEST: usize = 32;
 
 /// Puts out what ends in a method's c and a line feed, with another c.
 fn put_count(before: &[u8], old: usize, new: usize, sink: &mut Sink) {
@@ -75,24 +75,24 @@ fn key(constraint: &Constraint) -> u128 {
 }
 
 /// The output, and how much was put out: also where it doesn't reach, to tell what is needed.
-struct Sink<'a> {
-    output: &'a mut [u8],
-    length: usize,
+pub struct Sink<'a> {
+    pub output: &'a mut [u8],
+    pub length: usize,
 }
 
 impl Sink<'_> {
     #[inline(always)]
-    fn put(&mut self, bytes: &[u8]) {
+    pub fn put(&mut self, bytes: &[u8]) {
         if let Some(room) = self.output.get_mut(self.length..self.length + bytes.len()) {
             room.copy_from_slice(bytes);
         }
         self.length += bytes.len();
     }
 
-    /// Puts out a constraint line, given with what follows it: as many bytes of that as any line has are copied with it, to be
-    /// written over.
+    /// Puts out a constraint line or another short stretch, given with what follows it: as many bytes of that as any line has are
+    /// copied with it, to be written over.
     #[inline(always)]
-    fn put_line(&mut self, bytes: &[u8], length: usize) {
+    pub fn put_line(&mut self, bytes: &[u8], length: usize) {
         let room = self.output.get_mut(self.length..).and_then(|room| room.first_chunk_mut::<LONGEST>());
         match (room, bytes.first_chunk::<LONGEST>()) {
             (Some(room), Some(line)) => {
