@@ -491,7 +491,7 @@ fn of_limits(rng: &mut Rng) -> Vec<(&'static str, Texts)> {
     }
     let mut draft = shortened(&limits);
     pad(&mut draft, 65_535);
-    inputs.push(("90000 bytes made", Sheet::of(rng, &limits).texts(draft.text())));
+    inputs.push(("83000 bytes made", Sheet::of(rng, &limits).texts(draft.text())));
     let draft = super::extremes::four_nodes();
     for (name, length) in [("names of 300 bytes", 300), ("names of 70000 bytes", 70_000)] {
         let mut sheet = Sheet::of(rng, &draft);
@@ -520,6 +520,7 @@ fn of_ids(rng: &mut Rng) -> Vec<(&'static str, Texts)> {
     let mut wide = ring.clone();
     wide.compounds = (0..3_000).map(|n| line(&wide, n, 1, (0..32).map(|j| (32 * n + j) % 3_000).collect())).collect();
     let mut same = ring.clone();
+    same.root = 7;
     same.compounds.iter_mut().for_each(|line| line.id = 7);
     let names = ["a ring of 3000", "a ring of 2999 apart", "96000 subtasks", "one id 3000 times"];
     names.into_iter().zip([ring, apart, wide, same].map(|sheet| sheet.texts(case.text()))).collect()
