@@ -15,6 +15,7 @@ mod finding;
 mod form;
 mod names;
 mod reading;
+mod slots;
 mod walking;
 mod writing;
 

@@ -2,7 +2,8 @@
 
 use super::case::Case;
 use super::names::{Name, Names, Words};
-use super::writing::{Sink, LONGEST};
+use super::slots::{mixed, Slots};
+use super::writing::Sink;
 use super::{refuse, Checked, Node, NODES};
 use std::mem::replace;
 use std::ops::Range;
@@ -118,7 +119,7 @@ fn read_root(words: &mut Words) -> Option<u32> {
 #[inline(never)]
 fn read_compounds(words: &mut Words, case: &Case, names: &Names, form: &mut Form) -> Checked<()> {
     while words.pass(b"<==\n").is_none() {
-        let (line, first) = (form.root_line() + 1 + form.count() - form.actions, form.subtasks.len());
+        let (line, first) = (form.line_of(form.count()), form.subtasks.len());
         let Some((id, task, name)) = read_compound(words, &mut form.subtasks).filter(|_| form.count() < NODES) else {
             return refuse(17, line, 0);
         };
@@ -152,31 +153,6 @@ fn read_compound<'a>(words: &mut Words<'a>, subtasks: &mut Vec<u32>) -> Option<(
 
 // ---------------------------------------------------------------- ids
 
-/// More than twice as many as there are definitions at the most.
-const SLOTS: usize = 8_192;
-
-/// Where to look for ids: the number of an id's first definition and 1, in the first free slot from the one of its hash on; 0 is a free
-/// slot.
-struct Slots<'a> {
-    ids: &'a [u32],
-    slots: [u16; SLOTS],
-}
-
-impl Slots<'_> {
-    /// The first definition of an id, or the free slot where it would be looked for.
-    #[inline(always)]
-    fn look_up(&self, id: u32) -> Result<usize, usize> {
-        let mut slot = (id.wrapping_mul(0x9E37_79B9) >> (32 - SLOTS.ilog2())) as usize;
-        loop {
-            match self.slots[slot] {
-                0 => return Err(slot),
-                after if self.ids[usize::from(after) - 1] == id => return Ok(usize::from(after) - 1),
-                _ => slot = (slot + 1) % SLOTS,
-            }
-        }
-    }
-}
-
 /// No definition.
 const NONE: u32 = u32::MAX;
 
@@ -184,20 +160,22 @@ const NONE: u32 = u32::MAX;
 /// be marked.
 struct Tree<'a> {
     form: &'a Form,
+    slots: Slots,
     /// For each subtask the first definition of its id.
     subtasks: Vec<u32>,
     faulty: Vec<bool>,
-    /// Definitions of ids that have an earlier one, with that one.
-    again: Vec<(u32, u32)>,
+    /// For each definition another one of the same id: from the first on all of them.
+    again: Vec<u32>,
 }
 
 /// The definitions in preorder from the root, or number 19.
 pub fn preorder(form: &Form) -> Checked<Vec<u32>> {
-    let mut slots = Slots { ids: &form.ids, slots: [0; SLOTS] };
-    let mut tree = Tree { form, subtasks: Vec::new(), faulty: vec![false; form.count()], again: Vec::new() };
-    tree.enter_all(&mut slots);
-    let root = slots.look_up(form.root).ok();
-    tree.look_up_subtasks(&slots, root);
+    let count = form.count();
+    let (slots, subtasks) = (Slots::of(count), Vec::with_capacity(form.subtasks.len()));
+    let mut tree = Tree { form, slots, subtasks, faulty: vec![false; count], again: vec![NONE; count] };
+    tree.enter_all();
+    let root = tree.look_up(form.root).ok();
+    tree.look_up_subtasks(root);
     let reached = tree.walk(root);
     let first = tree.faulty.iter().position(|&faulty| faulty).map(|at| form.line_of(at));
     let no_root = root.is_none().then(|| form.root_line());
@@ -208,28 +186,33 @@ pub fn preorder(form: &Form) -> Checked<Vec<u32>> {
 }
 
 impl Tree<'_> {
-    fn enter_all(&mut self, slots: &mut Slots) {
+    /// The first definition of an id, or the free slot where it would be found.
+    #[inline(always)]
+    fn look_up(&self, id: u32) -> Result<usize, usize> {
+        self.slots.look_up(mixed(0, id.into()), |at| self.form.ids[at] == id)
+    }
+
+    fn enter_all(&mut self) {
         for (at, &id) in self.form.ids.iter().enumerate() {
-            match slots.look_up(id) {
-                Err(slot) => slots.slots[slot] = at as u16 + 1,
+            match self.look_up(id) {
+                Err(slot) => self.slots.put(slot, at),
                 Ok(first) => {
                     self.faulty[first] = true;
-                    self.again.push((at as u32, first as u32));
+                    self.again[at] = replace(&mut self.again[first], at as u32);
                 }
             }
         }
     }
 
     /// Marks what is twice a subtask, the root if it is one, and what has a subtask that is never defined.
-    fn look_up_subtasks(&mut self, slots: &Slots, root: Option<usize>) {
+    fn look_up_subtasks(&mut self, root: Option<usize>) {
         let form = self.form;
-        self.subtasks.reserve(form.subtasks.len());
         // The root can be a subtask no more.
         let mut taken = vec![false; form.count()];
         root.into_iter().for_each(|root| taken[root] = true);
         for at in form.actions..form.count() {
             for &id in &form.subtasks[form.subtasks_of(at)] {
-                let subtask = slots.look_up(id);
+                let subtask = self.look_up(id);
                 match subtask {
                     Ok(subtask) => self.faulty[subtask] |= replace(&mut taken[subtask], true),
                     Err(_) => self.faulty[at] = true,
@@ -253,7 +236,7 @@ impl Tree<'_> {
             }
             order.push(at);
             todo.extend(self.subtasks[form.subtasks_of(at as usize)].iter().rev());
-            todo.extend(self.again.iter().filter(|&&(_, first)| first == at).map(|&(at, _)| at));
+            todo.extend(Some(self.again[at as usize]).filter(|&again| again != NONE));
         }
         if order.len() < form.count() {
             self.faulty.iter_mut().zip(&reached).for_each(|(faulty, &reached)| *faulty |= !reached);
@@ -278,8 +261,8 @@ pub fn put_case(
     for (&at, record) in order.iter().zip(nodes) {
         *record = form.record(at as usize);
         let &mut Node { letter, label, place, .. } = record;
-        let line = Stretch::letter(b"DEL"[letter as usize - 1]).field(label);
-        sink.put_stretch(&if letter == 1 { line } else { line.field(place) }.byte(b'\n'));
+        let line = Stretch::EMPTY.byte(b"DEL"[letter as usize - 1]).field(label);
+        sink.put_stretch(if letter == 1 { line } else { line.field(place) }.byte(b'\n'));
     }
     if sink.length > sink.output.len() {
         return refuse(14, 0, sink.length);
@@ -292,11 +275,11 @@ fn put_head(text: &[u8], case: &Case, form: &Form, sink: &mut Sink) {
     let feed = text.iter().position(|&byte| byte == b'\n').expect("a header");
     let last_comma = |end: usize| text[..end].iter().rposition(|&byte| byte == b',').expect("its fields");
     sink.put(&text[..last_comma(last_comma(feed))]);
-    sink.put_stretch(&Stretch::EMPTY.field(form.actions as u32).field(form.count() as u32));
+    sink.put_stretch(Stretch::EMPTY.field(form.actions as u32).field(form.count() as u32));
     sink.put(&text[feed..text.len() - usize::from(case.plan_left)]);
     sink.put(b"P");
     for &action in form.plan() {
-        sink.put_stretch(&Stretch::EMPTY.field(action.into()));
+        sink.put_stretch(Stretch::EMPTY.field(action.into()));
     }
     sink.put(b"\n");
 }
@@ -315,43 +298,47 @@ impl Form {
     }
 }
 
-/// A short stretch of a line, put out in one piece.
+/// A short stretch of a line, at most 16 bytes, as one number: it is put out in one piece.
+#[derive(Clone, Copy)]
 struct Stretch {
-    bytes: [u8; LONGEST],
+    bytes: u128,
     length: usize,
 }
 
 impl Stretch {
-    const EMPTY: Stretch = Stretch { bytes: [0; LONGEST], length: 0 };
+    const EMPTY: Stretch = Stretch { bytes: 0, length: 0 };
 
     #[inline(always)]
-    fn letter(letter: u8) -> Stretch {
-        Stretch::EMPTY.byte(letter)
+    fn and(self, bytes: u64, length: usize) -> Stretch {
+        Stretch { bytes: self.bytes | u128::from(bytes) << (8 * self.length), length: self.length + length }
     }
 
     #[inline(always)]
-    fn byte(mut self, byte: u8) -> Stretch {
-        self.bytes[self.length % LONGEST] = byte;
-        self.length += 1;
-        self
+    fn byte(self, byte: u8) -> Stretch {
+        self.and(byte.into(), 1)
     }
 
-    /// A comma and a number of at most four digits.
+    /// A comma and a number of at most four digits; no branch goes by how many they are.
     #[inline(always)]
-    fn field(mut self, number: u32) -> Stretch {
-        self = self.byte(b',');
-        for unit in [1_000, 100, 10] {
-            if number >= unit {
-                self = self.byte(b'0' + (number / unit % 10) as u8);
-            }
-        }
-        self.byte(b'0' + (number % 10) as u8)
+    fn field(self, number: u32) -> Stretch {
+        let digit = |unit: u32| b'0' + (number / unit % 10) as u8;
+        let digits = u32::from_le_bytes([digit(1_000), digit(100), digit(10), digit(1)]);
+        let zeros = usize::from(number < 1_000) + usize::from(number < 100) + usize::from(number < 10);
+        self.and(u64::from(digits >> (8 * zeros)) << 8 | u64::from(b','), 5 - zeros)
     }
 }
 
 impl Sink<'_> {
+    /// Puts out a stretch with the zeros behind it, to be written over.
     #[inline(always)]
-    fn put_stretch(&mut self, stretch: &Stretch) {
-        self.put_line(&stretch.bytes, stretch.length);
+    fn put_stretch(&mut self, stretch: Stretch) {
+        let bytes = stretch.bytes.to_le_bytes();
+        match self.output.get_mut(self.length..).and_then(|room| room.first_chunk_mut()) {
+            Some(room) => {
+                *room = bytes;
+                self.length += stretch.length;
+            }
+            None => self.put(&bytes[..stretch.length]),
+        }
     }
 }

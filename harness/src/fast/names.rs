@@ -1,6 +1,7 @@
 //! Words of the name list and of the form, and the name list itself: numbers 17 and 18 of it.
 
 use super::case::Case;
+use super::slots::{mixed, Slots};
 use super::{refuse, Checked};
 
 /// What is left of the name list or of the form. What isn't as due is none, and the line is refused.
@@ -72,11 +73,6 @@ fn last_bytes(text: &[u8]) -> [u8; 8] {
     bytes
 }
 
-#[inline(always)]
-fn mixed(hash: u64, word: u64) -> u64 {
-    (hash.rotate_left(29) ^ word).wrapping_mul(0x9E37_79B9_7F4A_7C15)
-}
-
 /// A name, with its first eight bytes as one number: a shorter one has zeros there, which no name has.
 #[derive(Clone, Copy)]
 pub struct Name<'a> {
@@ -94,28 +90,17 @@ impl Name<'_> {
     }
 }
 
-/// Twice as many as there are tasks or methods at the most.
-const SLOTS: usize = 4_096;
-
 /// Names by their numbers, and where to look for them.
 pub struct Listed<'a> {
     names: Vec<Name<'a>>,
-    /// A name's number and 1, in the first free slot from the one of its hash on; 0 is a free slot.
-    slots: [u16; SLOTS],
+    slots: Slots,
 }
 
 impl<'a> Listed<'a> {
-    /// The number of a name, or the free slot where it would be looked for.
+    /// The number of a name, or the free slot where it would be found.
     #[inline(always)]
     fn look_up(&self, name: &Name) -> Result<usize, usize> {
-        let mut slot = (name.hash >> (64 - SLOTS.ilog2())) as usize;
-        loop {
-            match self.slots[slot] {
-                0 => return Err(slot),
-                after if self.names[usize::from(after) - 1].equals(name) => return Ok(usize::from(after) - 1),
-                _ => slot = (slot + 1) % SLOTS,
-            }
-        }
+        self.slots.look_up(name.hash, |number| self.names[number].equals(name))
     }
 
     pub fn number_of(&self, name: &Name) -> Option<usize> {
@@ -131,7 +116,7 @@ impl<'a> Listed<'a> {
     /// Reads so many lines.
     #[inline(never)]
     fn read(words: &mut Words<'a>, first_line: usize, count: usize) -> Checked<Listed<'a>> {
-        let mut listed = Listed { names: Vec::with_capacity(count), slots: [0; SLOTS] };
+        let mut listed = Listed { names: Vec::with_capacity(count), slots: Slots::of(count) };
         for number in 0..count {
             let Some(name) = read_line(words, number) else {
                 return refuse(17, first_line + number, 1);
@@ -140,7 +125,7 @@ impl<'a> Listed<'a> {
                 return refuse(18, first_line + number, 1);
             };
             listed.names.push(name);
-            listed.slots[slot] = number as u16 + 1;
+            listed.slots.put(slot, number);
         }
         Ok(listed)
     }

@@ -48,7 +48,7 @@ fn put_method(text: &[u8], before: &[u8], method: &Method, constraints: &[Constr
 }
 
 /// No constraint line is longer.
-pub const LONGEST: usize = 32;
+const LONGEST: usize = 32;
 
 /// Puts out what ends in a method's c and a line feed, with another c.
 fn put_count(before: &[u8], old: usize, new: usize, sink: &mut Sink) {
@@ -89,10 +89,10 @@ impl Sink<'_> {
         self.length += bytes.len();
     }
 
-    /// Puts out a constraint line or another short stretch, given with what follows it: as many bytes of that as any line has are
-    /// copied with it, to be written over.
+    /// Puts out a constraint line, given with what follows it: as many bytes of that as any line has are copied with it, to be
+    /// written over.
     #[inline(always)]
-    pub fn put_line(&mut self, bytes: &[u8], length: usize) {
+    fn put_line(&mut self, bytes: &[u8], length: usize) {
         let room = self.output.get_mut(self.length..).and_then(|room| room.first_chunk_mut::<LONGEST>());
         match (room, bytes.first_chunk::<LONGEST>()) {
             (Some(room), Some(line)) => {
