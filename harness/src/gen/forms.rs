@@ -302,25 +302,35 @@ fn case_beside(rng: &mut Rng, draft: &Draft) -> Vec<u8> {
 
 // ---------------------------------------------------------------- random inputs
 
-/// A random input: four in ten or more are accepted.
+/// A random input: four in ten or more are accepted. Where every choice of gaps is to be tried, there are few.
 pub fn any(rng: &mut Rng) -> Texts {
+    if rng.percent(1) {
+        let draft = long(rng);
+        return with_anything(rng, draft);
+    }
     loop {
-        let mut draft = draw_draft(rng);
-        if rng.percent(4) {
-            damage::model(rng, &mut draft);
-        }
-        let mut texts = with_faults(rng, &draft);
-        if rng.percent(6) {
-            damage::text(rng, &mut texts.case);
-        }
-        if rng.percent(4) {
-            let either = if rng.percent(30) { &mut texts.names } else { &mut texts.form };
-            noise(rng, either);
-        }
+        let draft = draw_draft(rng);
+        let texts = with_anything(rng, draft);
         if affordable(&texts) {
             return texts;
         }
     }
+}
+
+/// The draft's form, its name list and a case beside it; now and then with something wrong in the model, in the case, or anywhere.
+fn with_anything(rng: &mut Rng, mut draft: Draft) -> Texts {
+    if rng.percent(4) {
+        damage::model(rng, &mut draft);
+    }
+    let mut texts = with_faults(rng, &draft);
+    if rng.percent(6) {
+        damage::text(rng, &mut texts.case);
+    }
+    if rng.percent(4) {
+        let either = if rng.percent(30) { &mut texts.names } else { &mut texts.form };
+        noise(rng, either);
+    }
+    texts
 }
 
 /// A case whose tree is sound, most often accepted.
@@ -334,12 +344,11 @@ fn draw_draft(rng: &mut Rng) -> Draft {
             let levels = *rng.pick(&[60, 63, 64, 64, 65, 65, 66]);
             chain(rng, levels).0
         }
-        97 | 98 => gaps::around(rng),
-        _ => long(rng),
+        _ => gaps::around(rng),
     }
 }
 
-/// The draft's form, its name list and a case beside it; mostly without a fault, else with one to three.
+/// The same without a fault, mostly, or with one to three.
 fn with_faults(rng: &mut Rng, draft: &Draft) -> Texts {
     let count = *rng.pick(&[0, 0, 0, 0, 0, 0, 0, 0, 0, 0, 0, 1, 1, 1, 1, 1, 1, 2, 2, 3]);
     let faults: Vec<&Fault> = (0..count).map(|_| draw_fault(rng)).collect();
