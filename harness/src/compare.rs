@@ -1,9 +1,10 @@
 //! Compares two renderings of a call on generated inputs: answers and every element lent.
 
+use crate::gen::forms::Texts;
 use crate::gen::steps::{self, Step};
 use crate::gen::{Inputs, FORMER, PROPOSITIONS};
-use crate::lists::{draw_output, Dirt, Lengths, Lists, OUTPUT};
-use crate::plain::{self, Found, Reply, Set, Stepped, Written};
+use crate::lists::{draw_output, draw_output_of, Dirt, Lengths, Lists, MADE, OUTPUT};
+use crate::plain::{self, Found, Imported, Reply, Set, Stepped, Written};
 use cuecheck::WORDS;
 use std::collections::BTreeMap;
 use std::ops::RangeInclusive;
@@ -35,6 +36,14 @@ pub type FindCall = fn(&[u8], &mut Lists, Lengths) -> Found;
 pub const PLAIN_FIND: FindCall = |text, lists, lengths| {
     let (states, nodes, work) = lists.lend(lengths);
     plain::find_gaps(text, states, nodes, work)
+};
+
+/// One side of the import call, with an output of this length.
+pub type ImportCall = fn(&Texts, &mut Lists, Lengths, usize) -> Imported;
+
+pub const PLAIN_IMPORT: ImportCall = |Texts { case, names, form }, lists, lengths, output| {
+    let (states, nodes, work, output) = lists.lend_all(lengths, output);
+    plain::import(case, names, form, states, nodes, work, output)
 };
 
 /// One side of the step call: a state, and the sets needed, forbidden, added and deleted.
@@ -230,6 +239,48 @@ pub fn run_find(plain: FindCall, other: FindCall, name: &str) -> BTreeMap<u32, u
     }
     let none = answers.get(&16).copied().unwrap_or(0);
     println!("{later} inputs accepted not with the first choice; {tried} choices tried of those accepted; 16 answered {none} times");
+    tally.show(&asked);
+    answers
+}
+
+/// The same for the import call: once with room for all, once with no output, which tells how long the case made is, once with an output
+/// of about that length, once with lists and an output of any length.
+pub fn run_import(plain: ImportCall, other: ImportCall, name: &str) -> BTreeMap<u32, u64> {
+    let asked = Asked::by_arguments();
+    let inputs = Inputs::new(asked.seed);
+    let mut sides = (Lists::with_output_of(MADE), Lists::with_output_of(MADE));
+    let mut answers = BTreeMap::new();
+    let (mut tally, mut later, mut listed) = (Tally::default(), 0, BTreeMap::new());
+    for number in asked.numbers() {
+        let mut rng = inputs.rng(number);
+        let texts = inputs.form(&mut rng);
+        let mut needed = texts.case.len();
+        for turn in 0..4 {
+            let lengths = if turn < 3 { Lengths::EXACT } else { Lengths::draw(&mut rng) };
+            let output = [MADE, 0].get(turn).copied().unwrap_or_else(|| draw_output_of(&mut rng, needed, MADE));
+            let dirt = Dirt::draw(&mut rng);
+            let plain = |lists: &mut Lists| plain(&texts, lists, lengths, output);
+            let other = |lists: &mut Lists| other(&texts, lists, lengths, output);
+            let answer = compare(plain, other, dirt, &mut sides).unwrap_or_else(|difference| {
+                let lent = format!("{lengths:?}, {output} bytes of output, lists full of {dirt:?}");
+                end(&asked, number, &texts.shown(), lent, name, difference)
+            });
+            *answers.entry(answer.number).or_default() += 1;
+            if turn == 0 {
+                tally.count(&texts.case, answer.number);
+                later += u64::from(answer.tried > 1);
+                *listed.entry((answer.number, answer.item)).or_default() += 1;
+            } else if answer.number == 14 {
+                needed = answer.item as usize;
+            }
+        }
+    }
+    let in_names = |number: u32| listed.get(&(number, 1)).copied().unwrap_or(0u64);
+    println!(
+        "{later} inputs accepted not with the first choice; of the name list {} inputs are refused with 17, {} with 18",
+        in_names(17),
+        in_names(18)
+    );
     tally.show(&asked);
     answers
 }

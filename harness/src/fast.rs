@@ -1,24 +1,32 @@
-//! Document 01, with Cards 1 to 5 of document 02, once more, written for speed: the step, replay, check and write calls, and
-//! the one that finds the gaps.
+//! Document 01, with Cards 1 to 6 of document 02, once more, written for speed: the step, replay, check and write calls,
+//! the one that finds the gaps, and the import call.
 //!
 //! One pass over the text fills tables on the stack and, for the check call, the lent records (`reading`); the plan is
 //! run into the lent states (`run`); the walk goes over the records once (`walking`), the constraints a second time
 //! (`constraints`); the write call copies what is in order and sorts the rest (`writing`); the gaps are looked for with what is known of failed
-//! choices (`finding`). Spans of subtasks are kept in the lent work space. Nothing is allocated but what `finding` makes of the constraints, and
-//! nothing is cleared but the lent lists. A call needs 600 KiB of stack, or 224 KiB for a text of at most 4,096 bytes.
+//! choices (`finding`). The import call reads the name list (`names`) and the form (`form`) in one pass each, by tables of names and ids; the case
+//! made of them is put out, but not read again. Spans of subtasks are kept in the lent work space. Nothing is allocated but what `finding` makes of
+//! the constraints, the names and the form, and nothing is cleared but the lent lists and the tables of names and ids. A call needs 600 KiB of
+//! stack, or 224 KiB for a text of at most 4,096 bytes.
 
 mod case;
 mod constraints;
 mod finding;
+mod form;
+mod names;
 mod reading;
+mod slots;
 mod walking;
 mod writing;
 
+use crate::plain::Imported;
 use case::{with_tables, Action, Case};
 use constraints::first_broken;
 use cuecheck::{Accepted, Placed, Tidied};
 pub use cuecheck::{Found, Node, Refusal, Reply, Set, Stepped, Written};
 use finding::{find, members};
+use form::{preorder, put_case, read_form};
+use names::read_names;
 use reading::read;
 use walking::walk;
 use writing::put_out;
@@ -130,10 +138,7 @@ pub fn find_gaps(text: &[u8], states: &mut [u64], nodes: &mut [Node], work: &mut
     let found = within_limits(text, short).and_then(|()| {
         with_tables(text.len(), |case| {
             let Accepted { cues, nodes: count } = read(text, case, nodes)?;
-            let rows = run(case, states)?;
-            let records = &mut nodes[..count as usize];
-            walk(case, records, work)?;
-            let tried = find(text.len(), case, rows, records, work)?;
+            let tried = find_with(text.len(), case, states, &mut nodes[..count as usize], work)?;
             Ok(Placed { cues, nodes: count, tried })
         })
     });
@@ -142,6 +147,66 @@ pub fn find_gaps(text: &[u8], states: &mut [u64], nodes: &mut [Node], work: &mut
         Ok(Placed { cues, nodes, tried }) => Found { number: 0, line: 0, item: 0, cues, nodes, tried },
         Err(Refusal { number, line, item }) => Found { number, line, item, cues: 0, nodes: 0, tried: 0 },
     }
+}
+
+/// Everything of the call that finds the gaps behind the reading of a text of so many bytes, but the zeroing.
+fn find_with(text: usize, case: &Case, states: &mut [u64], nodes: &mut [Node], work: &mut [u32]) -> Checked<u32> {
+    let rows = run(case, states)?;
+    walk(case, nodes, work)?;
+    find(text, case, rows, nodes, work)
+}
+
+/// The import call: the case is made of the form and put out, and its gaps are found.
+pub fn import(
+    text: &[u8],
+    names: &[u8],
+    form: &[u8],
+    states: &mut [u64],
+    nodes: &mut [Node],
+    work: &mut [u32],
+    output: &mut [u8],
+) -> Imported {
+    let short = [states.len() < STATES, nodes.len() < NODES, work.len() < WORK];
+    let imported = within_limits(text, short).and_then(|()| {
+        with_tables(text.len(), |case| {
+            let (count, length) = make(text, names, form, case, nodes, output)?;
+            let tried = find_with(length, case, states, &mut nodes[..count], work)?;
+            Ok((Placed { cues: case.plan.len() as u32, nodes: count as u32, tried }, length))
+        })
+    });
+    clear(imported.ok().map(|(it, _)| Accepted { cues: it.cues, nodes: it.nodes }), states, nodes, work);
+    output[imported.map_or(0, |(_, length)| length)..].fill(0);
+    match imported {
+        Ok((Placed { cues, nodes, tried }, length)) => {
+            Imported { number: 0, line: 0, item: 0, cues, nodes, tried, length: length as u32 }
+        }
+        Err(Refusal { number, line, item }) => Imported { number, line, item, cues: 0, nodes: 0, tried: 0, length: 0 },
+    }
+}
+
+/// Reads the case and makes another one of it by the form, in the output, in the tables and in the records: its nodes and its length, or
+/// numbers 3, 4, 17 to 19 and 14, and then what reading it would refuse.
+fn make(
+    text: &[u8],
+    names: &[u8],
+    form: &[u8],
+    case: &mut Case,
+    nodes: &mut [Node],
+    output: &mut [u8],
+) -> Checked<(usize, usize)> {
+    read(text, case, &mut [])?;
+    let names = read_names(names, case)?;
+    let form = read_form(form, case, &names)?;
+    let order = preorder(&form)?;
+    let length = put_case(text, case, &form, &order, nodes, output)?;
+    if length > TEXT {
+        return refuse(2, 0, 0);
+    }
+    if form.plan().len() > CUES {
+        return refuse(4, 1, 7);
+    }
+    case.plan.replace(form.plan());
+    Ok((order.len(), length))
 }
 
 /// Everything of the check call behind number 2 but the zeroing.

@@ -7,11 +7,13 @@
 //! Then the draft or its text may be damaged (`damage`). Long stretches for betweens (`dents`) and
 //! texts at the size limits (`extremes`) are built by hand. For the write call constraints are put
 //! out of order and repeated (`tangles`). For the call that finds the gaps constraints tell choices of them
-//! apart (`gaps`). The step call has inputs of its own (`steps`).
+//! apart (`gaps`). The import call has a name list and a plan form beside the case (`forms`). The step call has inputs of its own
+//! (`steps`).
 
 pub mod damage;
 mod dents;
 pub mod extremes;
+pub mod forms;
 pub mod gaps;
 pub mod steps;
 pub mod tangles;
@@ -751,12 +753,14 @@ pub struct Inputs {
     seed: u64,
     extremes: Vec<Vec<u8>>,
     tangled: Vec<Vec<u8>>,
+    forms: Vec<forms::Texts>,
 }
 
 impl Inputs {
     pub fn new(seed: u64) -> Inputs {
         let texts = |cases: Vec<(_, Vec<u8>)>| cases.into_iter().map(|(_, text)| text).collect();
-        Inputs { seed, extremes: texts(extremes::all()), tangled: texts(tangles::all()) }
+        let forms = forms::all().into_iter().map(|(_, texts)| texts).collect();
+        Inputs { seed, extremes: texts(extremes::all()), tangled: texts(tangles::all()), forms }
     }
 
     /// The numbers that belong to one input, for its text and for whatever is done with it.
@@ -844,6 +848,16 @@ impl Inputs {
             if gaps::affordable(&text) {
                 return text;
             }
+        }
+    }
+}
+
+impl Inputs {
+    /// A case, a name list and a plan form for the import call: a third and more are accepted.
+    pub fn form(&self, rng: &mut Rng) -> forms::Texts {
+        match rng.below(1_000) {
+            0..=5 => rng.pick(&self.forms).clone(),
+            _ => forms::any(rng),
         }
     }
 }

@@ -40,16 +40,24 @@ impl Lengths {
 /// The longest output lent to the write call.
 pub const OUTPUT: usize = TEXT_LIMIT + 1_000;
 
-/// The length of an output for a text of so many bytes: just enough or nearly so, none, short or long.
+/// The longest output lent to the import call: no case that a form makes is as long.
+pub const MADE: usize = 120_000;
+
+/// The length of an output of the write call for a text of so many bytes: just enough or nearly so, none, short or long.
 pub fn draw_output(rng: &mut Rng, needed: usize) -> usize {
+    draw_output_of(rng, needed, OUTPUT)
+}
+
+/// The same of a call that is lent so many bytes at the most.
+pub fn draw_output_of(rng: &mut Rng, needed: usize, most: usize) -> usize {
     let length = match rng.below(8) {
         0 => 0,
         1..=4 => (needed + rng.below(5)).saturating_sub(2),
         5 => rng.below(needed + 1),
         6 => needed + rng.between(3, 300),
-        _ => rng.between(needed.min(OUTPUT), OUTPUT),
+        _ => rng.between(needed.min(most), most),
     };
-    length.min(OUTPUT)
+    length.min(most)
 }
 
 /// What lies behind a lent list at the least.
@@ -103,7 +111,12 @@ impl Dirt {
 impl Lists {
     /// Lists with an output, for the write call.
     pub fn with_output() -> Lists {
-        Lists { output: vec![0; OUTPUT + MARGIN], ..Lists::default() }
+        Lists::with_output_of(OUTPUT)
+    }
+
+    /// Lists with an output of up to so many bytes.
+    pub fn with_output_of(most: usize) -> Lists {
+        Lists { output: vec![0; most + MARGIN], ..Lists::default() }
     }
 
     /// Fills every list with dirt, margins too.

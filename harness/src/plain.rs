@@ -1,5 +1,5 @@
-//! Document 01, with Cards 1 to 5 of document 02, as a plain Rust program: the step, replay, check and write calls, and the
-//! one that finds the gaps.
+//! Document 01, with Cards 1 to 6 of document 02, as a plain Rust program: the step, replay, check and write calls, the
+//! one that finds the gaps, and the import call, which has a file of its own.
 //!
 //! The text is read once into vectors (`read`), the plan is run into the lent state list
 //! (`run`), the claimed tree is walked (`Walk`), and the constraints are tried node by node
@@ -8,7 +8,12 @@
 //! text is checked (`first_accepted`). Nothing here is proved; the module is the
 //! yardstick of tests and benchmarks, so it is written for clarity first and speed second.
 
+// By its path: this file is also taken in by another crate, from another folder.
+#[path = "plain/import.rs"]
+mod import;
+
 pub use cuecheck::{Found, Node, Refusal, Reply, Set, Stepped, Written};
+pub use import::{import, Imported};
 use std::ops::{Range, RangeBounds};
 
 /// The words of a state.
@@ -120,15 +125,20 @@ pub fn find_gaps(text: &[u8], states: &mut [u64], nodes: &mut [Node], work: &mut
     }
 }
 
-/// Everything of the replay call but the zeroing: numbers 1 to 5.
-fn replay_with(text: &[u8], asked: &[(bool, u32)], states: &mut [u64]) -> Checked<Case> {
+/// Numbers 1 to 4.
+fn read_with(text: &[u8], asked: &[(bool, u32)]) -> Checked<Case> {
     if let Some(&(_, item)) = asked.iter().find(|(short, _)| *short) {
         return refuse(1, 0, item);
     }
     if text.len() > TEXT_LIMIT {
         return refuse(2, 0, 0);
     }
-    let case = read(text)?;
+    read(text)
+}
+
+/// Everything of the replay call but the zeroing: numbers 1 to 5.
+fn replay_with(text: &[u8], asked: &[(bool, u32)], states: &mut [u64]) -> Checked<Case> {
+    let case = read_with(text, asked)?;
     run(&case, states)?;
     Ok(case)
 }
@@ -201,6 +211,7 @@ enum Claim {
 
 /// A readable case text.
 struct Case {
+    tasks: u32,
     goal: u32,
     initial: Set,
     actions: Vec<Action>,
@@ -220,6 +231,11 @@ impl Case {
     /// The line of a node; of the one past the last node too. The tree follows the P line.
     fn node_line(&self, node: usize) -> u32 {
         self.plan_line + 1 + node as u32
+    }
+
+    /// Actions come first, then compound tasks.
+    fn is_compound(&self, task: u32) -> bool {
+        task as usize >= self.actions.len()
     }
 
     fn subtasks_of(&self, method: u32) -> &[u32] {
@@ -377,6 +393,7 @@ fn read(text: &[u8]) -> Checked<Case> {
     let mut reader = Reader { rest: &text[..whole], line: 0, item: 0 };
     let header = read_header(&mut reader)?;
     let mut case = Case {
+        tasks: header.tasks,
         goal: header.goal,
         initial: read_initial(&mut reader, &header)?,
         actions: Vec::with_capacity(header.actions as usize),

@@ -1,6 +1,7 @@
 #!/usr/bin/env python3
 """Shows how much the comparison sees: each mutant is plain.rs with one mistake, built as the
-mock of libcapi.a and compared with the sound rendering. Run in harness/:
+mock of libcapi.a and compared with the sound rendering. A mutant of the import call is
+plain/import.rs with one mistake, in a program of its own: no linked call is needed. Run in harness/:
 
     tools/mutants.py [COUNT SEED [NAME]]
 
@@ -384,20 +385,168 @@ MUTANTS = [
     ("gaps: w taken as W", "self.is_so_throughout(asked, ", "self.is_so_throughout(Signed { sign: 0, ..asked }, ", "gaps"),
     ("gaps: between at its ends only", "self.rows[states].iter().fold(u64::MAX, |bits, state| bits & asked.word(state))", "asked.word(&self.rows[states.start]) & asked.word(&self.rows[states.end - 1])", "gaps"),
     ("gaps: before reads state c", "self.span_of(set).first() - 1)", "self.span_of(set).first().min(self.rows.len() - 1))", "gaps"),
+    # Of the import call, whose text is in plain/import.rs.
+    ("import: last line feed not asked for", "        let Some(feed) = self.rest.iter().position(|&byte| byte == b'\\n') else {\n            return self.misshapen();\n        };", "        let feed = self.rest.iter().position(|&byte| byte == b'\\n').unwrap_or(self.rest.len());\n        if self.rest.is_empty() { return self.misshapen(); }\n        if feed == self.rest.len() { let line = self.rest; self.rest = &[]; return Ok(line); }", "import"),
+    ("import: names before the line feed", "        let Some(feed) = self.rest.iter().position(|&byte| byte == b'\\n') else {\n            return self.misshapen();", "        let Some(feed) = self.rest.iter().position(|&byte| byte == b'\\n') else {\n            if self.rest.starts_with(b\"1 \") { return self.misnamed(); }\n            return self.misshapen();", "import"),
+    ("import: surplus not seen", "if !self.rest.is_empty() {", "if false {", "import"),
+    ("import: surplus only if it is a line", "if !self.rest.is_empty() {", "if self.rest.contains(&b'\\n') {", "import"),
+    ("import: surplus only if it is no line feed", "if !self.rest.is_empty() {", "if self.rest.iter().any(|&byte| byte != b'\\n') {", "import"),
+    ("import: surplus on the last line", "    fn end(&mut self) -> Checked<()> {\n        self.line += 1;", "    fn end(&mut self) -> Checked<()> {", "import"),
+    ("import: item 0 in the name list", "Lines::of(text, 1)", "Lines::of(text, 0)", "import"),
+    ("import: item 1 in the form", "Lines::of(text, 0)", "Lines::of(text, 1)", "import"),
+    ("import: surplus of the name list not seen", "    lines.end()?;\n    Ok(Names", "    Ok(Names", "import"),
+    ("import: surplus of the form not seen", "    lines.end()?;\n    Ok(Form", "    Ok(Form", "import"),
+    ("import: the form before the name list", "    let names = read_names(names, &case)?;\n    let form = read_form(form, &case, &names)?;", "    if !form.starts_with(b\"==>\\n\") { return refuse(17, 1, 0); }\n    let names = read_names(names, &case)?;\n    let form = read_form(form, &case, &names)?;", "import"),
+    ("import: spaces together", "Ok(self.due()?.split(|&byte| byte == b' ').collect())", "{ let line = self.due()?; let words: Vec<&[u8]> = line.split(|&byte| byte == b' ').filter(|word| !word.is_empty()).collect(); Ok(if words.is_empty() { vec![line] } else { words }) }", "import"),
+    ("import: a space at the end", "Ok(self.due()?.split(|&byte| byte == b' ').collect())", "{ let line = self.due()?; Ok(line.strip_suffix(b\" \").unwrap_or(line).split(|&byte| byte == b' ').collect()) }", "import"),
+    ("import: a space ahead", "Ok(self.due()?.split(|&byte| byte == b' ').collect())", "{ let line = self.due()?; Ok(line.strip_prefix(b\" \").unwrap_or(line).split(|&byte| byte == b' ').collect()) }", "import"),
+    ("import: a tab parts words", "Ok(self.due()?.split(|&byte| byte == b' ').collect())", "Ok(self.due()?.split(|&byte| byte == b' ' || byte == b'\\t').collect())", "import"),
+    ("import: a carriage return in the form", "Ok(self.due()?.split(|&byte| byte == b' ').collect())", "{ let line = self.due()?; Ok(line.strip_suffix(b\"\\r\").unwrap_or(line).split(|&byte| byte == b' ').collect()) }", "import"),
+    ("import: a carriage return in the name list", "lines.due()?.strip_prefix(format!(\"{number},\").as_bytes())", "lines.due()?.strip_prefix(format!(\"{number},\").as_bytes()).map(|name| name.strip_suffix(b\"\\r\").unwrap_or(name))", "import"),
+    ("import: a carriage return on the first line", "if lines.due()? != b\"==>\" {", "if lines.due()?.trim_ascii_end() != b\"==>\" {", "import"),
+    ("import: the first line not looked at", "if lines.due()? != b\"==>\" {", "if lines.due()?.is_empty() {", "import"),
+    ("import: the last line by its beginning", "if words == [b\"<==\"] {", "if words[0] == b\"<==\" {", "import"),
+    ("import: the last line by its first bytes", "if words == [b\"<==\"] {", "if words[0].starts_with(b\"<==\") {", "import"),
+    ("import: leading zeros", "(digits == \"0\" || !digits.starts_with('0')).then_some(number)", "Some(number)", "import"),
+    ("import: 0 no id", "digits == \"0\" || !digits.starts_with('0')", "!digits.starts_with('0')", "import"),
+    ("import: a plus before an id", ".filter(|word| word.bytes().all(|byte| byte.is_ascii_digit()))", "", "import"),
+    ("import: ids of 64 bits cut off", "let number: u32 = digits.parse().ok()?;", "let number = digits.parse::<u64>().ok()? as u32;", "import"),
+    ("import: greater ids taken as the greatest", "let number: u32 = digits.parse().ok()?;", "let number = digits.parse::<u128>().ok()?.min(u128::from(u32::MAX)) as u32;", "import"),
+    ("import: 4294967295 no id", "let number: u32 = digits.parse().ok()?;", "let number: u32 = digits.parse().ok().filter(|&id| id < u32::MAX)?;", "import"),
+    ("import: ids of 31 bits", "let number: u32 = digits.parse().ok()?;", "let number = digits.parse::<i32>().ok()? as u32;", "import"),
+    ("import: byte 33 in no name", "(33..=126)", "(34..=126)", "import"),
+    ("import: byte 126 in no name", "(33..=126)", "(33..=125)", "import"),
+    ("import: byte 32 in a name", "(33..=126)", "(32..=126)", "import"),
+    ("import: byte 31 in a name", "(33..=126).contains(&byte)", "((33..=126).contains(&byte) || byte == 31)", "import"),
+    ("import: byte 127 in a name", "(33..=126)", "(33..=127)", "import"),
+    ("import: byte 128 in a name", "(33..=126).contains(&byte)", "((33..=126).contains(&byte) || byte == 128)", "import"),
+    ("import: byte 255 in a name", "(33..=126).contains(&byte)", "((33..=126).contains(&byte) || byte == 255)", "import"),
+    ("import: byte 0 in a name", "(33..=126).contains(&byte)", "((33..=126).contains(&byte) || byte == 0)", "import"),
+    ("import: a comma in a name", " && byte != b','", "", "import"),
+    ("import: a name of no bytes", "!word.is_empty() && ", "", "import"),
+    ("import: a hyphen in no name", "byte != b','", "byte != b',' && byte != b'-'", "import"),
+    ("import: digits no name", "!word.is_empty() && word", "!word.is_empty() && id_in(word).is_none() && word", "import"),
+    ("import: -> no name", "!word.is_empty() && word", "!word.is_empty() && word != b\"->\" && word", "import"),
+    ("import: root no name", "!word.is_empty() && word", "!word.is_empty() && word != b\"root\" && word", "import"),
+    ("import: <== no name", "!word.is_empty() && word", "!word.is_empty() && word != b\"<==\" && word", "import"),
+    ("import: names of 64 bytes at the most", "!word.is_empty() && word", "(1..=64).contains(&word.len()) && word", "import"),
+    ("import: number not looked at", ".strip_prefix(format!(\"{number},\").as_bytes()).filter(|name| is_name(name))", ".splitn(2, |&byte| byte == b',').nth(1).filter(|name| is_name(name))", "import"),
+    ("import: another number is 18", "        let Some(name) = lines.due()?", "        if !lines.rest.starts_with(format!(\"{number},\").as_bytes()) && lines.rest.contains(&b'\\n') && lines.rest.first().is_some_and(u8::is_ascii_digit) { lines.line += 1; return lines.misnamed(); }\n        let Some(name) = lines.due()?", "import"),
+    ("import: listed again not seen", "if listed.contains(&name) {", "if false {", "import"),
+    ("import: listed again only next to it", "if listed.contains(&name) {", "if listed.last() == Some(&name) {", "import"),
+    ("import: the earlier of two listed", "        if listed.contains(&name) {\n            return lines.misnamed();", "        if let Some(at) = listed.iter().position(|&other| other == name) {\n            return refuse(18, lines.line - (number - at) as u32, 1);", "import"),
+    ("import: tasks and methods listed together", "    lines.end()?;\n    Ok(Names", "    for (at, name) in methods.iter().enumerate() { if tasks.contains(name) { return refuse(18, (tasks.len() + at + 1) as u32, 1); } }\n    lines.end()?;\n    Ok(Names", "import"),
+    ("import: actions and compound tasks listed apart", "    let tasks = read_listed(&mut lines, case.tasks as usize)?;", "    let mut tasks = Vec::new();\n    for number in 0..case.tasks as usize {\n        let Some(name) = lines.due()?.strip_prefix(format!(\"{number},\").as_bytes()).filter(|name| is_name(name)) else { return lines.misshapen(); };\n        if tasks[if number < case.actions.len() { 0 } else { case.actions.len() }..].contains(&name) { return lines.misnamed(); }\n        tasks.push(name);\n    }", "import"),
+    ("import: names by their first eight bytes", "position(|&other| other == name)", "position(|&other| other[..other.len().min(8)] == name[..name.len().min(8)])", "import"),
+    ("import: names by their beginning", "position(|&other| other == name)", "position(|&other| other.starts_with(name))", "import"),
+    ("import: names without regard to case", "position(|&other| other == name)", "position(|&other| other.eq_ignore_ascii_case(name))", "import"),
+    ("import: names by their length and ends", "position(|&other| other == name)", "position(|&other| other.len() == name.len() && other[0] == name[0] && other.last() == name.last())", "import"),
+    ("import: more ids on the root line", "Some(&[id]) => Ok(id),", "Some(&[id, ..]) => Ok(id),", "import"),
+    ("import: no action lines asked for", "            break read_root(&lines, &words)?;", "            if definitions.is_empty() { return lines.misshapen(); }\n            break read_root(&lines, &words)?;", "import"),
+    ("import: an action line with more words", "    let &[id, name] = words else {", "    let &[id, name, ..] = words else {", "import"),
+    ("import: any arrow", "let &[id, task, b\"->\", method, ref subtasks @ ..] = words else {", "let &[id, task, _, method, ref subtasks @ ..] = words else {", "import"),
+    ("import: task's name of any shape", "let shaped = is_name(task) && ", "let shaped = ", "import"),
+    ("import: method's name of any shape", "is_name(task) && is_name(method)", "is_name(task)", "import"),
+    ("import: 3001 lines", "const DEFINITIONS: usize = 3_000;", "const DEFINITIONS: usize = 3_001;", "import"),
+    ("import: 2999 lines", "const DEFINITIONS: usize = 3_000;", "const DEFINITIONS: usize = 2_999;", "import"),
+    ("import: 3000 compound lines", "        definitions.push(read_compound(&lines, &words, definitions.len(), case, names)?);", "        definitions.push(read_compound(&lines, &words, definitions.len() - actions, case, names)?);", "import"),
+    ("import: 3000 lines with the root line", "is_name(task) && is_name(method) && ahead < DEFINITIONS", "is_name(task) && is_name(method) && ahead + 1 < DEFINITIONS", "import"),
+    ("import: 1000 action lines", "is_name(name) && ahead < DEFINITIONS", "is_name(name) && ahead < 1_000", "import"),
+    ("import: any task on an action line", ".filter(|&task| !case.is_compound(task))", "", "import"),
+    ("import: a method of any task", "case.methods[method as usize].task != task || ", "", "import"),
+    ("import: any number of subtasks", " || case.subtasks_of(method).len() != subtasks.len()", "", "import"),
+    ("import: fewer subtasks", "case.subtasks_of(method).len() != subtasks.len()", "case.subtasks_of(method).len() < subtasks.len()", "import"),
+    ("import: more subtasks", "case.subtasks_of(method).len() != subtasks.len()", "case.subtasks_of(method).len() > subtasks.len()", "import"),
+    ("import: 18 of the shape of ids", "    let (Some(id), Some(subtasks), true) = (id_in(id), ids_in(subtasks), shaped) else {\n        return lines.misshapen();", "    let (Some(id), Some(subtasks), true) = (id_in(id), ids_in(subtasks), shaped) else {\n        if shaped && number_of(task, &names.tasks).is_none() { return lines.misnamed(); }\n        return lines.misshapen();", "import"),
+    ("import: defined twice not seen", "form.times_defined(id) > 1\n            ||", "false\n            ||", "import"),
+    ("import: twice a subtask not seen", "form.times_subtask(id) > 1", "false", "import"),
+    ("import: three times a subtask", "form.times_subtask(id) > 1", "form.times_subtask(id) > 2", "import"),
+    ("import: twice a subtask of two lines only", "self.definitions.iter().flat_map(|definition| &definition.subtasks).filter(|&&subtask| subtask == id).count()", "self.definitions.iter().filter(|definition| definition.subtasks.contains(&id)).count()", "import"),
+    ("import: twice a subtask of one line only", "self.definitions.iter().flat_map(|definition| &definition.subtasks).filter(|&&subtask| subtask == id).count()", "self.definitions.iter().map(|definition| definition.subtasks.iter().filter(|&&subtask| subtask == id).count()).max().unwrap_or(0)", "import"),
+    ("import: the root under a parent not seen", "id == form.root && form.times_subtask(id) > 0", "false", "import"),
+    ("import: the root under itself not seen", "id == form.root && form.times_subtask(id) > 0", "id == form.root && form.times_subtask(id) > 0 && !subtasks.contains(&id)", "import"),
+    ("import: not reached not seen", "            || !reached\n", "            || !reached && false\n", "import"),
+    ("import: not reached without a parent only", "            || !reached\n", "            || !reached && form.times_subtask(id) == 0\n", "import"),
+    ("import: action lines need not be reached", "            || !reached\n", "            || !reached && matches!(definition.node, Defined::Method(_))\n", "import"),
+    ("import: reached by the first line only", "                if definition.id == id && !reached[at] {", "                if definition.id == id && !reached[at] && self.definitions[..at].iter().all(|other| other.id != id) {", "import"),
+    ("import: reached by the last line only", "                if definition.id == id && !reached[at] {", "                if definition.id == id && !reached[at] && self.definitions[at + 1..].iter().all(|other| other.id != id) {", "import"),
+    ("import: subtasks of the root only", "todo.extend(&definition.subtasks);", "if definition.id == self.root { todo.extend(&definition.subtasks); }", "import"),
+    ("import: a never defined subtask not seen", "|| subtasks.iter().any(never_defined)", "|| subtasks.iter().any(never_defined) && false", "import"),
+    ("import: the first subtask defined only", "subtasks.iter().any(never_defined)", "subtasks.first().is_some_and(never_defined)", "import"),
+    ("import: all subtasks never defined", "subtasks.iter().any(never_defined)", "!subtasks.is_empty() && subtasks.iter().all(never_defined)", "import"),
+    ("import: a never defined root not seen", "never_defined(&form.root).then_some(form.root_line)", "never_defined(&form.root).then_some(u32::MAX)", "import"),
+    ("import: a never defined root first", "    let reached = form.reached();\n    let faulty", "    if never_defined(&form.root) { return Some(form.root_line); }\n    let reached = form.reached();\n    let faulty", "import"),
+    ("import: the last faulty line", ".chain(root_line).min()", ".chain(root_line).max()", "import"),
+    ("import: defined twice before other faults", "    let reached = form.reached();\n    let faulty", "    if let Some(it) = form.definitions.iter().find(|it| form.times_defined(it.id) > 1) { return Some(it.line); }\n    let reached = form.reached();\n    let faulty", "import"),
+    ("import: defined twice: the later line", "form.times_defined(id) > 1\n", "form.definitions.iter().any(|other| other.id == id && other.line < definition.line)\n", "import"),
+    ("import: never defined before other faults", "    let reached = form.reached();\n    let faulty", "    if let Some(it) = form.definitions.iter().find(|it| it.subtasks.iter().any(never_defined)) { return Some(it.line); }\n    let reached = form.reached();\n    let faulty", "import"),
+    ("import: twice a subtask: the line that uses it", "form.times_subtask(id) > 1", "subtasks.iter().any(|&subtask| form.times_subtask(subtask) > 1)", "import"),
+    ("import: the root under a parent: the parent", "id == form.root && form.times_subtask(id) > 0", "subtasks.contains(&form.root)", "import"),
+    ("import: 19 with item 1", "refuse(19, line, 0)", "refuse(19, line, 1)", "import"),
+    ("import: 14 before 19", "    if let Some(line) = first_faulty(&form) {\n        return refuse(19, line, 0);\n    }\n    let made = make(text, &form);\n    if made.len() > room {\n        return refuse(14, 0, made.len() as u32);\n    }", "    if room == 0 { return refuse(14, 0, text.len() as u32); }\n    if let Some(line) = first_faulty(&form) {\n        return refuse(19, line, 0);\n    }\n    let made = make(text, &form);\n    if made.len() > room {\n        return refuse(14, 0, made.len() as u32);\n    }", "import"),
+    ("import: 14 where it just fits", "made.len() > room", "made.len() >= room", "import"),
+    ("import: 14 where one byte is lacking not seen", "made.len() > room", "made.len() > room + 1", "import"),
+    ("import: 14's item one more", "refuse(14, 0, made.len() as u32)", "refuse(14, 0, made.len() as u32 + 1)", "import"),
+    ("import: 14's item at the limit", "refuse(14, 0, made.len() as u32)", "refuse(14, 0, made.len().min(65_536) as u32)", "import"),
+    ("import: 2 before 14", "    if made.len() > room {", "    if made.len() > 65_535 { return refuse(2, 0, 0); }\n    if made.len() > room {", "import"),
+    ("import: 4 before 14", "    if made.len() > room {", "    if form.actions > 1_000 { return refuse(4, 1, 7); }\n    if made.len() > room {", "import"),
+    ("import: 14 after finding", "    if made.len() > room {\n        return refuse(14, 0, made.len() as u32);\n    }\n    Ok(made)", "    let lists = (&mut vec![0; STATES_ASKED][..], &mut vec![Node::default(); NODES_ASKED][..], &mut vec![0; WORK_ASKED][..]);\n    find_gaps(&made, lists.0, lists.1, lists.2).result()?;\n    if made.len() > room {\n        return refuse(14, 0, made.len() as u32);\n    }\n    Ok(made)", "import"),
+    ("import: the case's k kept", "format!(\",{},{}\\n\", form.actions, form.definitions.len())", "format!(\",{},{}\\n\", std::str::from_utf8(header[6]).expect(\"k\"), form.definitions.len())", "import"),
+    ("import: the case's node count kept", "format!(\",{},{}\\n\", form.actions, form.definitions.len())", "format!(\",{},{}\\n\", form.actions, std::str::from_utf8(header[7]).expect(\"n\").trim())", "import"),
+    ("import: k and node count swapped", "form.actions, form.definitions.len())", "form.definitions.len(), form.actions)", "import"),
+    ("import: gaps k", "format!(\"E,{method},0\\n\")", "format!(\"E,{method},{}\\n\", form.actions)", "import"),
+    ("import: D for empty methods", "format!(\"E,{method},0\\n\")", "format!(\"D,{method}\\n\")", "import"),
+    ("import: positions from 0", "format!(\"L,{action},{}\\n\", at + 1)", "format!(\"L,{action},{at}\\n\")", "import"),
+    ("import: positions in preorder", "format!(\"L,{action},{}\\n\", at + 1)", "format!(\"L,{action},{}\\n\", made.split(|&byte| byte == b'\\n').filter(|line| line.starts_with(b\"L\")).count() + 1)", "import"),
+    ("import: subtasks from the last", "    for &subtask in subtasks {\n        put_nodes", "    for &subtask in subtasks.iter().rev() {\n        put_nodes", "import"),
+    ("import: subtasks by their ids", "    for &subtask in subtasks {\n        put_nodes", "    let mut subtasks = subtasks.clone();\n    subtasks.sort();\n    for &subtask in &subtasks {\n        put_nodes", "import"),
+    ("import: subtasks by their lines", "    for &subtask in subtasks {\n        put_nodes", "    let mut subtasks = subtasks.clone();\n    subtasks.sort_by_key(|&id| form.definitions.iter().position(|it| it.id == id));\n    for &subtask in &subtasks {\n        put_nodes", "import"),
+    ("import: nodes breadth first", "    put_nodes(form, form.root, &mut made);", "    let mut queue = std::collections::VecDeque::from([form.root]);\n    while let Some(id) = queue.pop_front() {\n        let it = form.definitions.iter().position(|it| it.id == id).expect(\"a line\");\n        let mut lines = Vec::new();\n        put_nodes(form, id, &mut lines);\n        made.extend(lines.split_inclusive(|&byte| byte == b'\\n').next().expect(\"a line\"));\n        queue.extend(&form.definitions[it].subtasks);\n    }", "import"),
+    ("import: the plan by the ids", "    for definition in &form.definitions {\n        if let", "    let mut ordered: Vec<&Definition> = form.definitions.iter().collect();\n    ordered.sort_by_key(|it| it.id);\n    for definition in ordered {\n        if let", "import"),
+    ("import: constraints tidied", "made.extend(lines.take_while(|line| line[0] != b'P').flatten());", "let mut last: &[u8] = b\"\"; for line in lines.take_while(|line| line[0] != b'P') { if line != last || line[0] == b'A' || line[0] == b'M' { made.extend(line); } last = line; }", "import"),
+    ("import: the gaps found put out", "        output[..made.len()].copy_from_slice(&made);", "        output[..made.len()].copy_from_slice(&made);\n        if let Some(node) = nodes.iter().find(|node| node.letter == 2 && (1..10).contains(&node.place)) {\n            let line = format!(\"E,{},0\\n\", node.label);\n            if let Some(at) = output.windows(line.len()).position(|it| it == line.as_bytes()) { output[at + line.len() - 2] = b'0' + node.place as u8; }\n        }", "import"),
+    ("import: output left where finding refuses", "        let placed = find_gaps(&made, states, nodes, work).result()?;\n        output[..made.len()].copy_from_slice(&made);", "        output[..made.len()].copy_from_slice(&made);\n        let placed = find_gaps(&made, states, nodes, work).result()?;", "import"),
+    ("import: output dirty behind the text", "    output.fill(0);\n", "", "import"),
+    ("import: output dirty behind 65535 bytes", "    output.fill(0);\n", "    let room = output.len().min(65_535);\n    output[..room].fill(0);\n", "import"),
+    ("import: states left", "            states.fill(0);\n", "", "import"),
+    ("import: nodes left", "            nodes.fill(Node::default());\n", "", "import"),
+    ("import: work space left", "            work.fill(0);\n", "", "import"),
+    ("import: states left with 17", "            states.fill(0);\n", "            if number != 17 { states.fill(0); }\n", "import"),
+    ("import: nodes left with 18", "            nodes.fill(Node::default());\n", "            if number != 18 { nodes.fill(Node::default()); }\n", "import"),
+    ("import: work space left with 19", "            work.fill(0);\n", "            if number != 19 { work.fill(0); }\n", "import"),
+    ("import: nodes left with 14", "            nodes.fill(Node::default());\n", "            if number != 14 { nodes.fill(Node::default()); }\n", "import"),
+    ("import: tried 1", "cues, nodes, tried, length }\n        }\n        Err", "cues, nodes, tried: tried.min(1), length }\n        }\n        Err", "import"),
+    ("import: length 0", "cues, nodes, tried, length }\n        }\n        Err", "cues, nodes, tried, length: 0 * length }\n        }\n        Err", "import"),
+    ("import: length with 16", "tried: 0, length: 0 }", "tried: 0, length: u32::from(number == 16) }", "import"),
+    ("import: tried with 16", "tried: 0, length: 0 }", "tried: if number == 16 { item } else { 0 }, length: 0 }", "import"),
+    ("import: node list not asked for", "(nodes.len() < NODES_ASKED, 2)", "(nodes.len() < NODES_ASKED - 1, 2)", "import"),
+    ("import: 4004 numbers asked", "(states.len() < STATES_ASKED, 1)", "(states.len() < 4_004, 1)", "import"),
+    ("import: lists after the name list", "    let case = read_with(text, asked)?;\n", "    let case = read_with(text, &[])?;\n    if names.is_empty() { return refuse(17, 1, 1); }\n    read_with(text, asked)?;\n", "import"),
 ]
+
+
+def of_import(mutant):
+    return mutant[3:] == ("import",)
+
+
+def compile_crate(source, kind, name, target, externs):
+    command = ["rustc", "-O", "-C", "codegen-units=1", "--edition", "2021", "--cap-lints", "allow"]
+    command += ["--crate-type", kind, "--crate-name", name, source, "-o", target]
+    for extern in externs:
+        command += ["--extern", f"{extern.stem.removeprefix('lib')}={extern}", "-L", f"dependency={extern.parent}"]
+    subprocess.run(command, check=True)
 
 
 def build(source, folder):
     """Compiles a mutant as the mock; the folder has the layout of harness/."""
-    (folder / "src").mkdir(parents=True, exist_ok=True)
+    (folder / "src/plain").mkdir(parents=True, exist_ok=True)
     (folder / "mock/src").mkdir(parents=True, exist_ok=True)
     (folder / "src/plain.rs").write_text(source)
+    shutil.copy("src/plain/import.rs", folder / "src/plain/import.rs")
     shutil.copy("mock/src/lib.rs", folder / "mock/src/lib.rs")
-    command = ["rustc", "-O", "--edition", "2021", "--cap-lints", "allow"]
     types = folder / "libcuecheck.rlib"
-    subprocess.run(command + ["--crate-type", "rlib", "--crate-name", "cuecheck", "../bindings/rust/src/lib.rs", "-o", types], check=True)
-    command += ["--crate-type", "staticlib", "--crate-name", "capi", "--extern", f"cuecheck={types}"]
-    subprocess.run(command + [folder / "mock/src/lib.rs", "-o", folder / "libcapi.a"], check=True)
+    compile_crate("../bindings/rust/src/lib.rs", "rlib", "cuecheck", types, [])
+    compile_crate(folder / "mock/src/lib.rs", "staticlib", "capi", folder / "libcapi.a", [types])
 
 
 def link(folder, call):
@@ -405,22 +554,65 @@ def link(folder, call):
     command = ["cargo", "build", "--quiet", "--release", "--offline", "-p", "harness", "--bin", f"compare_{call}"]
     command += ["--features", "linked", "--target-dir", "target/mutants"]
     subprocess.run(command, check=True, env=dict(os.environ, RUSTFLAGS=f"-L native={folder.absolute()}"))
+    return f"target/mutants/release/compare_{call}"
+
+
+# Compares a mutant of the import call with the sound rendering.
+PROGRAM = """
+#[path = "src/plain.rs"]
+mod plain;
+use harness::compare;
+use harness::gen::forms::Texts;
+use harness::plain::Imported;
+
+fn main() {
+    let mutant: compare::ImportCall = |Texts { case, names, form }, lists, lengths, output| {
+        let (states, nodes, work, output) = lists.lend_all(lengths, output);
+        let plain::Imported { number, line, item, cues, nodes, tried, length } =
+            plain::import(case, names, form, states, nodes, work, output);
+        Imported { number, line, item, cues, nodes, tried, length }
+    };
+    compare::run_import(compare::PLAIN_IMPORT, mutant, "mutant");
+}
+"""
+
+
+def build_sound(folder):
+    """Compiles the harness, for the programs with a mutant of the import call."""
+    (folder / "src/plain").mkdir(parents=True, exist_ok=True)
+    shutil.copy("src/plain.rs", folder / "src/plain.rs")
+    (folder / "main.rs").write_text(PROGRAM)
+    types = folder / "libcuecheck.rlib"
+    compile_crate("../bindings/rust/src/lib.rs", "rlib", "cuecheck", types, [])
+    compile_crate("src/lib.rs", "rlib", "harness", folder / "libharness.rlib", [types])
+
+
+def build_import(source, folder):
+    (folder / "src/plain/import.rs").write_text(source)
+    externs = [folder / "libcuecheck.rlib", folder / "libharness.rlib"]
+    compile_crate(folder / "main.rs", "bin", "compare_import", folder / "compare_import", externs)
+    return folder / "compare_import"
 
 
 def main():
     count, seed, wanted = (sys.argv[1:] + ["30000", "1", ""][len(sys.argv) - 1 :])[:3]
     mutants = [mutant for mutant in MUTANTS if wanted in mutant[0]]
-    sound = Path("src/plain.rs").read_text()
-    folder = Path("target/mutants/archive")
+    sound, sound_import = Path("src/plain.rs").read_text(), Path("src/plain/import.rs").read_text()
+    folder, folder_import = Path("target/mutants/archive"), Path("target/mutants/import")
     survivors = 0
-    for name, old, *_ in MUTANTS:
-        if old not in sound:
-            sys.exit(f"{name}: the text is not in plain.rs")
-    for name, old, new, *call in mutants:
-        call = (call or ["check"])[0]
-        build(sound.replace(old, new, 1), folder)
-        link(folder, call)
-        run = subprocess.run([f"target/mutants/release/compare_{call}", count, seed], capture_output=True, text=True)
+    for mutant in MUTANTS:
+        if mutant[1] not in (sound_import if of_import(mutant) else sound):
+            sys.exit(f"{mutant[0]}: the text is not there")
+    if any(map(of_import, mutants)):
+        build_sound(folder_import)
+    for mutant in mutants:
+        name, old, new, *call = mutant
+        if of_import(mutant):
+            program = build_import(sound_import.replace(old, new, 1), folder_import)
+        else:
+            build(sound.replace(old, new, 1), folder)
+            program = link(folder, (call or ["check"])[0])
+        run = subprocess.run([program, count, seed], capture_output=True, text=True)
         last = run.stdout.strip().splitlines()[-1] if run.stdout.strip() else "no output"
         if run.returncode == 0:
             survivors += 1

@@ -1,18 +1,20 @@
 #!/usr/bin/env python3
-"""Document 01, with Cards 1 to 5 of document 02, rendered a second time, as naively as it can be
+"""Document 01, with Cards 1 to 6 of document 02, rendered a second time, as naively as it can be
 said, to cross-check plain.rs.
 
 Sets of ints, fractions for half indexes, the text cut at line feeds and commas, a tree of
-objects. It shares no code and no data layout with the Rust rendering.
+objects, a regular expression for each sort of line of a plan form. It shares no code and no data
+layout with the Rust renderings.
 
     naive.py cases FOLDER     every .case of the folder against its .expect
-    naive.py cards FOLDER     the folders of a card's cases (call, case, expect, expect.output):
-                              those that call check, replay, write, gaps or step and hold now
+    naive.py cards FOLDER     the folders of a card's cases (call, case, names, form, expect,
+                              expect.output): those that call check, replay, write, gaps, import or
+                              step and hold now
     naive.py stored FOLDER    the stored cases of the write call (args, data, stdout)
     naive.py stored-gaps FOLDER    those of the call that finds the gaps
     naive.py stored-steps FILE STDOUT    those of the step call, and what is printed of them
-    naive.py dump FILE        every record that the program `dump` wrote (texts and steps with the
-                              plain rendering's answers and lists)
+    naive.py dump FILE        every record that the program `dump` wrote (texts, steps and plan forms
+                              with the plain rendering's answers and lists)
 """
 
 import itertools
@@ -20,7 +22,7 @@ import math
 import re
 import struct
 import sys
-from collections import Counter
+from collections import Counter, defaultdict
 from fractions import Fraction
 from pathlib import Path
 
@@ -28,7 +30,7 @@ PLAIN = re.compile(rb"0|[1-9][0-9]*")
 
 # How many cards have landed; a state's words and the most propositions; the most cues; what is asked
 # of the lent lists.
-LANDED = 5
+LANDED = 6
 WORDS = 8
 PROPOSITIONS = 64 * WORDS
 CUES = 1000
@@ -336,18 +338,24 @@ def record(tree):
     return [" DEL".index(tree.letter), tree.label, tree.place, int(2 * tree.start), int(2 * tree.end)]
 
 
+def read_within(text, states_len, nodes_len, work_len, whole):
+    """The case, if the lists that are lent and the text have the right lengths; without `whole` no
+    node list is lent."""
+    if states_len < STATES:
+        raise Refused(1, 0, 1)
+    if whole and nodes_len < NODES:
+        raise Refused(1, 0, 2)
+    if work_len < WORK:
+        raise Refused(1, 0, 3)
+    if len(text) > 65535:
+        raise Refused(2, 0, 0)
+    return read(text)
+
+
 def call(text, states_len, nodes_len, work_len, whole):
     """The check call, or without `whole` the replay call: answer, states and nodes, flat."""
     try:
-        if states_len < STATES:
-            raise Refused(1, 0, 1)
-        if whole and nodes_len < NODES:
-            raise Refused(1, 0, 2)
-        if work_len < WORK:
-            raise Refused(1, 0, 3)
-        if len(text) > 65535:
-            raise Refused(2, 0, 0)
-        case = read(text)
+        case = read_within(text, states_len, nodes_len, work_len, whole)
         states = run(case)
         records = []
         if whole:
@@ -418,6 +426,170 @@ def find_gaps(text, states_len, nodes_len, work_len):
     return (16, 0, tried, 0, 0, 0), [], []
 
 
+# ------------------------------------------------------------------ the plan form
+
+
+def pattern(line):
+    """A line of the name list or of the form, with # for an id and @ for a name."""
+    # A name has the bytes from 33 to 126 but for the comma, which is 44.
+    return re.compile(line.replace("#", "(0|[1-9][0-9]*)").replace("@", r"([\x21-\x2b\x2d-\x7e]+)").encode())
+
+
+LISTED = pattern("#,@")
+ACTION = pattern("# @")
+ROOT = pattern("root #")
+COMPOUND = pattern("# @ -> @((?: (?:0|[1-9][0-9]*))*)")
+
+
+class Sheet:
+    """The lines of the name list or of the form, taken from the top."""
+
+    def __init__(self, text, item):
+        # What follows the last line feed is no line.
+        *self.lines, self.rest = text.split(b"\n")
+        self.item = item
+        self.line = 0
+
+    def refuse(self, number):
+        raise Refused(number, self.line, self.item)
+
+    def next(self):
+        self.line += 1
+        if self.line > len(self.lines):
+            self.refuse(17)
+        return self.lines[self.line - 1]
+
+    def words(self, shape, line):
+        """What stands for the ids and names in a line of this shape."""
+        match = shape.fullmatch(line)
+        if not match:
+            self.refuse(17)
+        return match.groups()
+
+    def id(self, digits):
+        if len(digits) > 10 or int(digits) > 4294967295:
+            self.refuse(17)
+        return int(digits)
+
+    def end(self):
+        if self.line < len(self.lines) or self.rest:
+            self.line += 1
+            self.refuse(17)
+
+
+def read_names(text, case):
+    """The numbers of the tasks by their names, and those of the methods."""
+    sheet = Sheet(text, 1)
+    both = []
+    for count in (case.tasks, len(case.methods)):
+        numbers = {}
+        for number in range(count):
+            digits, name = sheet.words(LISTED, sheet.next())
+            if digits != str(number).encode():
+                sheet.refuse(17)
+            if name in numbers:
+                sheet.refuse(18)
+            numbers[name] = number
+        both.append(numbers)
+    sheet.end()
+    return both
+
+
+def read_form(text, case, tasks, methods):
+    """The action lines as (line, id, action), the root line as (line, id), and the compound lines as
+    (line, id, method, subtasks)."""
+    sheet = Sheet(text, 0)
+    if sheet.next() != b"==>":
+        sheet.refuse(17)
+    actions, compounds = [], []
+    while (line := sheet.next()).split(b" ")[0] != b"root":
+        digits, name = sheet.words(ACTION, line)
+        number = sheet.id(digits)
+        if len(actions) == 3000:
+            sheet.refuse(17)
+        if name not in tasks or case.is_compound(tasks[name]):
+            sheet.refuse(18)
+        actions.append((sheet.line, number, tasks[name]))
+    root = sheet.line, sheet.id(*sheet.words(ROOT, line))
+    while (line := sheet.next()) != b"<==":
+        digits, task, method, behind = sheet.words(COMPOUND, line)
+        number = sheet.id(digits)
+        subtasks = [sheet.id(word) for word in behind.split()]
+        if len(actions) + len(compounds) == 3000:
+            sheet.refuse(17)
+        if task not in tasks or not case.is_compound(tasks[task]) or method not in methods:
+            sheet.refuse(18)
+        owner, expected, _ = case.methods[methods[method]]
+        if owner != tasks[task] or len(expected) != len(subtasks):
+            sheet.refuse(18)
+        compounds.append((sheet.line, number, methods[method], subtasks))
+    sheet.end()
+    return actions, root, compounds
+
+
+def faulty_lines(actions, root, compounds):
+    """All lines that have one of the faults of number 19."""
+    root_line, root_id = root
+    defining = defaultdict(set)
+    for line, number, *_ in actions + compounds:
+        defining[number].add(line)
+    parents = Counter(subtask for *_, subtasks in compounds for subtask in subtasks)
+    reached, more = set(), {root_id}
+    while more:
+        reached |= more
+        more = {subtask for _, number, _, subtasks in compounds if number in reached for subtask in subtasks} - reached
+    faulty = set()
+    for number, lines in defining.items():
+        if len(lines) > 1 or parents[number] > (0 if number == root_id else 1) or number not in reached:
+            faulty |= lines
+    for line, used in [(root_line, [root_id])] + [(line, subtasks) for line, _, _, subtasks in compounds]:
+        if not set(used) <= set(defining):
+            faulty.add(line)
+    return faulty
+
+
+def make(text, actions, root, compounds):
+    """The case that a form without faults makes."""
+    own = text.decode().split("\n")
+    header = own[0].split(",")[:6] + [str(len(actions)), str(len(actions) + len(compounds))]
+    plan_line = [line[:1] for line in own].index("P")
+    made = [",".join(header)] + own[1:plan_line] + [",".join(["P"] + [str(action) for _, _, action in actions])]
+    nodes = {}
+    for position, (_, number, action) in enumerate(actions, 1):
+        nodes[number] = f"L,{action},{position}", []
+    for _, number, method, subtasks in compounds:
+        nodes[number] = (f"D,{method}" if subtasks else f"E,{method},0"), subtasks
+    left = [root[1]]
+    while left:
+        line, subtasks = nodes[left.pop(0)]
+        made.append(line)
+        left = subtasks + left
+    return "".join(line + "\n" for line in made).encode()
+
+
+def import_form(text, names, form, states_len, nodes_len, work_len, output_len):
+    """The import call: answer, states and nodes, flat, and the whole output."""
+    lengths = states_len, nodes_len, work_len
+    try:
+        case = read_within(text, *lengths, True)
+        plan_form = read_form(form, case, *read_names(names, case))
+        faulty = faulty_lines(*plan_form)
+        if faulty:
+            raise Refused(19, min(faulty), 0)
+        made = make(text, *plan_form)
+        if len(made) > output_len:
+            raise Refused(14, 0, len(made))
+    except Refused as refused:
+        return refused.answer + (0, 0), [], [], bytes(output_len)
+    answer, states, records = find_gaps(made, *lengths)
+    if answer[0] != 0:
+        return answer + (0,), [], [], bytes(output_len)
+    return answer + (len(made),), states, records, made + bytes(output_len - len(made))
+
+
+# ------------------------------------------------------------------ printing
+
+
 def trimmed(numbers):
     """Without the zeros at the end."""
     while numbers and numbers[-1] == 0:
@@ -426,7 +598,8 @@ def trimmed(numbers):
 
 
 def printed(answer):
-    """As the programs print it; an accepted write call with its length, found gaps with the number tried."""
+    """As the programs print it; an accepted write call with its length, found gaps with the number tried,
+    an import with both."""
     return "Y," + ",".join(map(str, answer[3:])) + "\n" if answer[0] == 0 else "R,%d,%d,%d\n" % answer[:3]
 
 
@@ -461,7 +634,8 @@ def compare_cards(folder):
     for case in sorted(Path(folder).glob("*/call")):
         words = dict(line.split(" ", 1) for line in case.read_text().splitlines() if line[0] != "#")
         since, until = words["holds"].split("-")
-        if words["call"] not in ("check", "replay", "write", "gaps", "step") or not int(since) <= LANDED <= int(until):
+        calls = ("check", "replay", "write", "gaps", "import", "step")
+        if words["call"] not in calls or not int(since) <= LANDED <= int(until):
             continue
         count += 1
         told, output = told_of_step(words) if words["call"] == "step" else told_of_text(words, case)
@@ -487,6 +661,9 @@ def told_of_text(words, case):
         answer, states, records, output = write(text, *lengths, int(words["output"]))
     elif words["call"] == "gaps":
         answer, states, records = find_gaps(text, *lengths)
+    elif words["call"] == "import":
+        beside = [case.with_name(name).read_bytes() for name in ("names", "form")]
+        answer, states, records, output = import_form(text, *beside, *lengths, int(words["output"]))
     else:
         answer, states, records = call(text, *lengths, words["call"] == "check")
     told = printed(answer)
@@ -591,12 +768,20 @@ class Dump:
                 found = tuple(self.numbers("I", 6)), self.list("Q"), self.list("I"), self.list("I")
             *sets, left = [self.numbers("Q", WORDS) for _ in range(6)]
             applied, computed = self.numbers("I", 2)
-            yield text, lengths, check, replay, output, written, found, sets, (applied == 1, computed, left)
+            step = sets, (applied == 1, computed, left)
+            yield text, lengths, check, replay, output, written, found, step, self.imported()
+
+    def imported(self):
+        """The three texts, what is lent, and what the import call made of it."""
+        texts = [bytes(self.list("B")) for _ in range(3)]
+        lengths = self.numbers("I", 4)
+        answer = tuple(self.numbers("I", 7))
+        return texts, lengths, (answer, self.list("Q"), self.list("I"), self.list("I"), bytes(self.list("B")))
 
 
 def compare_dump(path):
     count = differing = later = applied = 0
-    numbers, writes, finds = Counter(), Counter(), Counter()
+    numbers, writes, finds, imports = Counter(), Counter(), Counter(), Counter()
 
     def compare(name, given, naive, plain):
         nonlocal differing
@@ -607,7 +792,7 @@ def compare_dump(path):
             print(f"input {count}, {name}, {given}: naive {str(naive)[:200]}, plain {str(plain)[:200]}")
             print(text[:2000])
 
-    for text, lengths, check, replay, output_len, written, found, sets, stepped in Dump(path).records():
+    for text, lengths, check, replay, output_len, written, found, (sets, stepped), imported in Dump(path).records():
         for name, plain, whole in (("check", check, True), ("replay", replay, False)):
             answer, states, records = call(text, *lengths, whole)
             compare(name, lengths, (answer, trimmed(states), trimmed(records), []), plain)
@@ -623,10 +808,15 @@ def compare_dump(path):
             later += answer[5] > 1
         compare("step", sets, step_words(sets), stepped)
         applied += stepped[0]
+        texts, lent, plain = imported
+        answer, states, records, output = import_form(*texts, *lent)
+        compare("import", (texts, lent), (answer, trimmed(states), trimmed(records), [], output), plain)
+        imports[answer[0]] += 1
         count += 1
     print("check answers by number:", dict(sorted(numbers.items())))
     print("write answers by number:", dict(sorted(writes.items())))
     print("gaps answers by number:", dict(sorted(finds.items())), "accepted not with the first choice:", later)
+    print("import answers by number:", dict(sorted(imports.items())))
     print("steps that apply:", applied)
     print(f"{count} inputs, {differing} differences")
     return differing

@@ -4,7 +4,7 @@
 #[path = "../../src/plain.rs"]
 mod plain;
 
-use plain::{Found, Node, Reply, Set, Stepped, Written, STATES_ASKED, WORK_ASKED};
+use plain::{Found, Imported, Node, Reply, Set, Stepped, Written, STATES_ASKED, WORK_ASKED};
 use std::slice::{from_raw_parts, from_raw_parts_mut};
 
 /// # Safety
@@ -83,6 +83,35 @@ pub unsafe extern "C" fn cuecheck_find_gaps(
     let Found { number, line, item, cues, nodes, tried } = plain::find_gaps(text, states, nodes, work);
     let Reply { number, line, item, cues, nodes } = spoiled(Reply { number, line, item, cues, nodes }, states, work);
     Found { number, line, item, cues, nodes, tried }
+}
+
+/// # Safety
+/// Each pointer is valid for its length, and no list overlaps another one or a text.
+#[no_mangle]
+pub unsafe extern "C" fn cuecheck_import(
+    text: *const u8,
+    text_len: usize,
+    names: *const u8,
+    names_len: usize,
+    form: *const u8,
+    form_len: usize,
+    states: *mut u64,
+    states_len: usize,
+    nodes: *mut Node,
+    nodes_len: usize,
+    work: *mut u32,
+    work_len: usize,
+    output: *mut u8,
+    output_len: usize,
+) -> Imported {
+    let (text, names, form) =
+        (from_raw_parts(text, text_len), from_raw_parts(names, names_len), from_raw_parts(form, form_len));
+    let (states, work) = (from_raw_parts_mut(states, states_len), from_raw_parts_mut(work, work_len));
+    let (nodes, output) = (from_raw_parts_mut(nodes, nodes_len), from_raw_parts_mut(output, output_len));
+    let Imported { number, line, item, cues, nodes, tried, length } =
+        plain::import(text, names, form, states, nodes, work, output);
+    let Reply { number, line, item, cues, nodes } = spoiled(Reply { number, line, item, cues, nodes }, states, work);
+    Imported { number, line, item, cues, nodes, tried, length }
 }
 
 /// # Safety

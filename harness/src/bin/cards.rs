@@ -1,21 +1,23 @@
 //! Runs both plain renderings and, with the feature linked (see compare_check.rs for the command), the library on the worked
-//! cases of document 02's cards. A case is a folder with `call`, `case`, `expect` and perhaps `expect.output`; one of the step call
-//! has its sets in `call`. Of a card's folder those are run that call check, replay, write, gaps or step and hold now.
+//! cases of document 02's cards. A case is a folder with `call`, `case`, `expect` and perhaps `expect.output`; one of the import call
+//! has `names` and `form` too, one of the step call has its sets in `call`. Of a card's folder those are run that call check, replay,
+//! write, gaps, import or step and hold now. The library has no import call yet.
 //!
 //! cards FOLDER...
 
 use cuecheck::WORDS;
 use harness::compare::{self, StepCall};
+use harness::gen::forms::Texts;
 use harness::gen::steps::Step;
 use harness::lists::{Dirt, Lengths, Lists};
-use harness::plain::{Found, Node, Reply, Written};
+use harness::plain::{Found, Imported, Node, Reply, Written};
 use harness::{fast, plain, worded};
 use std::collections::BTreeMap;
 use std::fs::{read, read_to_string};
 use std::path::{Path, PathBuf};
 
 /// How many cards have landed.
-const LANDED: u32 = 5;
+const LANDED: u32 = 6;
 
 /// The calls of one rendering.
 struct Rendering {
@@ -24,28 +26,32 @@ struct Rendering {
     replay: fn(&[u8], &mut [u64], &mut [u32]) -> Reply,
     write: fn(&[u8], &mut [u64], &mut [Node], &mut [u32], &mut [u8]) -> Written,
     find_gaps: fn(&[u8], &mut [u64], &mut [Node], &mut [u32]) -> Found,
+    import: Option<Import>,
     step: StepCall,
 }
 
-/// The calls of a module, and its step call.
+type Import = fn(&[u8], &[u8], &[u8], &mut [u64], &mut [Node], &mut [u32], &mut [u8]) -> Imported;
+
+/// The calls of a module, its import call, if it has one, and its step call.
 macro_rules! rendering {
-    ($name:literal, $module:ident, $step:expr) => {
+    ($name:literal, $module:ident, $import:expr, $step:expr) => {
         Rendering {
             name: $name,
             check: $module::check,
             replay: $module::replay,
             write: $module::write,
             find_gaps: $module::find_gaps,
+            import: $import,
             step: $step,
         }
     };
 }
 
 const RENDERINGS: &[Rendering] = &[
-    rendering!("plain", plain, compare::PLAIN_STEP),
-    rendering!("fast", fast, fast::step),
+    rendering!("plain", plain, Some(plain::import), compare::PLAIN_STEP),
+    rendering!("fast", fast, Some(fast::import), fast::step),
     #[cfg(feature = "linked")]
-    rendering!("linked", cuecheck, compare::LINKED_STEP),
+    rendering!("linked", cuecheck, None, compare::LINKED_STEP),
 ];
 
 /// The answer with states and records, the text put out, and whether all that is left of the lists is zero.
@@ -63,10 +69,10 @@ struct Case {
     due: Told,
 }
 
-/// What a call is given: a step its sets, any other a text, lists of these lengths and an output.
+/// What a call is given: a step its sets, any other its texts, lists of these lengths and an output.
 enum Given {
     Sets(Step),
-    Text(Vec<u8>, Lengths, usize),
+    Texts(Texts, Lengths, usize),
 }
 
 fn main() {
@@ -76,7 +82,9 @@ fn main() {
     for case in folders.iter().filter_map(|folder| Case::of(folder)) {
         count += 1;
         for rendering in RENDERINGS {
-            let told = case.told_by(rendering);
+            let Some(told) = case.told_by(rendering) else {
+                continue;
+            };
             if told != case.due {
                 differing += 1;
                 println!("{}: {} {told:?}, due {:?}", case.name, rendering.name, case.due);
@@ -102,7 +110,7 @@ impl Case {
         let given = match words["call"] {
             _ if !holds => return None,
             "step" => Given::Sets(worded::step_of(worded::SETS.map(|name| words[name]))),
-            "check" | "replay" | "write" | "gaps" => text_in(folder, &words),
+            "check" | "replay" | "write" | "gaps" | "import" => texts_in(folder, &words),
             _ => return None,
         };
         Some(Case {
@@ -117,69 +125,91 @@ impl Case {
         })
     }
 
-    fn told_by(&self, rendering: &Rendering) -> Told {
+    /// What a rendering tells, if it has the call.
+    fn told_by(&self, rendering: &Rendering) -> Option<Told> {
         match &self.given {
             Given::Sets(step) => {
-                Told { answer: worded::told_by(rendering.step, *step), output: Vec::new(), rest_zero: true }
+                Some(Told { answer: worded::told_by(rendering.step, *step), output: Vec::new(), rest_zero: true })
             }
-            Given::Text(text, lengths, output) => self.told_of(text, *lengths, *output, rendering),
+            Given::Texts(texts, lengths, output) => self.told_of(texts, *lengths, *output, rendering),
         }
     }
 
-    /// What a rendering tells of a text, with lists that come in dirty.
-    fn told_of(&self, text: &[u8], lengths: Lengths, output: usize, rendering: &Rendering) -> Told {
+    /// What a rendering tells of texts, with lists that come in dirty.
+    fn told_of(&self, texts: &Texts, lengths: Lengths, output: usize, rendering: &Rendering) -> Option<Told> {
+        let Texts { case, names, form } = texts;
         let mut lists = Lists::with_output();
         lists.soil(Dirt::Counting);
         let (states, nodes, work, output) = lists.lend_all(lengths, output);
         // The replay call is lent no records.
         let nodes = if self.call == "replay" { &mut [] } else { nodes };
-        let mut length = 0;
-        let (reply, own) = match &self.call[..] {
-            "check" => ((rendering.check)(text, states, nodes, work), None),
-            "replay" => ((rendering.replay)(text, states, work), None),
-            "gaps" => found((rendering.find_gaps)(text, states, nodes, work)),
-            _ => {
-                let written = (rendering.write)(text, states, nodes, work, output);
-                length = written.length;
-                without_text(written)
-            }
+        let answer = match &self.call[..] {
+            "check" => Answer::of_reply((rendering.check)(case, states, nodes, work)),
+            "replay" => Answer::of_reply((rendering.replay)(case, states, work)),
+            "gaps" => Answer::of_found((rendering.find_gaps)(case, states, nodes, work)),
+            "import" => Answer::of_imported(rendering.import?(case, names, form, states, nodes, work, output)),
+            _ => Answer::of_written((rendering.write)(case, states, nodes, work, output)),
         };
-        let Reply { number, line, item, cues, nodes: count } = reply;
-        let mut answer = match (number, own) {
-            (0, Some(own)) => format!("Y,{cues},{count},{own}\n"),
-            (0, None) => format!("Y,{cues},{count}\n"),
-            _ => format!("R,{number},{line},{item}\n"),
-        };
-        let rows = if number == 0 { cues as usize + 1 } else { 0 };
+        let rows = if answer.reply.number == 0 { answer.reply.cues as usize + 1 } else { 0 };
         let (states, behind) = states.split_at(WORDS * rows);
-        let (records, unused) = nodes.split_at(nodes.len().min(count as usize));
-        let (put_out, spare) = output.split_at(length as usize);
-        answer.extend(states.chunks(WORDS).enumerate().map(|(i, row)| listed('S', i, row)));
-        answer.extend(records.iter().enumerate().map(|(i, &node)| listed('T', i, &numbers(node))));
+        let (records, unused) = nodes.split_at(nodes.len().min(answer.reply.nodes as usize));
+        let (put_out, spare) = output.split_at(answer.length);
+        let mut told = answer.told();
+        told.extend(states.chunks(WORDS).enumerate().map(|(i, row)| listed('S', i, row)));
+        told.extend(records.iter().enumerate().map(|(i, &node)| listed('T', i, &numbers(node))));
         let rest_zero = behind.iter().all(|&n| n == 0)
             && unused.iter().all(|&node| node == Node::default())
             && work.iter().all(|&n| n == 0)
             && spare.iter().all(|&byte| byte == 0);
-        Told { answer, output: put_out.to_vec(), rest_zero }
+        Some(Told { answer: told, output: put_out.to_vec(), rest_zero })
     }
 }
 
-/// The text of a case, and the lengths lent: those asked for, if there are no others.
-fn text_in(folder: &Path, words: &BTreeMap<&str, &str>) -> Given {
+/// What a call answers: what all calls do, the numbers that are its own, and how much it put out.
+struct Answer {
+    reply: Reply,
+    own: Vec<u32>,
+    length: usize,
+}
+
+impl Answer {
+    fn of_reply(reply: Reply) -> Answer {
+        Answer { reply, own: vec![], length: 0 }
+    }
+
+    fn of_written(Written { number, line, item, cues, nodes, length }: Written) -> Answer {
+        Answer { reply: Reply { number, line, item, cues, nodes }, own: vec![length], length: length as usize }
+    }
+
+    fn of_found(Found { number, line, item, cues, nodes, tried }: Found) -> Answer {
+        Answer { reply: Reply { number, line, item, cues, nodes }, own: vec![tried], length: 0 }
+    }
+
+    fn of_imported(Imported { number, line, item, cues, nodes, tried, length }: Imported) -> Answer {
+        Answer { reply: Reply { number, line, item, cues, nodes }, own: vec![tried, length], length: length as usize }
+    }
+
+    /// The first line of `expect`.
+    fn told(&self) -> String {
+        let Reply { number, line, item, cues, nodes } = self.reply;
+        let own: String = self.own.iter().map(|n| format!(",{n}")).collect();
+        match number {
+            0 => format!("Y,{cues},{nodes}{own}\n"),
+            _ => format!("R,{number},{line},{item}\n"),
+        }
+    }
+}
+
+/// The texts of a case, and the lengths lent: those asked for, if there are no others.
+fn texts_in(folder: &Path, words: &BTreeMap<&str, &str>) -> Given {
     let length = |list: &str, asked: usize| words.get(list).map_or(asked, |n| n.parse().expect("a length"));
     let Lengths { states, nodes, work } = Lengths::EXACT;
     let lengths =
         Lengths { states: length("states", states), nodes: length("nodes", nodes), work: length("work", work) };
-    Given::Text(read(folder.join("case")).expect("a case"), lengths, length("output", 0))
-}
-
-/// The answer, and the number that is the call's own.
-fn without_text(Written { number, line, item, cues, nodes, length }: Written) -> (Reply, Option<u32>) {
-    (Reply { number, line, item, cues, nodes }, Some(length))
-}
-
-fn found(Found { number, line, item, cues, nodes, tried }: Found) -> (Reply, Option<u32>) {
-    (Reply { number, line, item, cues, nodes }, Some(tried))
+    let text = |name: &str| read(folder.join(name));
+    let (names, form) = (text("names").unwrap_or_default(), text("form").unwrap_or_default());
+    let texts = Texts { case: text("case").expect("a case"), names, form };
+    Given::Texts(texts, lengths, length("output", 0))
 }
 
 fn numbers(node: Node) -> [u64; 5] {

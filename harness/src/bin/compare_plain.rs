@@ -1,10 +1,11 @@
-//! Compares the fast rendering with the clear one, all calls or one (check, replay, write, gaps, step), and shows how often each
-//! answer came up.
+//! Compares the fast rendering with the clear one, all calls or one (check, replay, write, gaps, import, step), and shows how often
+//! each answer came up.
 //!
 //! compare_plain COUNT SEED [CALL]
 
-use harness::compare::{self, Call, FindCall, WriteCall};
+use harness::compare::{self, Call, FindCall, ImportCall, WriteCall};
 use harness::fast;
+use harness::gen::forms::Texts;
 use std::collections::BTreeMap;
 
 fn main() {
@@ -24,8 +25,12 @@ fn main() {
         let (states, nodes, work) = lists.lend(lengths);
         fast::find_gaps(text, states, nodes, work)
     };
+    let import: ImportCall = |Texts { case, names, form }, lists, lengths, output| {
+        let (states, nodes, work, output) = lists.lend_all(lengths, output);
+        fast::import(case, names, form, states, nodes, work, output)
+    };
     let wanted = std::env::args().nth(3).filter(|word| word != "trace");
-    for call in ["check", "replay", "write", "gaps", "step"] {
+    for call in ["check", "replay", "write", "gaps", "import", "step"] {
         if wanted.as_ref().is_some_and(|wanted| wanted != call) {
             continue;
         }
@@ -35,6 +40,7 @@ fn main() {
             "replay" => show(compare::run(compare::PLAIN_REPLAY, replay, "fast")),
             "write" => show(compare::run_write(compare::PLAIN_WRITE, write, "fast")),
             "gaps" => show(compare::run_find(compare::PLAIN_FIND, find, "fast")),
+            "import" => show(compare::run_import(compare::PLAIN_IMPORT, import, "fast")),
             _ => compare::run_step(fast::step, "fast"),
         }
     }

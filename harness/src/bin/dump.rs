@@ -5,15 +5,17 @@
 //! A record, all numbers little-endian: the text, three list lengths, the check call's answer,
 //! states, nodes and work, the replay call's answer, states and work, the length of an output, the
 //! write call's answer, states, nodes, work and output, then 0, or 1 and the answer, states, nodes and
-//! work of the call that finds the gaps; last a step: state, needed, forbidden, added, deleted and the state
-//! that is left, eight words each, and the answer. A list is its count and its members; the zeros at the end
-//! of a lent list are left out, but not those of the output.
+//! work of the call that finds the gaps; then a step: state, needed, forbidden, added, deleted and the state
+//! that is left, eight words each, and the answer; last the import call's case, name list and form, three list
+//! lengths, the length of its output, its answer, states, nodes, work and output. A list is its count and its
+//! members; the zeros at the end of a lent list are left out, but not those of the output.
 
-use harness::compare::PLAIN_STEP;
+use harness::compare::{PLAIN_IMPORT, PLAIN_STEP};
+use harness::gen::forms::{self, Texts};
 use harness::gen::steps::{self, Step};
-use harness::gen::{gaps, Inputs};
-use harness::lists::{draw_output, Dirt, Lengths, Lists, OUTPUT};
-use harness::plain::{check, find_gaps, replay, write, Found, Node, Reply, Stepped, Written};
+use harness::gen::{gaps, Inputs, Rng};
+use harness::lists::{draw_output, draw_output_of, Dirt, Lengths, Lists, MADE, OUTPUT};
+use harness::plain::{check, find_gaps, import, replay, write, Found, Imported, Node, Reply, Stepped, Written};
 use std::io::{BufWriter, Result, Write};
 
 fn main() -> Result<()> {
@@ -24,7 +26,7 @@ fn main() -> Result<()> {
     };
     let inputs = Inputs::new(seed.parse().expect("a seed"));
     let mut out = BufWriter::new(std::fs::File::create(file)?);
-    let mut lists = Lists::with_output();
+    let mut lists = Lists::with_output_of(MADE);
     for number in 0..count.parse().expect("a count") {
         let mut rng = inputs.rng(number);
         let text = match rng.below(4) {
@@ -73,8 +75,40 @@ fn main() -> Result<()> {
             write_list(&mut out, work, |number| number.to_le_bytes().to_vec())?;
         }
         write_step(&mut out, steps::any(&mut rng))?;
+        write_import(&mut out, &inputs, &mut rng, &mut lists)?;
     }
     out.flush()
+}
+
+/// An input of the import call that is cheap enough, and what comes of it.
+fn write_import(out: &mut impl Write, inputs: &Inputs, rng: &mut Rng, lists: &mut Lists) -> Result<()> {
+    let texts = loop {
+        let texts = inputs.form(rng);
+        if forms::affordable(&texts) {
+            break texts;
+        }
+    };
+    let lengths = if rng.percent(85) { Lengths::EXACT } else { Lengths::draw(rng) };
+    // Without an output it is told how long it has to be.
+    let needed = match PLAIN_IMPORT(&texts, lists, Lengths::EXACT, 0) {
+        Imported { number: 14, item, .. } => item as usize,
+        _ => texts.case.len(),
+    };
+    let length = if rng.percent(50) { needed + rng.below(40) } else { draw_output_of(rng, needed, MADE) };
+    let Texts { case, names, form } = &texts;
+    for text in [case, names, form] {
+        write_list(out, text, |byte| vec![byte])?;
+    }
+    for length in [lengths.states, lengths.nodes, lengths.work, length] {
+        out.write_all(&(length as u32).to_le_bytes())?;
+    }
+    lists.soil(Dirt::draw(rng));
+    let (states, nodes, work, output) = lists.lend_all(lengths, length);
+    write_imported(out, import(case, names, form, states, nodes, work, output))?;
+    write_list(out, states, |word| word.to_le_bytes().to_vec())?;
+    write_list(out, &flat(nodes), |number| number.to_le_bytes().to_vec())?;
+    write_list(out, work, |number| number.to_le_bytes().to_vec())?;
+    write_list(out, output, |byte| vec![byte])
 }
 
 fn write_step(out: &mut impl Write, Step { state, sets }: Step) -> Result<()> {
@@ -101,6 +135,12 @@ fn write_found(out: &mut impl Write, answer: Found) -> Result<()> {
     let Found { number, line, item, cues, nodes, tried } = answer;
     write_answer(out, Reply { number, line, item, cues, nodes })?;
     out.write_all(&tried.to_le_bytes())
+}
+
+fn write_imported(out: &mut impl Write, answer: Imported) -> Result<()> {
+    let Imported { number, line, item, cues, nodes, tried, length } = answer;
+    write_answer(out, Reply { number, line, item, cues, nodes })?;
+    [tried, length].iter().try_for_each(|number| out.write_all(&number.to_le_bytes()))
 }
 
 fn write_answer(out: &mut impl Write, answer: Reply) -> Result<()> {

@@ -10,6 +10,14 @@ pub struct Table<'a, T> {
     count: usize,
 }
 
+impl<T: Copy> Table<'_, T> {
+    /// Has these members in place of those that it had.
+    pub fn replace(&mut self, members: &[T]) {
+        self.slots[..members.len()].write_copy_of_slice(members);
+        self.count = members.len();
+    }
+}
+
 impl<T> Table<'_, T> {
     /// Appends a member and gives it back, to be filled in place.
     pub fn push(&mut self, member: T) -> &mut T {
@@ -36,7 +44,7 @@ impl<T> Deref for Table<'_, T> {
     type Target = [T];
 
     fn deref(&self) -> &[T] {
-        // SAFETY: only the two above move the count, over members that they have written.
+        // SAFETY: only the three above move the count, over members that they have written.
         unsafe { self.slots[..self.count].assume_init_ref() }
     }
 }
@@ -108,6 +116,7 @@ pub struct Signed {
 
 /// A readable case but for its nodes.
 pub struct Case<'a> {
+    pub tasks: u16,
     pub goal: u16,
     pub initial: Set,
     pub actions: Table<'a, Action>,
@@ -115,6 +124,8 @@ pub struct Case<'a> {
     pub subtasks: Table<'a, u16>,
     pub constraints: Table<'a, Constraint>,
     pub plan: Table<'a, u16>,
+    /// Where the P line stands in the text, as bytes that are left of it.
+    pub plan_left: u16,
 }
 
 impl Case<'_> {
@@ -145,6 +156,7 @@ pub fn with_tables<R>(text: usize, judge: impl FnOnce(&mut Case) -> R) -> R {
 #[inline(never)]
 fn with<const A: usize, const M: usize, const S: usize, const C: usize, R>(judge: impl FnOnce(&mut Case) -> R) -> R {
     judge(&mut Case {
+        tasks: 0,
         goal: 0,
         initial: [0; WORDS],
         actions: Table { slots: &mut [const { MaybeUninit::uninit() }; A], count: 0 },
@@ -152,5 +164,6 @@ fn with<const A: usize, const M: usize, const S: usize, const C: usize, R>(judge
         subtasks: Table { slots: &mut [const { MaybeUninit::uninit() }; S], count: 0 },
         constraints: Table { slots: &mut [const { MaybeUninit::uninit() }; C], count: 0 },
         plan: Table { slots: &mut [const { MaybeUninit::uninit() }; CUES], count: 0 },
+        plan_left: 0,
     })
 }

@@ -183,6 +183,7 @@ pub fn read(text: &[u8], case: &mut Case, nodes: &mut [Node]) -> Checked<Accepte
 /// Each part takes a reader and gives it back: inside, it is kept in registers.
 fn read_lines<'a>(text: &'a [u8], case: &mut Case, nodes: &mut [Node]) -> Read<(Header, &'a [u8])> {
     let (header, reader) = read_header(Reader(text))?;
+    case.tasks = header.tasks as u16;
     case.goal = header.goal as u16;
     let reader = read_actions(reader, &header, case)?;
     let reader = read_methods(reader, &header, case)?;
@@ -272,6 +273,7 @@ fn read_constraint(reader: &mut Reader, propositions: u32, subtasks: u32) -> Rea
 
 #[inline(never)]
 fn read_plan<'a>(mut reader: Reader<'a>, header: &Header, case: &mut Case) -> Read<Reader<'a>> {
+    case.plan_left = reader.0.len() as u16;
     reader.line(b'P')?;
     case.plan.extend(header.cues, || Ok(reader.number_in(..header.actions)? as u16))?;
     reader.end_line()?;

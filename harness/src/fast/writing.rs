@@ -75,14 +75,14 @@ fn key(constraint: &Constraint) -> u128 {
 }
 
 /// The output, and how much was put out: also where it doesn't reach, to tell what is needed.
-struct Sink<'a> {
-    output: &'a mut [u8],
-    length: usize,
+pub struct Sink<'a> {
+    pub output: &'a mut [u8],
+    pub length: usize,
 }
 
 impl Sink<'_> {
     #[inline(always)]
-    fn put(&mut self, bytes: &[u8]) {
+    pub fn put(&mut self, bytes: &[u8]) {
         if let Some(room) = self.output.get_mut(self.length..self.length + bytes.len()) {
             room.copy_from_slice(bytes);
         }

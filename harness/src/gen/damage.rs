@@ -17,6 +17,15 @@ pub fn draft(rng: &mut Rng, draft: &mut Draft) {
     }
 }
 
+/// Changes the goal, or a condition or an effect, and leaves the tree as it is.
+pub fn model(rng: &mut Rng, draft: &mut Draft) {
+    if rng.percent(30) {
+        draft.goal = any_compound(rng, draft);
+    } else {
+        conditions(rng, draft);
+    }
+}
+
 /// Moves a gap or a position a little, or to anywhere, or swaps two places.
 fn places(rng: &mut Rng, draft: &mut Draft) {
     let cues = draft.plan.len();
@@ -217,11 +226,15 @@ fn other_asked(rng: &mut Rng, palette: &[u32], asked: Signed) -> Signed {
     }
 }
 
+fn any_compound(rng: &mut Rng, draft: &Draft) -> u32 {
+    (draft.actions.len() + rng.below(draft.compound as usize)) as u32
+}
+
 /// Changes the goal, a method's task or its subtasks.
 fn methods(rng: &mut Rng, draft: &mut Draft) {
     let actions = draft.actions.len();
     let compound = draft.compound as usize;
-    let any_compound = (actions + rng.below(compound)) as u32;
+    let any_compound = any_compound(rng, draft);
     let at = rng.below(draft.methods.len());
     match rng.below(4) {
         0 => draft.goal = any_compound,

@@ -424,7 +424,7 @@ fn all_in_turn(propositions: u32, actions: u32, cues: u32, density: usize) -> Dr
 // ---------------------------------------------------------------- the limits
 
 /// A tree of just 3,000 nodes with 1,000 cues, in a model with so many of everything.
-fn three_thousand(actions: usize, compound: u32, methods: usize) -> Draft {
+pub(super) fn three_thousand(actions: usize, compound: u32, methods: usize) -> Draft {
     let rng = &mut Rng::new(3_000);
     let g = actions as u32;
     let (s, x, z) = (g + 1, g + 2, g + 3);
@@ -484,6 +484,12 @@ fn full_sets(propositions: u32) -> Draft {
 /// The draft's text brought to just this length by filling the sets of actions not in the
 /// plan: a member of one digit is 2 bytes, one of two digits 3.
 pub(super) fn padded(mut draft: Draft, length: usize) -> Vec<u8> {
+    pad(&mut draft, length);
+    draft.text()
+}
+
+/// Brings the draft's text to just this length.
+pub(super) fn pad(draft: &mut Draft, length: usize) {
     let mut lacking = length - draft.text().len();
     let spare: Vec<usize> = (0..draft.actions.len()).filter(|&a| !draft.plan.contains(&(a as u32))).collect();
     for set in spare.into_iter().flat_map(|a| (0..4).map(move |s| (a, s))) {
@@ -494,7 +500,6 @@ pub(super) fn padded(mut draft: Draft, length: usize) -> Vec<u8> {
             lacking -= if small { 2 } else { 3 };
         }
     }
-    draft.text()
 }
 
 /// A method with one subtask, constraint or node more than there may be, and such.

@@ -261,6 +261,13 @@ fn claim(rng: &mut Rng, draft: &mut Draft, tree: &Tree) {
 
 /// A text within ten bytes of the limit, or one past it, whose later gaps have a digit more: with most of them it is too long.
 pub fn long(rng: &mut Rng) -> Vec<u8> {
+    let (draft, empty) = long_draft(rng);
+    let length = if rng.percent(70) { rng.between(65_535 - empty, 65_535) } else { rng.between(65_525, 65_536) };
+    padded(draft, length)
+}
+
+/// The same, yet some thousand bytes short; and how many empty tasks there are.
+pub(super) fn long_draft(rng: &mut Rng) -> (Draft, usize) {
     let (empty, cues) = match rng.below(8) {
         0..=3 => (2, rng.between(10, 12)),
         4 => (1, rng.between(98, 102)),
@@ -288,8 +295,7 @@ pub fn long(rng: &mut Rng) -> Vec<u8> {
     }
     claim(rng, &mut draft, &tree);
     fill(&mut draft);
-    let length = if rng.percent(70) { rng.between(65_535 - empty, 65_535) } else { rng.between(65_525, 65_536) };
-    padded(draft, length)
+    (draft, empty)
 }
 
 /// Brings the text near its limit with methods that no node uses.
