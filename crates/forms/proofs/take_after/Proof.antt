@@ -119,7 +119,7 @@ returns-2 c =
     let fewer = c .before .before .before .before .if1 .left in
     λ k ns t ms h.
     let m = c .before .before .before .both-named .ensures .0 k ns t ms h (a .e + 3) (f .4 .0) (f .4 .2) ∙ ap (named (a .e + 3)) (c .before .m .given .1) in
-    let low = subst (λ (x : Header). _ < x .methods) (sym (ms .head)) (c .before .before .before .both-named .ensures .1 _ (c .before .m .given .1)) in (
+    let low = subst (λ (x : Header). c .before .m .given .0 .0 < x .methods) (sym (ms .head)) (c .before .before .before .both-named .ensures .1 (c .before .m .given .0 .0) (c .before .m .given .1)) in (
       _,
       _,
       _,
