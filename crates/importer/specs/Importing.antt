@@ -16,7 +16,7 @@ use Rattle.rules.specs.Naming.{readNames}
 use Rattle.rules.specs.Form.{Form, formLines, readForm, idsRight}
 use Rattle.rules.specs.Import.{madeCase, madeFrom, foundTree, madeAfter, madeLength, LimitedMade}
 use Rattle.fields.specs.Standing.{Stands}
-use Rattle.fields.specs.Directory.{IsRead, directorySize}
+use Rattle.fields.specs.Directory.{IsRead, NodesLast}
 use Rattle.records.specs.Records.{RecordsHeld}
 use Rattle.links.specs.Links.{Lines, Spelled}
 use Rattle.forms.specs.declared.FormRead.{FormRead}
@@ -35,6 +35,12 @@ pub record ModelHere (k : Case) (h : Header) (fields directory : List ℕ) : Typ
 -- The name list and then the form are read.
 abbrev pub BothAre : Case → List ℕ → List ℕ → FormRead → List ℕ → List ℕ → List ℕ → Type 0
 BothAre k names form r ids labels places = FormIs form (readNames (k .head) names >>= λ ns. readForm k ns form) r ids labels places
+
+-- A case that was read, its fields from the first on, its node lines from `nodes` on and last.
+pub record CaseHere (k : Case) (h : Header) (nodes : ℕ) (fields directory : List ℕ) : Type 0 where
+  pub model : ModelHere k h fields directory
+  pub stands : Stands fields 0 (fieldsOf k)
+  pub last : NodesLast k nodes
 
 -- A form that was read, as lists hold it, and the fields of the case beside it.
 pub record FormHeld (k : Case) (f : Form) (text places ids labels : List ℕ) (cues count root : ℕ) (fields : List ℕ) (plan : ℕ) : Type 0 where
@@ -55,13 +61,17 @@ madeOf size k f = do
   roomFor size (printed (madeCase k f))
   found (printed (madeCase k f))
 
+-- The rows from the name list on, of a case that was read.
+unfoldable pub madeBeside : ℕ → Case → List ℕ → List ℕ → Result (List ℕ)
+madeBeside size k names form = do
+  f ← readNames (k .head) names >>= λ ns. readForm k ns form
+  madeOf size k f
+
 -- The rows from reading on.
 unfoldable pub madeText : ℕ → List ℕ → List ℕ → List ℕ → Result (List ℕ)
 madeText size text names form = do
   k ← readCase text
-  ns ← readNames (k .head) names
-  f ← readForm k ns form
-  madeOf size k f
+  madeBeside size k names form
 
 -- The made text stands in the output, the rest of which is zero; or the answer that refuses it.
 abbrev pub MadeIs : Result (List ℕ) → ℕ → Made → List ℕ → Type 0
@@ -70,3 +80,30 @@ MadeIs (refused a) size r output = r ≡ Refused a
 
 abbrev pub PutMade : List ℕ → ℕ → Made → List ℕ → Type 0
 PutMade made size r output = MadeIs (roomFor size made >> found made) size r output
+
+-- What the find-the-gaps call finds of the made text, and that text.
+abbrev pub thenFind : ℕ → List Lent → List ℕ → Found (Tree × List ℕ)
+thenFind number lists made = findGaps number lists made >>= λ (k, t). found (k, (t, made))
+
+abbrev pub fromMade : ℕ → List Lent → Result (List ℕ) → Found (Tree × List ℕ)
+fromMade number lists made = made >>= λ text. thenFind number lists text
+
+-- The number tried is within Card 4's limits for the made text, if there is one.
+abbrev pub LimitedTo : List Lent → Result (List ℕ) → ℕ → Type 0
+LimitedTo lists (found made) number = Limited (beforeChoices lists made) number
+LimitedTo lists (refused a) number = Unit {0}
+
+abbrev pub LimitedAs : List Lent → ℕ → List ℕ → List ℕ → List ℕ → ℕ → Type 0
+LimitedAs lists size text names form number =
+    LimitedTo lists (madeFrom lists text names form >>= λ made. roomFor size (printed made) >> found (printed made)) number
+
+-- What the call answers, and leaves in a state list and an output of these sizes and in the work space: the records of the tree found as columns.
+pub record Imports (f : ℕ → Found (Tree × List ℕ)) (limited : ℕ → Type 0) (size room : ℕ) (r : Import) (states work output : List ℕ) : Type 0 where
+  pub number : ℕ
+  pub within : limited number
+  pub answer : r .answer ≡ answerOf (f number)
+  pub answered : r .tried ≡ triedAfter number (foundTree (f number))
+  pub sized : r .length ≡ madeLength (f number)
+  pub statesHeld : states ≡ statesAfter size (f number)
+  pub recordsHeld : RecordsHeld (foundTree (f number)) work
+  pub put : output ≡ madeAfter room (f number)

@@ -8,16 +8,21 @@ ghost use Rattle.rules.specs.Case.{Case, Valued, readCase};
 ghost use Rattle.rules.specs.Fields.{fieldsOf};
 ghost use Rattle.rules.specs.Print.{linesText};
 ghost use Rattle.rules.specs.Form.{Form, formLines};
-ghost use Rattle.rules.specs.Verdict.{textMost, workNeed, checkLists};
+ghost use Rattle.rules.specs.Verdict.{textMost, workNeed, checkLists, filled};
+ghost use Rattle.rules.specs.Gaps.{beforeChoices, Limited};
+ghost use Rattle.rules.specs.Import.{importForm};
+ghost use Rattle.judge.specs.Phases.{Cleared};
 ghost use Rattle.fields.specs.Standing.{Stands};
 ghost use Rattle.fields.specs.Directory.{IsRead, Roomy, NodesLast};
 ghost use Rattle.output.specs.Output.{HasLines};
 ghost use Rattle.links.specs.Links.{Lines, Spelled};
 ghost use Rattle.making.specs.Making.{PlanLast};
-ghost use Rattle.importer.specs.Importing.{ModelHere, BothAre, madeOf, madeText, FormHeld, PutMade, MadeIs};
+ghost use Rattle.importer.specs.Importing.{ModelHere, BothAre, FormHeld, CaseHere, madeOf, madeBeside, madeText, MadeIs, PutMade, thenFind, fromMade, LimitedTo, LimitedAs, Imports};
 use forms::FormRead;
 use forms::LINES;
+use judge::Admission;
 use naming::NamesRead;
+use reading::CaseRead;
 use rules::Answer;
 use rules::Header;
 
@@ -171,4 +176,156 @@ fn make_from(
         &mut spare,
     );
     put_made(fields, end, cues as u32, output)
+}
+
+// The rows from the name list on, of a case that was read.
+fn make_case(
+    names: &[u8],
+    form: &[u8],
+    header: Header,
+    nodes: usize,
+    work: &mut [u32],
+    fields: &mut [u32],
+    output: &mut [u8],
+) -> Made
+    requires { ⌜ ((k : Case) × CaseHere k header nodes (now fields) (now work)) ⌝ }
+    requires { ⌜ (8192 ≤ length (now work)) × (length (now fields) ≡ 45056) ⌝ }
+    ensures { λ r. ⌜ ((k : Case) → CaseHere k header nodes (now (fields .entry)) (now (work .entry)) → MadeIs (madeBeside (length (now (output .entry))) k (now (names .entry)) (now (form .entry))) (length (now (output .entry))) r (now (output .exit))) ⌝ }
+{
+    let mut ids = [0u32; LINES];
+    let mut labels = [0u32; LINES];
+    let mut places = [0usize; LINES];
+    match read_both(
+        names,
+        form,
+        header,
+        fields,
+        work,
+        &mut ids,
+        &mut labels,
+        &mut places,
+    ) {
+        FormRead::Form { cues, count, root } => {
+            let plan = making::plan_place(nodes, header.cues);
+            make_from(
+                form,
+                &places,
+                &ids,
+                &labels,
+                cues,
+                count,
+                root,
+                work,
+                fields,
+                plan,
+                output,
+            )
+        }
+        FormRead::Refused { answer } => Made::Refused { answer },
+    }
+}
+
+// The rows from reading on, with room for the fields.
+fn make_text(
+    text: &[u8],
+    names: &[u8],
+    form: &[u8],
+    work: &mut [u32],
+    fields: &mut [u32],
+    output: &mut [u8],
+) -> Made
+    requires { ⌜ (length (now text) ≤ textMost) × (workNeed ≤ length (now work)) × (length (now fields) ≡ 45056) ⌝ }
+    ensures { λ r. ⌜ MadeIs (madeText (length (now (output .entry))) (now (text .entry)) (now (names .entry)) (now (form .entry))) (length (now (output .entry))) r (now (output .exit)) ⌝ }
+{
+    match reading::read_case(text, fields, work) {
+        CaseRead::Case {
+            header,
+            plan_line: _,
+            initial: _,
+            plan: _,
+            nodes,
+        } => make_case(names, form, header, nodes, work, fields, output),
+        CaseRead::Refused { answer } => Made::Refused { answer },
+    }
+}
+
+fn make_any(text: &[u8], names: &[u8], form: &[u8], work: &mut [u32], output: &mut [u8]) -> Made
+    requires { ⌜ (length (now text) ≤ textMost) × (workNeed ≤ length (now work)) ⌝ }
+    ensures { λ r. ⌜ MadeIs (madeText (length (now (output .entry))) (now (text .entry)) (now (names .entry)) (now (form .entry))) (length (now (output .entry))) r (now (output .exit)) ⌝ }
+{
+    let mut fields = [0u32; FIELDS];
+    make_text(text, names, form, work, &mut fields, output)
+}
+
+// "zero if refused"
+fn refuse(output: &mut [u8], answer: Answer) -> Import
+    ensures { λ r. ⌜ (r .answer ≡ answer) × (r .tried ≡ 0) × (r .length ≡ 0) × (now (output .exit) ≡ replicate (length (now (output .entry))) 0) ⌝ }
+{
+    output::clear(output);
+    Import {
+        answer,
+        tried: 0,
+        length: 0,
+    }
+}
+
+// The made text "goes through Card 4, whose refusals stand".
+fn find_made(
+    states: &mut [u64],
+    work: &mut [u32],
+    node_room: usize,
+    length: u32,
+    output: &mut [u8],
+) -> Import
+    requires { ⌜ ((made : List ℕ) × (now output ≡ filled (length (now output)) 0 made) × (length made ≡ «length») × (length made ≤ length (now output))) ⌝ }
+    ensures { λ r. ⌜ ((made : List ℕ) → now (output .entry) ≡ filled (length (now (output .entry))) 0 made → length made ≡ «length» → Imports (λ n. thenFind n (checkLists (length (now (states .entry))) «node_room» (length (now (work .entry)))) made) (Limited (beforeChoices (checkLists (length (now (states .entry))) «node_room» (length (now (work .entry)))) made)) (length (now (states .entry))) (length (now (output .entry))) r (now (states .exit)) (now (work .exit)) (now (output .exit))) ⌝ }
+{
+    let found = finder::find(&output[..length as usize], states, work, node_room);
+    let answer = found.answer;
+    let Answer::Accepted { .. } = answer else {
+        return refuse(output, answer);
+    };
+    Import {
+        answer,
+        tried: found.tried,
+        length,
+    }
+}
+
+// The rows past 2, with lists that are long enough.
+fn import_lent(
+    text: &[u8],
+    names: &[u8],
+    form: &[u8],
+    states: &mut [u64],
+    work: &mut [u32],
+    node_room: usize,
+    output: &mut [u8],
+) -> Import
+    requires { ⌜ Cleared (now text) (now states) (now work) ⌝ }
+    ensures { λ r. ⌜ Imports (λ n. fromMade n (checkLists (length (now (states .entry))) «node_room» (length (now (work .entry)))) (madeText (length (now (output .entry))) (now (text .entry)) (now (names .entry)) (now (form .entry)))) (LimitedTo (checkLists (length (now (states .entry))) «node_room» (length (now (work .entry)))) (madeText (length (now (output .entry))) (now (text .entry)) (now (names .entry)) (now (form .entry)))) (length (now (states .entry))) (length (now (output .entry))) r (now (states .exit)) (now (work .exit)) (now (output .exit)) ⌝ }
+{
+    match make_any(text, names, form, work, output) {
+        Made::Text { length } => find_made(states, work, node_room, length, output),
+        Made::Refused { answer } => refuse(output, answer),
+    }
+}
+
+// All rows. The state list is zero before anything is checked.
+pub fn import(
+    text: &[u8],
+    names: &[u8],
+    form: &[u8],
+    states: &mut [u64],
+    work: &mut [u32],
+    node_room: usize,
+    output: &mut [u8],
+) -> Import
+    ensures { λ r. ⌜ Imports (λ n. importForm n (checkLists (length (now (states .entry))) «node_room» (length (now (work .entry)))) (length (now (output .entry))) (now (text .entry)) (now (names .entry)) (now (form .entry))) (LimitedAs (checkLists (length (now (states .entry))) «node_room» (length (now (work .entry)))) (length (now (output .entry))) (now (text .entry)) (now (names .entry)) (now (form .entry))) (length (now (states .entry))) (length (now (output .entry))) r (now (states .exit)) (now (work .exit)) (now (output .exit)) ⌝ }
+{
+    rows::clear(states);
+    match judge::admit(text, states.len(), node_room, work.len()) {
+        Admission::Passed => import_lent(text, names, form, states, work, node_room, output),
+        Admission::Refused { answer } => refuse(output, answer),
+    }
 }
