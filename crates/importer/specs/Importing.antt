@@ -22,7 +22,7 @@ use Rattle.links.specs.Links.{Lines, Spelled}
 use Rattle.forms.specs.declared.FormRead.{FormRead}
 use Rattle.forms.specs.Held.{MethodsHere, FormIs}
 use Rattle.making.specs.Making.{PlanLast}
-use Rattle.importer.specs.declared.Import.{Import}
+use Rattle.importer.specs.declared.Outcome.{Outcome}
 use Rattle.importer.specs.declared.Made.{Made}
 use Rattle.importer.specs.declared.Made.the-variants.{Text, Refused}
 
@@ -98,7 +98,7 @@ LimitedAs lists size text names form number =
     LimitedTo lists (madeFrom lists text names form >>= λ made. roomFor size (printed made) >> found (printed made)) number
 
 -- What the call answers, and leaves in a state list and an output of these sizes and in the work space: the records of the tree found as columns.
-pub record Imports (f : ℕ → Found (Tree × List ℕ)) (limited : ℕ → Type 0) (size room : ℕ) (r : Import) (states work output : List ℕ) : Type 0 where
+pub record Imports (f : ℕ → Found (Tree × List ℕ)) (limited : ℕ → Type 0) (size room : ℕ) (r : Outcome) (states work output : List ℕ) : Type 0 where
   pub number : ℕ
   pub within : limited number
   pub answer : r .answer ≡ answerOf (f number)

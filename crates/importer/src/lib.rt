@@ -36,7 +36,7 @@ const NAMES: usize = 2048;
 const LINKS: usize = 96000;
 
 // What the call answers, how many choices of gaps it tried and how long the made text is, both 0 for a refusal.
-pub struct Import {
+pub struct Outcome {
     pub answer: Answer,
     pub tried: u32,
     pub length: u32,
@@ -258,11 +258,11 @@ fn make_any(text: &[u8], names: &[u8], form: &[u8], work: &mut [u32], output: &m
 }
 
 // "zero if refused"
-fn refuse(output: &mut [u8], answer: Answer) -> Import
+fn refuse(output: &mut [u8], answer: Answer) -> Outcome
     ensures { λ r. ⌜ (r .answer ≡ answer) × (r .tried ≡ 0) × (r .length ≡ 0) × (now (output .exit) ≡ replicate (length (now (output .entry))) 0) ⌝ }
 {
     output::clear(output);
-    Import {
+    Outcome {
         answer,
         tried: 0,
         length: 0,
@@ -274,21 +274,21 @@ fn find_made(
     states: &mut [u64],
     work: &mut [u32],
     node_room: usize,
-    length: u32,
+    bytes: u32,
     output: &mut [u8],
-) -> Import
-    requires { ⌜ ((made : List ℕ) × (now output ≡ filled (length (now output)) 0 made) × (length made ≡ «length») × (length made ≤ length (now output))) ⌝ }
-    ensures { λ r. ⌜ ((made : List ℕ) → now (output .entry) ≡ filled (length (now (output .entry))) 0 made → length made ≡ «length» → Imports (λ n. thenFind n (checkLists (length (now (states .entry))) «node_room» (length (now (work .entry)))) made) (Limited (beforeChoices (checkLists (length (now (states .entry))) «node_room» (length (now (work .entry)))) made)) (length (now (states .entry))) (length (now (output .entry))) r (now (states .exit)) (now (work .exit)) (now (output .exit))) ⌝ }
+) -> Outcome
+    requires { ⌜ ((made : List ℕ) × (now output ≡ filled (length (now output)) 0 made) × (length made ≡ bytes) × (length made ≤ length (now output))) ⌝ }
+    ensures { λ r. ⌜ ((made : List ℕ) → now (output .entry) ≡ filled (length (now (output .entry))) 0 made → length made ≡ bytes → Imports (λ n. thenFind n (checkLists (length (now (states .entry))) «node_room» (length (now (work .entry)))) made) (Limited (beforeChoices (checkLists (length (now (states .entry))) «node_room» (length (now (work .entry)))) made)) (length (now (states .entry))) (length (now (output .entry))) r (now (states .exit)) (now (work .exit)) (now (output .exit))) ⌝ }
 {
-    let found = finder::find(&output[..length as usize], states, work, node_room);
+    let found = finder::find(&output[..bytes as usize], states, work, node_room);
     let answer = found.answer;
     let Answer::Accepted { .. } = answer else {
         return refuse(output, answer);
     };
-    Import {
+    Outcome {
         answer,
         tried: found.tried,
-        length,
+        length: bytes,
     }
 }
 
@@ -301,7 +301,7 @@ fn import_lent(
     work: &mut [u32],
     node_room: usize,
     output: &mut [u8],
-) -> Import
+) -> Outcome
     requires { ⌜ Cleared (now text) (now states) (now work) ⌝ }
     ensures { λ r. ⌜ Imports (λ n. fromMade n (checkLists (length (now (states .entry))) «node_room» (length (now (work .entry)))) (madeText (length (now (output .entry))) (now (text .entry)) (now (names .entry)) (now (form .entry)))) (LimitedTo (checkLists (length (now (states .entry))) «node_room» (length (now (work .entry)))) (madeText (length (now (output .entry))) (now (text .entry)) (now (names .entry)) (now (form .entry)))) (length (now (states .entry))) (length (now (output .entry))) r (now (states .exit)) (now (work .exit)) (now (output .exit)) ⌝ }
 {
@@ -320,7 +320,7 @@ pub fn import(
     work: &mut [u32],
     node_room: usize,
     output: &mut [u8],
-) -> Import
+) -> Outcome
     ensures { λ r. ⌜ Imports (λ n. importForm n (checkLists (length (now (states .entry))) «node_room» (length (now (work .entry)))) (length (now (output .entry))) (now (text .entry)) (now (names .entry)) (now (form .entry))) (LimitedAs (checkLists (length (now (states .entry))) «node_room» (length (now (work .entry)))) (length (now (output .entry))) (now (text .entry)) (now (names .entry)) (now (form .entry))) (length (now (states .entry))) (length (now (output .entry))) r (now (states .exit)) (now (work .exit)) (now (output .exit)) ⌝ }
 {
     rows::clear(states);
