@@ -280,14 +280,14 @@ fn find_made(
     requires { ⌜ ((made : List ℕ) × (now output ≡ filled (length (now output)) 0 made) × (length made ≡ bytes) × (length made ≤ length (now output))) ⌝ }
     ensures { λ r. ⌜ ((made : List ℕ) → now (output .entry) ≡ filled (length (now (output .entry))) 0 made → length made ≡ bytes → Imports (λ n. thenFind n (checkLists (length (now (states .entry))) «node_room» (length (now (work .entry)))) made) (Limited (beforeChoices (checkLists (length (now (states .entry))) «node_room» (length (now (work .entry)))) made)) (length (now (states .entry))) (length (now (output .entry))) r (now (states .exit)) (now (work .exit)) (now (output .exit))) ⌝ }
 {
-    let found = finder::find(&output[..bytes as usize], states, work, node_room);
-    let answer = found.answer;
-    let Answer::Accepted { .. } = answer else {
+    let d = finder::find(&output[..bytes as usize], states, work, node_room);
+    let answer = d.answer;
+    if d.tried == 0 {
         return refuse(output, answer);
-    };
+    }
     Outcome {
         answer,
-        tried: found.tried,
+        tried: d.tried,
         length: bytes,
     }
 }
