@@ -68,7 +68,7 @@ module _ {k : Case} {h : Header} {fields directory : List ℕ} (m : ModelHere k 
         → (ns : Names) × (readNames h names ≡ found ns) × Tasks k ns h names ts te tl × Methods k ns h names ms me ml
     names-held e =
         let w = names-read names (readNames h names) ts te tl ms me ml
-            (subst (λ (x : NamesRead). NamesLeft names (readNames h names) x ts te tl ms me ml) e left) in
+        (subst (λ (x : NamesRead). NamesLeft names (readNames h names) x ts te tl ms me ml) e left) in
         let n = names-counted h names (w .0) (w .1) in
         let g = header-good in (
           w .0,
@@ -122,7 +122,7 @@ lines-long (x ∷ xs) =
 print-short : (k : Case) → IsRead k → length (printed k) ≤ textMost
 print-short k r = subst (λ (l : List ℕ). length l ≤ textMost) (canonical (r .text) k (r .reads)) (r .short)
 
-pub few-fields : (k : Case) → IsRead k → length (fieldsOf k) ≤ 32767
+few-fields : (k : Case) → IsRead k → length (fieldsOf k) ≤ 32767
 unfolding fieldsOf printed textMost
 few-fields k r = omega (arith, print-short k r, lines-long (linesOf k))
 
@@ -136,7 +136,7 @@ module _ {k : Case} {h : Header} {nodes : ℕ} {fields directory : List ℕ} (x 
   cues-are = ap (λ (g : Header). g .cues) (x .model .head)
 
   module _ (text : List ℕ) (y : Result Form) (r : FormRead) (ids labels places : List ℕ) (is : FormIs text y r ids labels places) where
-    pub form-held : (cues count root : ℕ) → r ≡ FormOf cues count root → (plan : ℕ) → PlanLast k plan
+    form-held : (cues count root : ℕ) → r ≡ FormOf cues count root → (plan : ℕ) → PlanLast k plan
         → (f : Form) × (y ≡ found f) × FormHeld k f text places ids labels cues count root fields plan
     form-held cues count root q plan last = go y refl is
       where
@@ -163,7 +163,7 @@ module _ {k : Case} {h : Header} {nodes : ℕ} {fields directory : List ℕ} (x 
             )
         go (refused a) e is = let s : r ≡ FormRefused a = is in apart (cc)
 
-    pub form-refused : (a : Answer) → r ≡ FormRefused a → y ≡ refused a
+    form-refused : (a : Answer) → r ≡ FormRefused a → y ≡ refused a
     form-refused a q = go y refl is
       where
         go : (z : Result Form) → y ≡ z → FormIs text z r ids labels places → y ≡ refused a
@@ -172,21 +172,26 @@ module _ {k : Case} {h : Header} {nodes : ℕ} {fields directory : List ℕ} (x 
 
   -- ---- What is made of it
 
-  module _ (names text : List ℕ) (r : FormRead) (ids labels places : List ℕ) (is : BothAre k names text r ids labels places) (size : ℕ) where
+  module _ (names text : List ℕ) (r : FormRead) (ids labels places : List ℕ) (is : BothAre k names text r ids labels places) where
     abbrev formRead : Result Form
     formRead = readNames (k .head) names >>= λ ns. readForm k ns text
 
-    made : (y : Result Form) → formRead ≡ y → (a : Made) (output : List ℕ) → MadeIs (y >>= λ f. madeOf size k f) size a output
-        → MadeIs (madeBeside size k names text) size a output
-    unfolding madeBeside
-    made y e a output w = subst (λ (z : Result Form). MadeIs (z >>= λ f. madeOf size k f) size a output) (sym e) w
+    pub both-held : (cues count root : ℕ) → r ≡ FormOf cues count root → (plan : ℕ) → PlanLast k plan
+        → (f : Form) × (formRead ≡ found f) × FormHeld k f text places ids labels cues count root fields plan
+    both-held = form-held text formRead r ids labels places is
 
-    pub made-read : (cues count root : ℕ) → r ≡ FormOf cues count root → (plan : ℕ) → PlanLast k plan → (a : Made) (output : List ℕ)
-        → ((k : Case) (f : Form) → FormHeld k f text places ids labels cues count root fields plan → MadeIs (madeOf size k f) size a output)
-        → MadeIs (madeBeside size k names text) size a output
-    made-read cues count root q plan last a output w =
-        let f = form-held text formRead r ids labels places is cues count root q plan last in
-        made (found (f .0)) (f .1) a output (w k (f .0) (f .2))
+    module _ (size : ℕ) where
+      made : (y : Result Form) → formRead ≡ y → (a : Made) (output : List ℕ) → MadeIs (y >>= λ f. madeOf size k f) size a output
+          → MadeIs (madeBeside size k names text) size a output
+      unfolding madeBeside
+      made y e a output w = subst (λ (z : Result Form). MadeIs (z >>= λ f. madeOf size k f) size a output) (sym e) w
 
-    pub made-refused : (a : Answer) → r ≡ FormRefused a → (output : List ℕ) → MadeIs (madeBeside size k names text) size (Refused a) output
-    made-refused a q output = made (refused a) (form-refused text formRead r ids labels places is a q) (Refused a) output refl
+      pub made-read : (cues count root : ℕ) → r ≡ FormOf cues count root → (plan : ℕ) → PlanLast k plan → (a : Made) (output : List ℕ)
+          → ((k : Case) (f : Form) → FormHeld k f text places ids labels cues count root fields plan → MadeIs (madeOf size k f) size a output)
+          → MadeIs (madeBeside size k names text) size a output
+      made-read cues count root q plan last a output w =
+          let f = both-held cues count root q plan last in
+          made (found (f .0)) (f .1) a output (w k (f .0) (f .2))
+
+      pub made-refused : (a : Answer) → r ≡ FormRefused a → (output : List ℕ) → MadeIs (madeBeside size k names text) size (Refused a) output
+      made-refused a q output = made (refused a) (form-refused text formRead r ids labels places is a q) (Refused a) output refl

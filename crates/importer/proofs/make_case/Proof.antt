@@ -3,7 +3,7 @@ use mathlib.Core.Path.{_∙_}
 use Prim.Native.Nat.{ℕ}
 use borrow.Author.Needs.{needs}
 use lib.ListN.{length-replicate}
-use Rattle.importer.proofs.Reading.{plan-few, cues-are, form-held, made-read, made-refused}
+use Rattle.importer.proofs.Reading.{plan-few, cues-are, both-held, made-read, made-refused}
 use Rattle.importer.proofs.make_case.Statement.{statement}
 use Rattle.importer.proofs.make_case.Tie as tie
 
@@ -44,7 +44,7 @@ make-from-requires c κs =
     let (k, x) = s .pre .0 in
     let b = c .before .before .before .before .before .before .before .before .before .before .before .before .before .read-both in
     let last = c .before .before .before .before .before .before .plan-place .ensures k (x .model .read) (x .last) (cues-are x) in
-    let f = form-held x (s .args .form .now) _ (b .result) (b .last .1 .1 .1 .1 .1 .0) (b .last .1 .1 .1 .1 .1 .1 .0) (b .last .1 .1 .1 .1 .1 .1 .1 .0) (b .ensures k (x .model)) _ _ _ (c .before .before .before .before .before .before .before .before .cues .given .1) _ last in
+    let f = both-held x (s .args .names .now) (s .args .form .now) (b .result) (b .last .1 .1 .1 .1 .1 .0) (b .last .1 .1 .1 .1 .1 .1 .0) (b .last .1 .1 .1 .1 .1 .1 .1 .0) (b .ensures k (x .model)) _ _ _ (c .before .before .before .before .before .before .before .before .cues .given .1) _ last in
     ((k, f .0, f .2), (b .kept .1 .1 .1 .1 .1 .0 ∙ length-replicate {A = ℕ} 3000 0, b .kept .1 .1 .1 .1 .1 .1 .0 ∙ length-replicate {A = ℕ} 3000 0, b .kept .1 .1 .1 .1 .1 .1 .1 .0 ∙ length-replicate {A = ℕ} 3000 0, s .pre .1 .0, s .pre .1 .1, plan-few k (x .model .read) _ last))
 
 enum-known-answer : tie.Need-enum-known-answer
