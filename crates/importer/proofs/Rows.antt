@@ -1,16 +1,19 @@
 -- The rows of the import call put together: the made text and what is found of it, as the definitions have them in one. Assumes nothing.
 use mathlib.Core.Path.{_≡_, refl, sym, ap, subst, _∙_}
+use mathlib.Core.Bool.{Bool, true, false}
 use mathlib.Core.List.{List}
 use Prim.Native.Nat.{ℕ, _-_, _≤_, _<_}
 use native.Mathlib.Omega.{arith}
 use lib.ListN.{length, take, replicate}
 use lib.Seq.{take-at}
+use borrow.Author.Tests.{le-ltb}
 use Rattle.rules.specs.declared.Answer.{Answer}
+use Rattle.rules.specs.declared.Answer.the-variants.{LongText}
 use Rattle.rules.specs.Result.{Result, found, refused, _>>=_, _>>_}
 use Rattle.rules.specs.Case.{Case, readCase}
 use Rattle.rules.specs.Print.{printed}
 use Rattle.rules.specs.Tree.{Tree}
-use Rattle.rules.specs.Verdict.{Lent, listsLong, textShort, Found, answerOf, filled, statesAfter}
+use Rattle.rules.specs.Verdict.{Lent, textMost, checkLists, listsLong, textShort, Found, answerOf, filled, statesAfter}
 use Rattle.rules.specs.Writing.{roomFor}
 use Rattle.rules.specs.Gaps.{beforeChoices, firstAccepted, findGaps, triedAfter, choiceCount, Limited}
 use Rattle.rules.specs.Naming.{Names, readNames}
@@ -218,3 +221,52 @@ made-text (refused a) size n output e = apart (cc)
 pub made-refused : (m : Result (List ℕ)) (size : ℕ) (a : Answer) (output : List ℕ) → MadeIs m size (Refused a) output → m ≡ refused a
 made-refused (found made) size a output (e, o, h) = apart (cc)
 made-refused (refused b) size a output e = ap refused (let same : a ≡ b = cc in sym same)
+
+-- ---- With lists that are long enough
+
+pub lent-found : (states nodes work′ work : ℕ) → work′ ≡ work → (room′ room : ℕ) → room′ ≡ room → (m : Result (List ℕ)) (made : List ℕ) → m ≡ found made
+    → {r : Outcome} {ss ws output : List ℕ}
+    → Imports (λ n. thenFind n (checkLists states nodes work′) made) (Limited (beforeChoices (checkLists states nodes work′) made)) states room′ r ss ws output
+    → Imports (λ n. fromMade n (checkLists states nodes work) m) (LimitedTo (checkLists states nodes work) m) states room r ss ws output
+lent-found states nodes work′ work w room′ room o m made e x =
+    imports-as
+    (λ n.
+    ap (λ (i : ℕ). thenFind n (checkLists states nodes i) made) w
+    ∙ sym (ap (fromMade n (checkLists states nodes work)) e))
+    (λ n l.
+    subst (λ (q : Result (List ℕ)). LimitedTo (checkLists states nodes work) q n) (sym e)
+    (subst (λ (i : ℕ). Limited (beforeChoices (checkLists states nodes i) made) n) w l))
+    refl o x
+
+pub lent-refused : (lists : List Lent) (m : Result (List ℕ)) (a : Answer) → m ≡ refused a → {size room : ℕ} {r : Outcome} {states work output : List ℕ}
+    → r .answer ≡ a → r .tried ≡ 0 → r .length ≡ 0 → states ≡ replicate size 0 → output ≡ replicate room 0
+    → Imports (λ n. fromMade n lists m) (LimitedTo lists m) size room r states work output
+lent-refused lists m a e x t l s o =
+    imports-refused a (λ n. ap (fromMade n lists) e) (subst (λ (q : Result (List ℕ)). LimitedTo lists q 0) (sym e) tt) x t l s o
+
+-- ---- All rows
+
+module _ (lists : List Lent) (room : ℕ) (text names form : List ℕ) where
+  pub all-passed : listsLong lists ≡ found tt → textShort text ≡ found tt → {size : ℕ} {r : Outcome} {states work output : List ℕ}
+      → Imports (λ i. fromMade i lists (madeText room text names form)) (LimitedTo lists (madeText room text names form)) size room r states work output
+      → Imports (λ i. importForm i lists room text names form) (LimitedAs lists room text names form) size room r states work output
+  all-passed l s x =
+      let w = whole-passed room text names form lists l s in
+      imports-as
+      (λ i. ap (fromMade i lists) (sym w) ∙ sym (import-made room text names form lists i))
+      (λ i h. subst (λ (t : Result (List ℕ)). LimitedTo lists t i) (sym w) h)
+      refl refl x
+
+  pub all-refused : (a : Answer) → (listsLong lists >> textShort text) ≡ refused a → {size : ℕ} {r : Outcome} {states work output : List ℕ}
+      → r .answer ≡ a → r .tried ≡ 0 → r .length ≡ 0 → states ≡ replicate size 0 → output ≡ replicate room 0
+      → Imports (λ i. importForm i lists room text names form) (LimitedAs lists room text names form) size room r states work output
+  all-refused a e x t l s o =
+      let w = whole-refused room text names form lists a e in
+      imports-refused a
+      (λ i. import-made room text names form lists i ∙ ap (fromMade i lists) w)
+      (subst (λ (q : Result (List ℕ)). LimitedTo lists q 0) (sym w) tt)
+      x t l s o
+
+pub text-short : (text : List ℕ) → length text ≤ textMost → textShort text ≡ found tt
+text-short text h =
+    ap (λ (x : Bool). elim x as (λ y. Result (Unit {0})) [ true ↦ refused LongText | false ↦ found tt ]) (le-ltb textMost (length text) h)
