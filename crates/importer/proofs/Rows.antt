@@ -18,14 +18,16 @@ use Rattle.rules.specs.Writing.{roomFor}
 use Rattle.rules.specs.Gaps.{beforeChoices, firstAccepted, findGaps, triedAfter, choiceCount, Limited}
 use Rattle.rules.specs.Naming.{Names, readNames}
 use Rattle.rules.specs.Form.{Form, readForm, idsRight}
-use Rattle.rules.specs.Import.{madeCase, madeFrom, importForm, foundTree, madeAfter, madeLength}
+use Rattle.rules.specs.Import.{madeCase, madeFrom, importForm, foundTree, madeAfter, madeLength, LimitedMade}
 use Rattle.records.specs.Records.{RecordsHeld}
 use Rattle.finder.specs.declared.Discovery.{Discovery}
 use Rattle.finder.specs.Finding.{Finds}
+use Rattle.finder.proofs.Counting.{limited-one}
+use Rattle.finder.proofs.Rows.{limits-hold}
 use Rattle.importer.specs.declared.Outcome.{Outcome}
 use Rattle.importer.specs.declared.Made.{Made}
 use Rattle.importer.specs.declared.Made.the-variants.{Text, Refused}
-use Rattle.importer.specs.Importing.{madeOf, madeBeside, madeText, MadeIs, thenFind, fromMade, LimitedTo, LimitedAs, Imports}
+use Rattle.importer.specs.Importing.{madeOf, madeBeside, madeText, MadeIs, thenFind, fromMade, LimitedTo, Imports}
 
 apart : {A : Type 0} → _≡_ {A = ℕ} 0 1 → A
 apart z = absurd (omega arith)
@@ -197,18 +199,18 @@ imports-as {f} {g} {limited} {allowed} {n} {l} {m} {room} {r} {states} {work} {o
 
 -- A refusal, whatever the number.
 pub imports-refused : {f : ℕ → Found (Tree × List ℕ)} {limited : ℕ → Type 0} {size room : ℕ} {r : Outcome} {states work output : List ℕ} (a : Answer) → ((n : ℕ) → f n ≡ refused a)
-    → limited 0 → r .answer ≡ a → r .tried ≡ 0 → r .length ≡ 0 → states ≡ replicate size 0 → output ≡ replicate room 0
+    → limited 1 → r .answer ≡ a → r .tried ≡ 0 → r .length ≡ 0 → states ≡ replicate size 0 → output ≡ replicate room 0
     → Imports f limited size room r states work output
 unfolding triedAfter madeLength madeAfter statesAfter RecordsHeld
 imports-refused {f} {limited} {size} {room} {r} {states} {work} {output} a e w x t l s o = record {
-  number = 0;
+  number = 1;
   within = w;
-  answer = x ∙ sym (ap answerOf (e 0));
-  answered = t ∙ sym (ap (λ (h : Found (Tree × List ℕ)). triedAfter 0 (foundTree h)) (e 0));
-  sized = l ∙ sym (ap madeLength (e 0));
-  statesHeld = s ∙ sym (ap (statesAfter size) (e 0));
-  recordsHeld = subst (λ (h : Found (Tree × List ℕ)). RecordsHeld (foundTree h) work) (sym (e 0)) tt;
-  put = o ∙ sym (ap (madeAfter room) (e 0));
+  answer = x ∙ sym (ap answerOf (e 1));
+  answered = t ∙ sym (ap (λ (h : Found (Tree × List ℕ)). triedAfter 1 (foundTree h)) (e 1));
+  sized = l ∙ sym (ap madeLength (e 1));
+  statesHeld = s ∙ sym (ap (statesAfter size) (e 1));
+  recordsHeld = subst (λ (h : Found (Tree × List ℕ)). RecordsHeld (foundTree h) work) (sym (e 1)) tt;
+  put = o ∙ sym (ap (madeAfter room) (e 1));
 }
 
 -- ---- What was made
@@ -242,30 +244,47 @@ pub lent-refused : (lists : List Lent) (m : Result (List ℕ)) (a : Answer) → 
     → r .answer ≡ a → r .tried ≡ 0 → r .length ≡ 0 → states ≡ replicate size 0 → output ≡ replicate room 0
     → Imports (λ n. fromMade n lists m) (LimitedTo lists m) size room r states work output
 lent-refused lists m a e x t l s o =
-    imports-refused a (λ n. ap (fromMade n lists) e) (subst (λ (q : Result (List ℕ)). LimitedTo lists q 0) (sym e) tt) x t l s o
+    imports-refused a (λ n. ap (fromMade n lists) e) (subst (λ (q : Result (List ℕ)). LimitedTo lists q 1) (sym e) refl) x t l s o
 
 -- ---- All rows
 
-module _ (lists : List Lent) (room : ℕ) (text names form : List ℕ) where
-  pub all-passed : listsLong lists ≡ found tt → textShort text ≡ found tt → {size : ℕ} {r : Outcome} {states work output : List ℕ}
-      → Imports (λ i. fromMade i lists (madeText room text names form)) (LimitedTo lists (madeText room text names form)) size room r states work output
-      → Imports (λ i. importForm i lists room text names form) (LimitedAs lists room text names form) size room r states work output
-  all-passed l s x =
-      let w = whole-passed room text names form lists l s in
-      imports-as
-      (λ i. ap (fromMade i lists) (sym w) ∙ sym (import-made room text names form lists i))
-      (λ i h. subst (λ (t : Result (List ℕ)). LimitedTo lists t i) (sym w) h)
-      refl refl x
+-- 1 is within the limits of any text.
+one-limited : (lists : List Lent) (text : List ℕ) → Limited (beforeChoices lists text) 1
+one-limited lists text = limits-hold 1 lists text (limited-one text)
 
-  pub all-refused : (a : Answer) → (listsLong lists >> textShort text) ≡ refused a → {size : ℕ} {r : Outcome} {states work output : List ℕ}
-      → r .answer ≡ a → r .tried ≡ 0 → r .length ≡ 0 → states ≡ replicate size 0 → output ≡ replicate room 0
-      → Imports (λ i. importForm i lists room text names form) (LimitedAs lists room text names form) size room r states work output
-  all-refused a e x t l s o =
-      let w = whole-refused room text names form lists a e in
-      imports-refused a
-      (λ i. import-made room text names form lists i ∙ ap (fromMade i lists) w)
-      (subst (λ (q : Result (List ℕ)). LimitedTo lists q 0) (sym w) tt)
-      x t l s o
+module _ (lists : List Lent) (room : ℕ) where
+  within-made : (m : Result Case) (n : ℕ) → LimitedTo lists (m >>= λ made. roomFor room (printed made) >> found (printed made)) n → LimitedMade lists m n
+  within-made (refused a) n h = tt
+  within-made (found made) n h = go (roomFor room (printed made)) h
+    where
+      go : (r : Result (Unit {0})) → LimitedTo lists (r >> found (printed made)) n → Limited (beforeChoices lists (printed made)) n
+      go (found u) q = q
+      go (refused a) q = subst (Limited (beforeChoices lists (printed made))) (sym q) (one-limited lists (printed made))
+
+  module _ (text names form : List ℕ) where
+    abbrev All : ℕ → Outcome → List ℕ → List ℕ → List ℕ → Type 0
+    All size r states work output =
+        Imports (λ i. importForm i lists room text names form) (LimitedMade lists (madeFrom lists text names form)) size room r states work output
+
+    pub all-passed : listsLong lists ≡ found tt → textShort text ≡ found tt → {size : ℕ} {r : Outcome} {states work output : List ℕ}
+        → Imports (λ i. fromMade i lists (madeText room text names form)) (LimitedTo lists (madeText room text names form)) size room r states work output
+        → All size r states work output
+    all-passed l s x =
+        let w = whole-passed room text names form lists l s in
+        imports-as
+        (λ i. ap (fromMade i lists) (sym w) ∙ sym (import-made room text names form lists i))
+        (λ i h. within-made (madeFrom lists text names form) i (subst (λ (t : Result (List ℕ)). LimitedTo lists t i) (sym w) h))
+        refl refl x
+
+    pub all-refused : (a : Answer) → (listsLong lists >> textShort text) ≡ refused a → {size : ℕ} {r : Outcome} {states work output : List ℕ}
+        → r .answer ≡ a → r .tried ≡ 0 → r .length ≡ 0 → states ≡ replicate size 0 → output ≡ replicate room 0
+        → All size r states work output
+    all-refused a e x t l s o =
+        let w = whole-refused room text names form lists a e in
+        imports-refused a
+        (λ i. import-made room text names form lists i ∙ ap (fromMade i lists) w)
+        (within-made (madeFrom lists text names form) 1 (subst (λ (q : Result (List ℕ)). LimitedTo lists q 1) (sym w) refl))
+        x t l s o
 
 pub text-short : (text : List ℕ) → length text ≤ textMost → textShort text ≡ found tt
 text-short text h =

@@ -88,14 +88,10 @@ thenFind number lists made = findGaps number lists made >>= λ (k, t). found (k,
 abbrev pub fromMade : ℕ → List Lent → Result (List ℕ) → Found (Tree × List ℕ)
 fromMade number lists made = made >>= λ text. thenFind number lists text
 
--- The number tried is within Card 4's limits for the made text, if there is one.
+-- The number tried is within Card 4's limits for the made text, if there is one; else it is 1, which is within the limits of any text.
 abbrev pub LimitedTo : List Lent → Result (List ℕ) → ℕ → Type 0
 LimitedTo lists (found made) number = Limited (beforeChoices lists made) number
-LimitedTo lists (refused a) number = Unit {0}
-
-abbrev pub LimitedAs : List Lent → ℕ → List ℕ → List ℕ → List ℕ → ℕ → Type 0
-LimitedAs lists size text names form number =
-    LimitedTo lists (madeFrom lists text names form >>= λ made. roomFor size (printed made) >> found (printed made)) number
+LimitedTo lists (refused a) number = number ≡ 1
 
 -- What the call answers, and leaves in a state list and an output of these sizes and in the work space: the records of the tree found as columns.
 pub record Imports (f : ℕ → Found (Tree × List ℕ)) (limited : ℕ → Type 0) (size room : ℕ) (r : Outcome) (states work output : List ℕ) : Type 0 where

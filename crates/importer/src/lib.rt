@@ -10,14 +10,14 @@ ghost use Rattle.rules.specs.Print.{linesText};
 ghost use Rattle.rules.specs.Form.{Form, formLines};
 ghost use Rattle.rules.specs.Verdict.{textMost, workNeed, checkLists, filled};
 ghost use Rattle.rules.specs.Gaps.{beforeChoices, Limited};
-ghost use Rattle.rules.specs.Import.{importForm};
+ghost use Rattle.rules.specs.Import.{madeFrom, importForm, LimitedMade};
 ghost use Rattle.judge.specs.Phases.{Cleared};
 ghost use Rattle.fields.specs.Standing.{Stands};
 ghost use Rattle.fields.specs.Directory.{IsRead, Roomy, NodesLast};
 ghost use Rattle.output.specs.Output.{HasLines};
 ghost use Rattle.links.specs.Links.{Lines, Spelled};
 ghost use Rattle.making.specs.Making.{PlanLast};
-ghost use Rattle.importer.specs.Importing.{ModelHere, BothAre, FormHeld, CaseHere, madeOf, madeBeside, madeText, MadeIs, PutMade, thenFind, fromMade, LimitedTo, LimitedAs, Imports};
+ghost use Rattle.importer.specs.Importing.{ModelHere, BothAre, FormHeld, CaseHere, madeOf, madeBeside, madeText, MadeIs, PutMade, thenFind, fromMade, LimitedTo, Imports};
 use forms::FormRead;
 use forms::LINES;
 use judge::Admission;
@@ -321,7 +321,7 @@ pub fn import(
     node_room: usize,
     output: &mut [u8],
 ) -> Outcome
-    ensures { λ r. ⌜ Imports (λ n. importForm n (checkLists (length (now (states .entry))) «node_room» (length (now (work .entry)))) (length (now (output .entry))) (now (text .entry)) (now (names .entry)) (now (form .entry))) (LimitedAs (checkLists (length (now (states .entry))) «node_room» (length (now (work .entry)))) (length (now (output .entry))) (now (text .entry)) (now (names .entry)) (now (form .entry))) (length (now (states .entry))) (length (now (output .entry))) r (now (states .exit)) (now (work .exit)) (now (output .exit)) ⌝ }
+    ensures { λ r. ⌜ Imports (λ n. importForm n (checkLists (length (now (states .entry))) «node_room» (length (now (work .entry)))) (length (now (output .entry))) (now (text .entry)) (now (names .entry)) (now (form .entry))) (LimitedMade (checkLists (length (now (states .entry))) «node_room» (length (now (work .entry)))) (madeFrom (checkLists (length (now (states .entry))) «node_room» (length (now (work .entry)))) (now (text .entry)) (now (names .entry)) (now (form .entry)))) (length (now (states .entry))) (length (now (output .entry))) r (now (states .exit)) (now (work .exit)) (now (output .exit)) ⌝ }
 {
     rows::clear(states);
     match judge::admit(text, states.len(), node_room, work.len()) {
