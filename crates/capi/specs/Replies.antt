@@ -6,6 +6,7 @@ use Rattle.rules.specs.Verdict.{Report}
 use Rattle.capi.specs.declared.Reply.{Reply}
 use Rattle.capi.specs.declared.Written.{Written}
 use Rattle.capi.specs.declared.Found.{Found}
+use Rattle.capi.specs.declared.Imported.{Imported}
 
 -- The report that a reply is: the same five numbers.
 abbrev pub reportOf : Reply → Report
@@ -18,6 +19,10 @@ writtenReport r = record { number = r .number; line = r .line; item = r .item; c
 -- And of what the find-the-gaps call returns.
 abbrev pub foundReport : Found → Report
 foundReport r = record { number = r .number; line = r .line; item = r .item; cues = r .cues; nodes = r .nodes }
+
+-- And of what the import call returns.
+abbrev pub importedReport : Imported → Report
+importedReport r = record { number = r .number; line = r .line; item = r .item; cues = r .cues; nodes = r .nodes }
 
 -- A step's answer as a number, 1 for yes, beside the state.
 abbrev pub stepReply : Bool × State → ℕ × State

@@ -1,5 +1,6 @@
 // The calls for C and Rust. An exported call returns a struct of numbers, since it cannot return an enum.
 use finder::Discovery;
+use importer::Outcome;
 use rules::Answer;
 use rules::Node;
 use state::State;
@@ -12,7 +13,8 @@ ghost use Rattle.rules.specs.Verdict.{refusal, reported};
 ghost use Rattle.rules.specs.Demands.{borrowed, lentBy, Demand1, Demand2, Demand3, ReplayDemand1};
 ghost use Rattle.rules.specs.Writing.{WriteDemand1, WriteAnswers, WriterLaws};
 ghost use Rattle.rules.specs.Gaps.{FindDemand1, FindAnswers};
-ghost use Rattle.capi.specs.Replies.{reportOf, writtenReport, foundReport, stepReply, lentAction};
+ghost use Rattle.rules.specs.Import.{ImportDemand1};
+ghost use Rattle.capi.specs.Replies.{reportOf, writtenReport, foundReport, importedReport, stepReply, lentAction};
 
 // The answer's row of the table: number, line and item, 0 for acceptance; k and n of an acceptance, 0 for a refusal.
 #[repr(C)]
@@ -199,6 +201,63 @@ pub extern "C" fn cuecheck_find_gaps(
     verdict::fill(nodes, work, records_found(found));
     rows::clear_work(work);
     as_found(found)
+}
+
+// The answer's row of the table, as in a reply, how many choices of gaps were tried and how long the made text is, both 0 for a refusal.
+#[repr(C)]
+pub struct Imported {
+    pub number: u32,
+    pub line: u32,
+    pub item: u32,
+    pub cues: u32,
+    pub nodes: u32,
+    pub tried: u32,
+    pub length: u32,
+}
+
+// How many records the import call comes with.
+fn records_imported(o: Outcome) -> usize
+    ensures { λ r. ⌜ r ≡ reported (o .answer) .nodes ⌝ }
+{
+    let answer = o.answer;
+    verdict::count_of(answer)
+}
+
+// The numbers of what the import call answers.
+fn as_imported(o: Outcome) -> Imported
+    ensures { λ r. ⌜ (importedReport r ≡ reported (o .answer)) × (r .tried ≡ o .tried) × (r .length ≡ o .length) ⌝ }
+{
+    let answer = o.answer;
+    let r = as_reply(answer);
+    Imported {
+        number: r.number,
+        line: r.line,
+        item: r.item,
+        cues: r.cues,
+        nodes: r.nodes,
+        tried: o.tried,
+        length: o.length,
+    }
+}
+
+// The import call (02, Card 6).
+#[no_mangle]
+pub extern "C" fn cuecheck_import(
+    text: &[u8],
+    names: &[u8],
+    form: &[u8],
+    states: &mut [u64],
+    nodes: &mut [Node],
+    work: &mut [u32],
+    output: &mut [u8],
+) -> Imported
+    ensures { λ r. ⌜ ImportDemand1 (now (text .entry)) (now (names .entry)) (now (form .entry)) (borrowed (now (states .entry)) (now (nodes .entry)) (now (work .entry))) (now (output .entry)) (importedReport r) (r .tried) (r .length) (borrowed (now (states .exit)) (now (nodes .exit)) (now (work .exit))) (now (output .exit)) ⌝ }
+{
+    let room = nodes.len();
+    let outcome = importer::import(text, names, form, states, work, room, output);
+    verdict::fill(nodes, work, records_imported(outcome));
+    rows::clear_work(work);
+    as_imported(outcome)
 }
 
 // What the step call returns: 1 if the action applies and 0 if not, and for the trace which words were computed, word w as bit w.
