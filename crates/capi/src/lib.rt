@@ -228,13 +228,13 @@ fn as_imported(o: Outcome) -> Imported
     ensures { λ r. ⌜ (importedReport r ≡ reported (o .answer)) × (r .tried ≡ o .tried) × (r .length ≡ o .length) ⌝ }
 {
     let answer = o.answer;
-    let r = as_reply(answer);
+    let numbers = as_reply(answer);
     Imported {
-        number: r.number,
-        line: r.line,
-        item: r.item,
-        cues: r.cues,
-        nodes: r.nodes,
+        number: numbers.number,
+        line: numbers.line,
+        item: numbers.item,
+        cues: numbers.cues,
+        nodes: numbers.nodes,
         tried: o.tried,
         length: o.length,
     }
