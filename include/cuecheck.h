@@ -40,6 +40,14 @@ typedef struct cuecheck_found {
     uint32_t tried;       /* one more than there are choices of gaps ahead of the one found */
 } cuecheck_found;
 
+/* What the import call answers. Accepted: number, line and item are 0. Refused: a row of the table in README.md, and the rest is 0. */
+typedef struct cuecheck_imported {
+    uint32_t number, line, item;
+    uint32_t cues, nodes; /* k and n, of the case made */
+    uint32_t tried;       /* as in cuecheck_found */
+    uint32_t length;      /* of the text put out, in bytes */
+} cuecheck_imported;
+
 /* What the step call answers. */
 typedef struct cuecheck_stepped {
     uint32_t applied;  /* 1: the action applies, 0: it doesn't */
@@ -88,6 +96,27 @@ cuecheck_found cuecheck_find_gaps(const uint8_t *text, size_t text_len,
                                   uint64_t *states, size_t states_len,
                                   cuecheck_node *nodes, size_t nodes_len,
                                   uint32_t *work, size_t work_len);
+
+/* Takes a plan in the planning competition's form: text is a case, names the name list of its tasks and methods, form the plan (README.md has both). The
+   case's plan and nodes are replaced by the form's, with gaps 0, and the gaps of the case so made are looked for as by cuecheck_find_gaps.
+   Refused, in this order, are: number 1; 2, 3 and 4 of the case; 17 and 18 of the name list, line by line and 17 first on each, item 1; the same of the
+   form, item 0; 19, item 0; an output that is too short, number 14, item the bytes needed, even if they are more than CUECHECK_TEXT; then what
+   cuecheck_find_gaps refuses of the made text, with that text's lines (2, 4 with over 1,000 action lines, 5, 6, 7, 15 and 16 can occur).
+   17: a line that is missing, surplus or of another shape; the 3,001st action or compound line too, both counted together.
+   18: a name that isn't listed for that use, one listed again among the tasks or among the methods (the later line), or another task or another number of
+   subtasks than the method's.
+   19: the first line that defines an id defined twice, twice a subtask, the root under a parent or not reached from the root, or that uses an id never
+   defined.
+   Accepted, the lists are as by cuecheck_find_gaps, the gaps found in the records; output has the made text with gaps 0 whatever they are, and zero after.
+   Refused, output is zero too. It has no least length, nor have names and form any limit. The three texts are only read and may overlap or be the same; a
+   list that is written overlaps nothing. */
+cuecheck_imported cuecheck_import(const uint8_t *text, size_t text_len,
+                                  const uint8_t *names, size_t names_len,
+                                  const uint8_t *form, size_t form_len,
+                                  uint64_t *states, size_t states_len,
+                                  cuecheck_node *nodes, size_t nodes_len,
+                                  uint32_t *work, size_t work_len,
+                                  uint8_t *output, size_t output_len);
 
 /* Applies one action. If it applies, the next state is written in place of state; if not, state is as it came. A word whose added and deleted words are
    both zero passes through untouched; the others are computed, also where one comes out as it was, and computed has their bits, none above bit 7. Needed and
