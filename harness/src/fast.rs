@@ -19,11 +19,10 @@ mod slots;
 mod walking;
 mod writing;
 
-use crate::plain::Imported;
 use case::{with_tables, Action, Case};
 use constraints::first_broken;
 use cuecheck::{Accepted, Placed, Tidied};
-pub use cuecheck::{Found, Node, Refusal, Reply, Set, Stepped, Written};
+pub use cuecheck::{Found, Imported, Node, Refusal, Reply, Set, Stepped, Written};
 use finding::{find, members};
 use form::{preorder, put_case, read_form};
 use names::read_names;

@@ -12,8 +12,8 @@
 #[path = "plain/import.rs"]
 mod import;
 
-pub use cuecheck::{Found, Node, Refusal, Reply, Set, Stepped, Written};
-pub use import::{import, Imported};
+pub use cuecheck::{Found, Imported, Node, Refusal, Reply, Set, Stepped, Written};
+pub use import::import;
 use std::ops::{Range, RangeBounds};
 
 /// The words of a state.

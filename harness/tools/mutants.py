@@ -563,14 +563,11 @@ PROGRAM = """
 mod plain;
 use harness::compare;
 use harness::gen::forms::Texts;
-use harness::plain::Imported;
 
 fn main() {
     let mutant: compare::ImportCall = |Texts { case, names, form }, lists, lengths, output| {
         let (states, nodes, work, output) = lists.lend_all(lengths, output);
-        let plain::Imported { number, line, item, cues, nodes, tried, length } =
-            plain::import(case, names, form, states, nodes, work, output);
-        Imported { number, line, item, cues, nodes, tried, length }
+        plain::import(case, names, form, states, nodes, work, output)
     };
     compare::run_import(compare::PLAIN_IMPORT, mutant, "mutant");
 }

@@ -87,6 +87,29 @@ pub struct Placed {
     pub tried: u32,
 }
 
+/// What the import call answers: number 0 with k, n, how many choices of gaps were tried and the length of the text put out, or a row of the table in
+/// README.md with all four 0.
+#[repr(C)]
+#[derive(Clone, Copy, Debug, PartialEq, Eq)]
+pub struct Imported {
+    pub number: u32,
+    pub line: u32,
+    pub item: u32,
+    pub cues: u32,
+    pub nodes: u32,
+    pub tried: u32,
+    pub length: u32,
+}
+
+/// k and n of the case made, how many choices of gaps were tried for it, and the length of its text, in bytes.
+#[derive(Clone, Copy, Debug, PartialEq, Eq)]
+pub struct Made {
+    pub cues: u32,
+    pub nodes: u32,
+    pub tried: u32,
+    pub length: u32,
+}
+
 /// What the step call answers: whether the action applies, and which words of the next state were computed.
 #[repr(C)]
 #[derive(Clone, Copy, Debug, PartialEq, Eq)]
@@ -132,6 +155,15 @@ impl Found {
     }
 }
 
+impl Imported {
+    pub fn result(self) -> Result<Made, Refusal> {
+        match self.number {
+            0 => Ok(Made { cues: self.cues, nodes: self.nodes, tried: self.tried, length: self.length }),
+            number => Err(Refusal { number, line: self.line, item: self.item }),
+        }
+    }
+}
+
 impl Stepped {
     pub fn applies(self) -> bool {
         self.applied == 1
@@ -146,4 +178,4 @@ impl Stepped {
 #[cfg(feature = "linked")]
 mod linked;
 #[cfg(feature = "linked")]
-pub use linked::{check, find_gaps, replay, step, write};
+pub use linked::{check, find_gaps, import, replay, step, write};

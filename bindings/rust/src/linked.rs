@@ -1,6 +1,6 @@
 //! The calls. This is the only file with unsafe code: each passes a slice's own pointer and length, which is what the declarations ask for.
 
-use crate::{Found, Node, Reply, Set, Stepped, Written};
+use crate::{Found, Imported, Node, Reply, Set, Stepped, Written};
 
 // Not bundled into this crate: a new archive only needs the programs to be linked again.
 #[link(name = "capi", kind = "static", modifiers = "-bundle")]
@@ -45,6 +45,22 @@ extern "C" {
         work: *mut u32,
         work_len: usize,
     ) -> Found;
+    fn cuecheck_import(
+        text: *const u8,
+        text_len: usize,
+        names: *const u8,
+        names_len: usize,
+        form: *const u8,
+        form_len: usize,
+        states: *mut u64,
+        states_len: usize,
+        nodes: *mut Node,
+        nodes_len: usize,
+        work: *mut u32,
+        work_len: usize,
+        output: *mut u8,
+        output_len: usize,
+    ) -> Imported;
     fn cuecheck_step(
         state: *mut Set,
         needed: *const Set,
@@ -116,6 +132,41 @@ pub fn find_gaps(text: &[u8], states: &mut [u64], nodes: &mut [Node], work: &mut
             nodes.len(),
             work.as_mut_ptr(),
             work.len(),
+        )
+    }
+}
+
+/// Takes a plan in the planning competition's form: the case's plan and nodes are replaced by the form's, with gaps 0, its names by the name list, and the
+/// gaps of the case so made are looked for as by `find_gaps`. Numbers 1 to 4 of the case come first, then 17 and 18 of the name list (item 1), of the form
+/// (item 0), and 19; then 14 for an output that is too short, its item the bytes needed; then what `find_gaps` refuses of the made text. Accepted, the lists
+/// are as by `find_gaps`, and `output` has the made text with gaps 0, whatever gaps are found, and zero after. Refused, all of them are zero. Names and form
+/// have no limit of length.
+pub fn import(
+    text: &[u8],
+    names: &[u8],
+    form: &[u8],
+    states: &mut [u64],
+    nodes: &mut [Node],
+    work: &mut [u32],
+    output: &mut [u8],
+) -> Imported {
+    // SAFETY: as in `check`; the three texts are only read, so that these may overlap.
+    unsafe {
+        cuecheck_import(
+            text.as_ptr(),
+            text.len(),
+            names.as_ptr(),
+            names.len(),
+            form.as_ptr(),
+            form.len(),
+            states.as_mut_ptr(),
+            states.len(),
+            nodes.as_mut_ptr(),
+            nodes.len(),
+            work.as_mut_ptr(),
+            work.len(),
+            output.as_mut_ptr(),
+            output.len(),
         )
     }
 }

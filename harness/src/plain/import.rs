@@ -5,24 +5,10 @@
 //! made (`make`), and `find_gaps` judges it. Every name and every id is looked up by going through the whole list.
 
 use super::{find_gaps, read_with, refuse, Case, Checked, Node, Refusal, NODES_ASKED, STATES_ASKED, WORK_ASKED};
-use cuecheck::Placed;
+use cuecheck::{Imported, Placed};
 
 /// The most action and compound lines, counted together.
 const DEFINITIONS: usize = 3_000;
-
-/// What the call answers: number 0 with k, n, how many choices of gaps were tried and the length of the text put out, or a refusal with
-/// all four 0.
-#[repr(C)]
-#[derive(Clone, Copy, Debug, PartialEq, Eq)]
-pub struct Imported {
-    pub number: u32,
-    pub line: u32,
-    pub item: u32,
-    pub cues: u32,
-    pub nodes: u32,
-    pub tried: u32,
-    pub length: u32,
-}
 
 /// The import call: numbers 1 to 4 of the case, 17 and 18 of the name list, 17 to 19 of the form, 14, and then whatever is found of the
 /// case made. That case is put out as it is made, with gaps 0.
