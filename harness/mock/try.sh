@@ -18,7 +18,7 @@ compare() {
     touch src/bin/compare_*.rs src/bin/properties.rs
     RUSTFLAGS="-L native=$PWD/target/staticlib" cargo build --quiet --release --offline -p harness \
         --target-dir target/linked --features linked
-    for call in replay check write gaps step; do
+    for call in replay check write gaps import step; do
         printf '%s: ' "$call"
         target/linked/release/compare_$call "$count" "$seed" | cut -c1-200 || true
     done

@@ -1,7 +1,7 @@
 //! Runs both plain renderings and, with the feature linked (see compare_check.rs for the command), the library on the worked
 //! cases of document 02's cards. A case is a folder with `call`, `case`, `expect` and perhaps `expect.output`; one of the import call
 //! has `names` and `form` too, one of the step call has its sets in `call`. Of a card's folder those are run that call check, replay,
-//! write, gaps, import or step and hold now. The library has no import call yet.
+//! write, gaps, import or step and hold now.
 //!
 //! cards FOLDER...
 
@@ -26,32 +26,32 @@ struct Rendering {
     replay: fn(&[u8], &mut [u64], &mut [u32]) -> Reply,
     write: fn(&[u8], &mut [u64], &mut [Node], &mut [u32], &mut [u8]) -> Written,
     find_gaps: fn(&[u8], &mut [u64], &mut [Node], &mut [u32]) -> Found,
-    import: Option<Import>,
+    import: Import,
     step: StepCall,
 }
 
 type Import = fn(&[u8], &[u8], &[u8], &mut [u64], &mut [Node], &mut [u32], &mut [u8]) -> Imported;
 
-/// The calls of a module, its import call, if it has one, and its step call.
+/// The calls of a module, and its step call.
 macro_rules! rendering {
-    ($name:literal, $module:ident, $import:expr, $step:expr) => {
+    ($name:literal, $module:ident, $step:expr) => {
         Rendering {
             name: $name,
             check: $module::check,
             replay: $module::replay,
             write: $module::write,
             find_gaps: $module::find_gaps,
-            import: $import,
+            import: $module::import,
             step: $step,
         }
     };
 }
 
 const RENDERINGS: &[Rendering] = &[
-    rendering!("plain", plain, Some(plain::import), compare::PLAIN_STEP),
-    rendering!("fast", fast, Some(fast::import), fast::step),
+    rendering!("plain", plain, compare::PLAIN_STEP),
+    rendering!("fast", fast, fast::step),
     #[cfg(feature = "linked")]
-    rendering!("linked", cuecheck, None, compare::LINKED_STEP),
+    rendering!("linked", cuecheck, compare::LINKED_STEP),
 ];
 
 /// The answer with states and records, the text put out, and whether all that is left of the lists is zero.
@@ -82,9 +82,7 @@ fn main() {
     for case in folders.iter().filter_map(|folder| Case::of(folder)) {
         count += 1;
         for rendering in RENDERINGS {
-            let Some(told) = case.told_by(rendering) else {
-                continue;
-            };
+            let told = case.told_by(rendering);
             if told != case.due {
                 differing += 1;
                 println!("{}: {} {told:?}, due {:?}", case.name, rendering.name, case.due);
@@ -125,18 +123,18 @@ impl Case {
         })
     }
 
-    /// What a rendering tells, if it has the call.
-    fn told_by(&self, rendering: &Rendering) -> Option<Told> {
+    /// What a rendering tells.
+    fn told_by(&self, rendering: &Rendering) -> Told {
         match &self.given {
             Given::Sets(step) => {
-                Some(Told { answer: worded::told_by(rendering.step, *step), output: Vec::new(), rest_zero: true })
+                Told { answer: worded::told_by(rendering.step, *step), output: Vec::new(), rest_zero: true }
             }
             Given::Texts(texts, lengths, output) => self.told_of(texts, *lengths, *output, rendering),
         }
     }
 
     /// What a rendering tells of texts, with lists that come in dirty.
-    fn told_of(&self, texts: &Texts, lengths: Lengths, output: usize, rendering: &Rendering) -> Option<Told> {
+    fn told_of(&self, texts: &Texts, lengths: Lengths, output: usize, rendering: &Rendering) -> Told {
         let Texts { case, names, form } = texts;
         let mut lists = Lists::with_output();
         lists.soil(Dirt::Counting);
@@ -147,7 +145,7 @@ impl Case {
             "check" => Answer::of_reply((rendering.check)(case, states, nodes, work)),
             "replay" => Answer::of_reply((rendering.replay)(case, states, work)),
             "gaps" => Answer::of_found((rendering.find_gaps)(case, states, nodes, work)),
-            "import" => Answer::of_imported(rendering.import?(case, names, form, states, nodes, work, output)),
+            "import" => Answer::of_imported((rendering.import)(case, names, form, states, nodes, work, output)),
             _ => Answer::of_written((rendering.write)(case, states, nodes, work, output)),
         };
         let rows = if answer.reply.number == 0 { answer.reply.cues as usize + 1 } else { 0 };
@@ -161,7 +159,7 @@ impl Case {
             && unused.iter().all(|&node| node == Node::default())
             && work.iter().all(|&n| n == 0)
             && spare.iter().all(|&byte| byte == 0);
-        Some(Told { answer: told, output: put_out.to_vec(), rest_zero })
+        Told { answer: told, output: put_out.to_vec(), rest_zero }
     }
 }
 
