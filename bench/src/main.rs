@@ -1,13 +1,15 @@
 //! Median times of the two plain renderings' calls, the clear one's (plain) and the fast one's, and, with the feature
 //! linked (see compare_check.rs for the command), of the linked ones in the same run. First the check and replay calls, then
 //! the write call, beside the check call of the last rendering on the same input, then the call that finds the gaps, of the fast
-//! rendering and the linked one, which go by the same method (the clear one tries every choice), and last the step call.
+//! rendering and the linked one, which go by the same method (the clear one tries every choice), then the import call of these two, beside
+//! the check call of the case made, and last the step call.
 //!
 //! bench [ROUNDS [CASE]]
 
 #[cfg(feature = "linked")]
 use harness::compare::LINKED_STEP;
 use harness::compare::{StepCall, PLAIN_STEP};
+use harness::gen::forms::{self, Texts, Timed};
 use harness::gen::steps::{self, Step};
 use harness::gen::tangles::{self, Standing};
 use harness::gen::{extremes, gaps, Rng, Weave};
@@ -19,7 +21,10 @@ use std::time::{Duration, Instant};
 /// A call on a text with lists of the length asked for, and an output as long as the text.
 type Call = fn(&[u8], &mut Lists) -> u32;
 
-/// The check, replay or write call of one rendering, or the one that finds the gaps; its answer's number.
+/// The same of the import call, with an output of this length.
+type Import = fn(&Texts, &mut Lists, usize) -> u32;
+
+/// The check, replay, write or import call of one rendering, or the one that finds the gaps; its answer's number.
 macro_rules! call {
     ($rendering:ident check) => {
         |text, lists| {
@@ -37,6 +42,12 @@ macro_rules! call {
         |text, lists| {
             let (states, nodes, work) = lists.lend(Lengths::EXACT);
             $rendering::find_gaps(text, states, nodes, work).number
+        }
+    };
+    ($rendering:ident import) => {
+        |Texts { case, names, form }, lists, output| {
+            let (states, nodes, work, output) = lists.lend_all(Lengths::EXACT, output);
+            $rendering::import(case, names, form, states, nodes, work, output).number
         }
     };
     ($rendering:ident write) => {
@@ -59,6 +70,8 @@ const WRITES: &[Call] = &[call!(plain write), call!(fast write), call!(cuecheck 
 
 #[cfg(feature = "linked")]
 const FINDS: &[Call] = &[call!(fast find_gaps), call!(cuecheck find_gaps)];
+#[cfg(feature = "linked")]
+const IMPORTS: &[Import] = &[call!(fast import), call!(cuecheck import)];
 
 #[cfg(not(feature = "linked"))]
 const RENDERINGS: &[&str] = &["plain", "fast"];
@@ -68,6 +81,8 @@ const CALLS: [&[Call]; 2] = [&[call!(plain check), call!(fast check)], &[call!(p
 const WRITES: &[Call] = &[call!(plain write), call!(fast write), call!(fast check)];
 #[cfg(not(feature = "linked"))]
 const FINDS: &[Call] = &[call!(fast find_gaps)];
+#[cfg(not(feature = "linked"))]
+const IMPORTS: &[Import] = &[call!(fast import)];
 
 #[cfg(feature = "linked")]
 const STEP_CALLS: &[StepCall] = &[PLAIN_STEP, fast::step, LINKED_STEP];
@@ -99,6 +114,8 @@ fn main() {
     show_writing(&columns, rounds, &wanted);
     println!();
     show_finding(rounds, &wanted);
+    println!();
+    show_importing(rounds, &wanted);
     println!();
     show_steps(&columns, rounds, &wanted);
 }
@@ -174,6 +191,25 @@ fn cases_to_find() -> Vec<(String, Vec<u8>)> {
     cases
 }
 
+/// The import call, and the check call of the last rendering on the case made.
+fn show_importing(rounds: usize, wanted: &str) {
+    let columns = columns(RENDERINGS[1..].iter().map(|name| name.to_string()), "ratio".into());
+    let of_it = "check of the case made, and what importing is of it";
+    println!("{:<33}{:>6} {:>6} | {:<width$} | {of_it}", "", "", "", "import; linked / fast", width = columns.len());
+    let last = RENDERINGS[RENDERINGS.len() - 1];
+    println!("{:<33}{:>6} {:>6} | {columns} | {last:>9}{:>7}", "form", "bytes", "answer", "ratio");
+    for Timed { name, texts, made } in forms::timed().into_iter().filter(|timed| timed.name.starts_with(wanted)) {
+        let bytes = [&texts.case, &texts.names, &texts.form].map(Vec::len).iter().sum::<usize>();
+        let answer = IMPORTS[0](&texts, &mut Lists::with_output(), made.len());
+        let times = medians_of_form(&texts, &made, rounds);
+        let [imports @ .., check] = &times[..] else { unreachable!("a time for each call") };
+        let import = imports[imports.len() - 1];
+        let ratio = format!("{:.2}", import / imports[0]);
+        let cells = self::columns(imports.iter().map(|time| format!("{time:.1}")), ratio);
+        println!("{name:<33}{bytes:>6} {answer:>6} | {cells} | {check:>9.1}{:>7.2}", import / check);
+    }
+}
+
 /// The step call, a thousand times on some inputs in turn.
 fn show_steps(columns: &str, rounds: usize, wanted: &str) {
     println!("{:<40} | {columns}", format!("step, {STEPS} calls"));
@@ -241,6 +277,22 @@ fn medians_of_text(text: &[u8], calls: &[Call], rounds: usize) -> Vec<f64> {
     medians(calls, rounds, |call| {
         let begin = Instant::now();
         black_box(call(black_box(text), &mut lists));
+        begin.elapsed()
+    })
+}
+
+/// The medians of the import calls, and last that of the check call.
+fn medians_of_form(texts: &Texts, made: &[u8], rounds: usize) -> Vec<f64> {
+    let mut lists = Lists::with_output();
+    let check = CALLS[0][RENDERINGS.len() - 1];
+    // None stands for the check.
+    let sides: Vec<Option<&Import>> = IMPORTS.iter().map(Some).chain([None]).collect();
+    medians(&sides, rounds, |side| {
+        let begin = Instant::now();
+        black_box(match side {
+            Some(import) => import(black_box(texts), &mut lists, made.len()),
+            None => check(black_box(made), &mut lists),
+        });
         begin.elapsed()
     })
 }

@@ -1,13 +1,15 @@
 //! The settled readings of Card 6 of document 02, one by one, each as texts and their answer; both renderings on the inputs of chosen
 //! size; what the generated inputs promise.
 
+use cuecheck::{NODES, STATES, WORK};
 use harness::compare::PLAIN_IMPORT;
 use harness::gen::forms::faults::{Fault, FAULTS};
-use harness::gen::forms::{self, Texts};
+use harness::gen::forms::{self, Texts, Timed};
 use harness::gen::{gaps, Inputs, Rng};
 use harness::lists::{Dirt, Lengths, Lists, MADE};
 use harness::plain::{Imported, Node};
 use harness::{fast, plain};
+use std::collections::BTreeSet;
 
 /// 01's panel case, with the case's own plan and nodes.
 fn panel(plan_and_nodes: &str) -> String {
@@ -682,6 +684,37 @@ fn inputs_of_chosen_size() {
         };
         assert!(told.starts_with(due), "{name}: {told}");
     }
+}
+
+/// Those that are timed are accepted, have as many lines as their names say, and make the case that is said, but for its gap.
+#[test]
+fn timed_inputs() {
+    for Timed { name, texts, made } in forms::timed() {
+        let (told, put_out, records) = imported_with(&texts, Lengths::EXACT, made.len());
+        assert!(told.starts_with("Y,"), "{name}: {told}");
+        let lines = texts.form.iter().filter(|&&byte| byte == b'\n').count() - 3;
+        assert!(name.starts_with(&format!("{lines} lines")) || name == "four nodes", "{name}: {lines}");
+        let (states, nodes, work) = (&mut [0; STATES], &mut [Node::default(); NODES], &mut [0; WORK]);
+        assert_eq!(plain::check(&made, states, nodes, work).number, 0, "{name}");
+        assert_eq!(records, nodes[..records.len()], "{name}");
+        let made = String::from_utf8(made).expect("a text");
+        let without_gap = |line: &str| match line.rsplit_once(',') {
+            Some((front, _)) if line.starts_with("E,") => format!("{front},0\n"),
+            _ => format!("{line}\n"),
+        };
+        assert_eq!(put_out, made.lines().map(without_gap).collect::<String>(), "{name}");
+    }
+}
+
+/// 2,048 task names that differ, and all have the hash of the proved call's table.
+#[test]
+fn timed_names_of_a_hash() {
+    let Timed { texts, .. } = forms::timed().pop().expect("an input");
+    let list = String::from_utf8(texts.names).expect("a text");
+    let tasks: BTreeSet<&str> = list.lines().take(2_048).map(|line| line.split_once(',').expect("a name").1).collect();
+    assert_eq!(tasks.len(), 2_048);
+    let hash = |name: &str| name.bytes().fold(0, |hash: u32, byte| hash.wrapping_mul(31).wrapping_add(byte.into()));
+    assert_eq!(tasks.iter().map(|name| hash(name)).collect::<BTreeSet<u32>>().len(), 1);
 }
 
 /// How many of so many inputs with this fault are refused with its number, and how many are accepted.

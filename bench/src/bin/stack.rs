@@ -3,6 +3,8 @@
 //! RUSTFLAGS="-L native=target/staticlib" cargo run --release --offline --features linked --bin stack
 
 use cuecheck::{Node, NODES, STATES, WORK};
+use harness::gen::forms::{self, Texts};
+use harness::lists::MADE;
 
 const PAINTED: usize = 1 << 20;
 const PAINT: u8 = 0xA5;
@@ -63,6 +65,25 @@ fn measured(text: String) -> (u32, [usize; 4]) {
         let gaps = touched(&mut || _ = cuecheck::find_gaps(text.as_bytes(), &mut states, &mut nodes, &mut work));
         (number, [check, replay, write, gaps])
     };
+    on_thread(run)
+}
+
+/// The same of the import call.
+fn measured_import(texts: Texts) -> (u32, usize) {
+    let Texts { case, names, form } = texts;
+    let run = move || {
+        let (mut states, mut nodes, mut work) = (vec![0; STATES], vec![Node::default(); NODES], vec![0; WORK]);
+        let (mut output, mut number) = (vec![0; MADE], 0);
+        let import = touched(&mut || {
+            let imported = cuecheck::import(&case, &names, &form, &mut states, &mut nodes, &mut work, &mut output);
+            number = imported.number;
+        });
+        (number, import)
+    };
+    on_thread(run)
+}
+
+fn on_thread<T: Send + 'static>(run: impl FnOnce() -> T + Send + 'static) -> T {
     std::thread::Builder::new().stack_size(8 * PAINTED).spawn(run).expect("a thread").join().expect("a measure")
 }
 
@@ -79,5 +100,10 @@ fn main() {
     for (name, text) in cases {
         let (number, [check, replay, write, gaps]) = measured(text);
         println!("{name:<34}{number:>8}{check:>10}{replay:>10}{write:>10}{gaps:>10}");
+    }
+    println!("\n{:<34}{:>8}{:>10}", "form", "answer", "import");
+    for (name, texts) in forms::all() {
+        let (number, import) = measured_import(texts);
+        println!("{name:<34}{number:>8}{import:>10}");
     }
 }

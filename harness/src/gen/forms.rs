@@ -61,6 +61,17 @@ impl Sheet {
         let tasks = draw_names(rng, draft.actions.len() + draft.compound as usize, &[]);
         let methods = draw_names(rng, draft.methods.len(), &tasks);
         let ids = draw_ids(rng, draft);
+        let mut sheet = Sheet::with(draft, tasks, methods, &ids);
+        match rng.below(5) {
+            0 => {}
+            1 => sheet.compounds.reverse(),
+            _ => rng.shuffle(&mut sheet.compounds),
+        }
+        sheet
+    }
+
+    /// The form with these names and ids, the compound lines in the tree's order.
+    fn with(draft: &Draft, tasks: Vec<Name>, methods: Vec<Name>, ids: &[u32]) -> Sheet {
         let children = children_of(draft);
         let mut actions = vec![(0, Name::new()); draft.plan.len()];
         let mut compounds = Vec::new();
@@ -76,11 +87,6 @@ impl Sheet {
                     subtasks: children[at].iter().map(|&child| ids[child]).collect(),
                 }),
             }
-        }
-        match rng.below(5) {
-            0 => {}
-            1 => compounds.reverse(),
-            _ => rng.shuffle(&mut compounds),
         }
         let of_method = |method: &super::Method| (method.task as usize, method.subtasks.len());
         let model = Model { actions: draft.actions.len(), methods: draft.methods.iter().map(of_method).collect() };
@@ -547,6 +553,79 @@ fn of_drafts(rng: &mut Rng) -> Vec<(&'static str, Texts)> {
         ("3000 nodes, most of them empty", three_thousand(10, 4, 6)),
     ];
     cases.map(|(name, draft)| (name, Sheet::of(rng, &draft).texts(draft.text()))).to_vec()
+}
+
+// ---------------------------------------------------------------- timed inputs
+
+/// An input that is timed.
+pub struct Timed {
+    pub name: &'static str,
+    pub texts: Texts,
+    /// The case that is made, with the gap that is found: an accepted one.
+    pub made: Vec<u8>,
+}
+
+/// Inputs of chosen size that are accepted; the case beside has no plan, and names are plain. So many action and compound lines together,
+/// with as many cues as fit and one empty task, or none where there are 3,000. As many names as there may be, the last ones in use; the same
+/// with tasks whose names all have one hash in the proved call.
+pub fn timed() -> Vec<Timed> {
+    let limits = with_last_tasks(three_thousand_full(1_000, 1_024, 1_024, 2_048));
+    let colliding = colliding_names(limits.actions.len() + limits.compound as usize);
+    vec![
+        timed_as("four nodes", &super::extremes::four_nodes(), None),
+        timed_as("100 lines, 94 cues", &one_gap_found(94), None),
+        timed_as("1000 lines, 965 cues", &one_gap_found(965), None),
+        timed_as("1036 lines, 1000 cues", &one_gap_found(1_000), None),
+        timed_as("3000 lines, 1000 cues", &three_thousand_full(1_000, 10, 4, 6), None),
+        timed_as("3000 lines, 4096 names", &limits, None),
+        timed_as("3000 lines, 2048 names of a hash", &limits, Some(colliding)),
+    ]
+}
+
+/// Ids as a planner may give them: the cues from 0 on, then the other tasks.
+fn timed_as(name: &'static str, draft: &Draft, tasks: Option<Vec<Name>>) -> Timed {
+    let numbered = |word: &str, count: usize| (0..count).map(|n| format!("{word}-{n}").into_bytes()).collect();
+    let tasks = tasks.unwrap_or_else(|| numbered("task", draft.actions.len() + draft.compound as usize));
+    let mut others = draft.plan.len() as u32..;
+    let id = |line: &Line| match *line {
+        Line::L(_, position) => position - 1,
+        _ => others.next().expect("an id"),
+    };
+    let ids: Vec<u32> = draft.lines.iter().map(id).collect();
+    let sheet = Sheet::with(draft, tasks, numbered("method", draft.methods.len()), &ids);
+    Timed { name, texts: sheet.texts(shortened(draft).text()), made: draft.text() }
+}
+
+/// A case that is accepted: its empty task, node 1, stands in the gap that is found.
+fn one_gap_found(cues: usize) -> Draft {
+    let mut draft = gaps::one_gap(cues);
+    draft.lines[1] = Line::E(1, cues.min(960) as u32);
+    draft
+}
+
+/// The same with the last actions and compound tasks in use in place of the first ten and four.
+fn with_last_tasks(mut draft: Draft) -> Draft {
+    let (actions, compound) = (draft.actions.len() as u32, draft.compound);
+    let raise = |task: &mut u32| *task += if *task < actions { actions - 10 } else { compound - 4 };
+    raise(&mut draft.goal);
+    draft.plan.iter_mut().for_each(raise);
+    for method in &mut draft.methods {
+        raise(&mut method.task);
+        method.subtasks.iter_mut().for_each(raise);
+    }
+    for line in &mut draft.lines {
+        if let Line::L(action, _) = line {
+            raise(action);
+        }
+    }
+    draft
+}
+
+/// So many names, up to 2,048, with one hash, which is 31 times the hash of what came before, and the next byte: the same after `Aa` and
+/// after `BB`.
+fn colliding_names(count: usize) -> Vec<Name> {
+    let block = |number: usize, bit: usize| if number >> bit & 1 == 0 { b"Aa" } else { b"BB" };
+    (0..count).map(|number| (0..11).flat_map(|bit| *block(number, bit)).collect()).collect()
 }
 
 /// An id that no line of the form has.

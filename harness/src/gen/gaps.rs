@@ -479,12 +479,17 @@ fn turning(cues: usize, turns: u32, all_at_last: bool) -> Draft {
 
 /// 1,000 cues in blocks with four constraints each, and one empty task, which has to follow 960 of them.
 pub fn thousand() -> Draft {
-    let mut draft = turning(1_000, 32, false);
+    one_gap(1_000)
+}
+
+/// The same with so many cues; the empty task has to follow all of them, if they are no more than 960. A block of one has no constraints.
+pub(super) fn one_gap(cues: usize) -> Draft {
+    let mut draft = turning(cues, 32, false);
     let (g, z) = (draft.goal, draft.goal + 2);
     draft.methods = vec![method(g, vec![z]), method(z, vec![])];
     draft.lines = vec![Line::D(0), Line::E(1, 0)];
     put_cues(&mut draft, 0);
-    for block in &mut draft.methods[2..] {
+    for block in draft.methods[2..].iter_mut().filter(|block| block.subtasks.len() > 1) {
         block.constraints = vec![
             Constraint::Order(0, 1),
             Constraint::Before(is(EVER), 2),
