@@ -4,20 +4,24 @@ use mathlib.Core.Path.{_≡_}
 use mathlib.Core.Bool.{true, false}
 use mathlib.Core.List.{List, [], _∷_, _++_, map}
 use mathlib.Core.Option.{Option, none, some}
-use Prim.Native.Nat.{ℕ, zero, suc}
+use Prim.Native.Nat.{ℕ, zero, suc, _≤_}
 use lib.Dec.{eqb}
 use lib.ListN.{length, replicate}
 use Rattle.rules.specs.declared.Header.{Header}
+use Rattle.rules.specs.declared.Answer.{Answer}
+use Rattle.rules.specs.declared.Answer.the-variants.{WrongId}
 use Rattle.rules.specs.Result.{Result, found, refused, _>>=_, _>>_}
 use Rattle.rules.specs.Case.{NodeLine, D, E, L, Case, readCase}
 use Rattle.rules.specs.Print.{printed}
 use Rattle.rules.specs.Tree.{Tree, leaf, empty, task, Trees, noTree, more}
 use Rattle.rules.specs.Verdict.{Report, reported, Lent, listsLong, textShort, Found, answerOf, filled, statesAfter, nodesAfter, workAfter}
+use Rattle.rules.specs.Refusals.{Admits, Shows}
 use Rattle.rules.specs.Demands.{Borrowed, lentBy}
 use Rattle.rules.specs.Writing.{roomFor}
 use Rattle.rules.specs.Gaps.{findGaps, triedAfter, beforeChoices, Limited}
 use Rattle.rules.specs.Naming.{Names, readNames}
 use Rattle.rules.specs.Form.{FormLine, cueLine, taskLine, Form, readForm, defines, formLines, idsRight}
+use Rattle.rules.specs.FormFaults.{NamesFault, NamesAre, FormFault, FormIs, WrongAt, FirstWrong}
 
 -- ---- The made case
 
@@ -144,6 +148,37 @@ pub record HasForm (text names form : List ℕ) (k : Case) (t : Tree) : Type 0 w
   pub methods : k .methods ≡ model .methods
   pub goal : k .head .goal ≡ model .head .goal
 
+-- The rows ahead of the made case, in the card's order, as statements.
+module _ (lists : List Lent) (text names form : List ℕ) where
+  -- What refuses the three texts ahead of the made case.
+  pub data Stops : Answer → Type 0 where
+    -- "01's 1 to 4 on the case come first"
+    onCase : {a : Answer} → reported a .number ≤ 4 → Shows lists text (reported a .number) (reported a .line) (reported a .item) → Stops a
+    -- "then 17 and 18 on the name list"
+    onNames : {k : Case} {a : Answer} → Admits lists text → readCase text ≡ found k → NamesFault (k .head) names a → Stops a
+    -- "then the form"
+    onForm : {k : Case} {ns : Names} {a : Answer} → Admits lists text → readCase text ≡ found k → NamesAre (k .head) names ns
+        → FormFault k ns form a → Stops a
+    -- 19, "after all lines"
+    onIds : {k : Case} {ns : Names} {f : Form} {l : ℕ} → Admits lists text → readCase text ≡ found k → NamesAre (k .head) names ns
+        → FormIs k ns form f → FirstWrong f l → Stops (WrongId l)
+
+  -- What the made case is made of where nothing does.
+  pub record Passes (made : Case) : Type 0 where
+    pub model : Case
+    pub listed : Names
+    pub lines : Form
+    pub admits : Admits lists text
+    pub reads : readCase text ≡ found model
+    pub names-are : NamesAre (model .head) names listed
+    pub form-is : FormIs model listed form lines
+    pub right : (l : ℕ) → WrongAt lines l → ⊥
+    pub is : made ≡ madeCase model lines
+
+  abbrev pub MadeShows : Result Case → Type 0
+  MadeShows (found made) = Passes made
+  MadeShows (refused a) = Stops a
+
 -- The number tried is within Card 4's limits for the made text.
 abbrev pub LimitedMade : List Lent → Result Case → ℕ → Type 0
 LimitedMade lists (found made) n = Limited (beforeChoices lists (printed made)) n
@@ -162,3 +197,4 @@ pub record ImportDemand1 (text names form : List ℕ) (before : Borrowed) (outpu
   pub work : after .work ≡ workAfter (length (before .work))
   pub holds : (k : Case) (t : Tree) (made : List ℕ) → importForm number (lentBy before) (length output) text names form ≡ found (k, (t, made))
       → HasForm text names form k t
+  pub shows : MadeShows (lentBy before) text names form (madeFrom (lentBy before) text names form)

@@ -25,6 +25,7 @@ pub mod Gaps
 pub mod Tokens
 pub mod Naming
 pub mod Form
+pub mod FormFaults
 pub mod Import
 -- The program's line, and 01's ten panel cases.
 pub mod Line
