@@ -11,3 +11,5 @@ pub mod Trees
 -- The made case, and what is found of it.
 pub mod Made
 pub mod Found
+-- What reading says of a name list and of a form.
+pub mod Says

@@ -53,20 +53,28 @@ split-some parts (b ∷ bs) = go (parts b)
     go false = on (pieces parts bs)
 
 module _ (text : List ℕ) (l place : ℕ) (s : Starts text l place) where
-  line-is : {x : List ℕ} {xs : List (List ℕ)} → pieces isFeed (drop place text) ≡ x ∷ xs → textLine text l ≡ x
+  pub line-is : {x : List ℕ} {xs : List (List ℕ)} → pieces isFeed (drop place text) ≡ x ∷ xs → textLine text l ≡ x
   unfolding textLine
   line-is {x} {xs} e =
       ap (λ (t : List (List ℕ)). getD t (l - 1) []) (s .lines ∙ ap (λ (t : List (List ℕ)). s .past ++ t) e)
       ∙ getD-at (s .past) x xs [] (l - 1) (omega (arith, s .counted))
 
-  unended : hasFeed (drop place text) ≡ false → Ended text l → ⊥
+  pub next-starts : (line : List ℕ) (next : ℕ) → pieces isFeed (drop place text) ≡ line ∷ pieces isFeed (drop next text) → Starts text (l + 1) next
+  next-starts line next e =
+      record {
+        past = s .past ++ line ∷ [];
+        lines = s .lines ∙ ap (λ (t : List (List ℕ)). s .past ++ t) e ∙ sym (append-snoc (s .past) line (pieces isFeed (drop next text)));
+        counted = simp length-append (omega (arith, s .counted));
+      }
+
+  pub unended : hasFeed (drop place text) ≡ false → Ended text l → ⊥
   unfolding Ended
   unended e h =
       let one : pieces isFeed (drop place text) ≡ drop place text ∷ [] = split-none (drop place text) e in
       omega (arith, s .counted, h, simp length-append at (ap length (s .lines)), ap length one)
 
   module _ (w : LineIn (drop place text)) where
-    ended-here : Ended text l
+    pub ended-here : Ended text l
     unfolding Ended
     ended-here =
         omega (arith, s .counted, simp length-append at (ap length (s .lines)), ap length (w .lines), split-some isFeed (w .after))
@@ -79,14 +87,7 @@ module _ (text : List ℕ) (l place : ℕ) (s : Starts text l place) where
     first-is = ap (λ (t : List (List ℕ)). getD t 0 []) fields-are
 
     starts-next : (next : ℕ) → drop next text ≡ w .after → Starts text (l + 1) next
-    starts-next next e =
-        record {
-          past = s .past ++ w .line ∷ [];
-          lines =
-              s .lines ∙ ap (λ (t : List (List ℕ)). s .past ++ t) (w .lines ∙ ap (λ (bs : List ℕ). w .line ∷ pieces isFeed bs) (sym e))
-              ∙ sym (append-snoc (s .past) (w .line) (pieces isFeed (drop next text)));
-          counted = simp length-append (omega (arith, s .counted));
-        }
+    starts-next next e = next-starts (w .line) next (w .lines ∙ ap (λ (bs : List ℕ). w .line ∷ pieces isFeed bs) (sym e))
 
 -- What stands past the last line that is due is a line, ended or not.
 pub surplus-line : (text : List ℕ) (l place : ℕ) → Starts text l place → place < length text → Ended text l ⊎ (textLine text l ≢ [])
