@@ -13,3 +13,4 @@ pub mod Made
 pub mod Found
 -- What reading says of a name list and of a form.
 pub mod Says
+pub mod NamesShow
