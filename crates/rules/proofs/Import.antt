@@ -15,3 +15,4 @@ pub mod Found
 pub mod Says
 pub mod NamesShow
 pub mod IdsShow
+pub mod Shows

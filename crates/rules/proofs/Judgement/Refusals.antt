@@ -185,35 +185,37 @@ module _ (lists : List Lent) (text : List ℕ) where
 
   -- ---- Rows 1 to 4
 
+  -- A text that doesn't read is refused by 3 or 4, and shows why.
+  pub unread-shows : Admits lists text → (r : Answer) → FaultSays text r → (reported r .number ≤ 4) × AnswerShows lists text r
+  unfolding reported
+  unread-shows a (Answer.Unreadable line field) f = (omega arith, unread a f)
+  unread-shows a (Answer.OutOfRange line field) f = (omega arith, outside a f)
+  unread-shows a (Answer.Accepted cues nodes) f = absurd f
+  unread-shows a (Answer.ShortList i) f = absurd f
+  unread-shows a Answer.LongText f = absurd f
+  unread-shows a (Answer.Inapplicable line i) f = absurd f
+  unread-shows a (Answer.WrongNode line) f = absurd f
+  unread-shows a (Answer.TooDeep line) f = absurd f
+  unread-shows a (Answer.WrongClaim line i) f = absurd f
+  unread-shows a (Answer.Unclaimed line i) f = absurd f
+  unread-shows a (Answer.OrderBroken line i) f = absurd f
+  unread-shows a (Answer.BeforeBroken line i) f = absurd f
+  unread-shows a (Answer.AfterBroken line i) f = absurd f
+  unread-shows a (Answer.BetweenBroken line i) f = absurd f
+  unread-shows a (Answer.ShortOutput i) f = absurd f
+  unread-shows a (Answer.TooManyChoices i) f = absurd f
+  unread-shows a (Answer.NoChoice i) f = absurd f
+  unread-shows a (Answer.WrongShape line i) f = absurd f
+  unread-shows a (Answer.WrongName line i) f = absurd f
+  unread-shows a (Answer.WrongId line) f = absurd f
+
   text-says : Each LongEnough lists → CheckSays lists text (fromText fromTree text)
   unfolding fromText reported
   text-says l = go (textShort text) (short-says text)
     where
-      unread-shows : Admits lists text → (r : Answer) → FaultSays text r → AnswerShows lists text r
-      unread-shows a (Answer.Unreadable line field) f = unread a f
-      unread-shows a (Answer.OutOfRange line field) f = outside a f
-      unread-shows a (Answer.Accepted cues nodes) f = absurd f
-      unread-shows a (Answer.ShortList i) f = absurd f
-      unread-shows a Answer.LongText f = absurd f
-      unread-shows a (Answer.Inapplicable line i) f = absurd f
-      unread-shows a (Answer.WrongNode line) f = absurd f
-      unread-shows a (Answer.TooDeep line) f = absurd f
-      unread-shows a (Answer.WrongClaim line i) f = absurd f
-      unread-shows a (Answer.Unclaimed line i) f = absurd f
-      unread-shows a (Answer.OrderBroken line i) f = absurd f
-      unread-shows a (Answer.BeforeBroken line i) f = absurd f
-      unread-shows a (Answer.AfterBroken line i) f = absurd f
-      unread-shows a (Answer.BetweenBroken line i) f = absurd f
-      unread-shows a (Answer.ShortOutput i) f = absurd f
-      unread-shows a (Answer.TooManyChoices i) f = absurd f
-      unread-shows a (Answer.NoChoice i) f = absurd f
-      unread-shows a (Answer.WrongShape line i) f = absurd f
-      unread-shows a (Answer.WrongName line i) f = absurd f
-      unread-shows a (Answer.WrongId line) f = absurd f
-
       reading : Admits lists text → (r : Result Case) → readCase text ≡ r → CaseSays text r → CheckSays lists text (r >>= λ k. fromRun fromTree k)
       reading a (found k) e s = run-says k a e
-      reading a (refused r) e s = unread-shows a r s
+      reading a (refused r) e s = unread-shows a r s .1
 
       go : (o : Result (Unit {0})) → TextSays text o → CheckSays lists text (o >> (readCase text >>= λ k. fromRun fromTree k))
       go (found u) h = reading (record { lists-long = l; text-short = h }) (readCase text) refl (reading-shows text)
