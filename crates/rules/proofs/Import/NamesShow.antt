@@ -1,10 +1,10 @@
 -- Numbers 17 and 18 in the name list (02, Card 6): where the list is read it is without fault and has these names, and where it is refused its first
 -- fault stands. By induction on the lines that are left, with what the earlier ones list. Assumes nothing.
-use mathlib.Core.Path.{_≡_, refl, sym, ap, ap₂, _∙_, subst}
+use mathlib.Core.Path.{_≡_, refl, sym, ap, _∙_, subst}
 use mathlib.Core.Bool.{Bool, true, false, _&&_, _||_, false≢true}
 use mathlib.Core.Logic.{⊎-elim}
 use mathlib.Core.List.{List, [], _∷_}
-use mathlib.Core.Option.{Option, none, some}
+use mathlib.Core.Option.{none, some}
 use Prim.Native.Nat.{ℕ, zero, suc, _+_, _<_}
 use native.Mathlib.Nat.{add-zero, zero-add, not-suc-le-zero, le-of-suc-le-suc, eq-or-lt-of-le}
 use native.Mathlib.Omega.{arith}
@@ -14,17 +14,17 @@ use borrow.Author.Tests.{eqb-true, eq-eqb}
 use Rattle.rules.specs.declared.Header.{Header}
 use Rattle.rules.specs.declared.Answer.{Answer}
 use Rattle.rules.specs.declared.Answer.the-variants.{WrongShape, WrongName}
-use Rattle.rules.specs.Result.{Result, found, refused, _>>=_, _>>_}
+use Rattle.rules.specs.Result.{Result, found, refused}
 use Rattle.rules.specs.Text.{isComma, isPlain, valueOf}
 use Rattle.rules.specs.Faults.{pieces, Ended, textLine, fieldsAt}
 use Rattle.rules.specs.Tokens.{dueLine, noMore, shaped, isName, sameBytes}
-use Rattle.rules.specs.Naming.{Names, isAmong, nameFor, notAgain, nameLines, readNames}
+use Rattle.rules.specs.Naming.{isAmong, nameFor, notAgain, nameLines, readNames}
 use Rattle.rules.specs.FormFaults.{Stands, Lists, ListsNew, AllNew, PartFault, taskCount, NamesFault, PartIs, NamesAre}
 use Rattle.rules.proofs.Tables.{and-both}
 use Rattle.rules.proofs.Judgement.Each.{both-true}
 use Rattle.rules.proofs.Faults.Fields.{or-true}
 use Rattle.rules.proofs.Faults.Line.{Starts, starts-first}
-use Rattle.rules.proofs.Import.Says.{Says, says-bind, says-then, says-weaken, LineHere, due-says, more-says, same-bytes, Distinct}
+use Rattle.rules.proofs.Import.Says.{Says, says-bind, says-then, says-weaken, refusal-weaken, LineHere, due-says, more-says, same-bytes, Distinct}
 
 -- ---- One line
 
@@ -40,10 +40,8 @@ module _ (text : List ℕ) (l i : ℕ) where
   unfolding fieldsAt
   shape-says line is ended = go (pieces isComma line) (ap (pieces isComma) (sym is))
     where
-      other : {parts : List (List ℕ)} → fieldsAt text l ≡ parts → ((number name : List ℕ) → parts ≡ number ∷ name ∷ [] → ⊥) → (name : List ℕ) → Lists text l i name → ⊥
-      other e differ name v = differ (v .number) name (sym e ∙ v .parts)
-
-      two : (number name : List ℕ) → fieldsAt text l ≡ number ∷ name ∷ [] → (t : Bool) → (isPlain number && (eqb (valueOf 0 number) i && isName name)) ≡ t
+      two : (number name : List ℕ) → fieldsAt text l ≡ number ∷ name ∷ [] → (t : Bool)
+          → (isPlain number && (eqb (valueOf 0 number) i && isName name)) ≡ t
           → ShapeSays (shaped 1 l (elim t [ true ↦ some name | false ↦ none ]))
       two number name e true t =
           let outer = both-true (isPlain number) (eqb (valueOf 0 number) i && isName name) t in
@@ -59,17 +57,18 @@ module _ (text : List ℕ) (l i : ℕ) where
       )
 
       go : (parts : List (List ℕ)) → fieldsAt text l ≡ parts → ShapeSays (shaped 1 l (nameFor i parts))
-      go [] e = (refl, other e (λ number name d. let z : _≡_ {A = ℕ} 0 1 = cc in omega arith))
-      go (number ∷ []) e = (refl, other e (λ number name d. let z : _≡_ {A = ℕ} 0 1 = cc in omega arith))
+      go [] e = (refl, λ name v. let z : _≡_ {A = ℕ} 0 1 = cc in omega arith)
+      go (number ∷ []) e = (refl, λ name v. let z : _≡_ {A = ℕ} 0 1 = cc in omega arith)
       go (number ∷ name ∷ []) e = two number name e (isPlain number && (eqb (valueOf 0 number) i && isName name)) refl
-      go (number ∷ name ∷ more ∷ parts) e = (refl, other e (λ number name d. let z : _≡_ {A = ℕ} 0 1 = cc in omega arith))
+      go (number ∷ name ∷ more ∷ parts) e = (refl, λ name v. let z : _≡_ {A = ℕ} 0 1 = cc in omega arith)
 
 -- ---- The earlier lines
 
 -- The names of the numbers below i, that of the last one first.
 data Earlier (text : List ℕ) (from : ℕ) : ℕ → List (List ℕ) → Type 0 where
   start : Earlier text from 0 []
-  next : {i : ℕ} {names : List (List ℕ)} {name : List ℕ} → Earlier text from i names → ListsNew text from i name → Earlier text from (suc i) (name ∷ names)
+  next : {i : ℕ} {names : List (List ℕ)} {name : List ℕ} → Earlier text from i names → ListsNew text from i name
+      → Earlier text from (suc i) (name ∷ names)
 
 module _ (text : List ℕ) (from : ℕ) where
   -- An earlier line lists a name.
@@ -92,7 +91,8 @@ module _ (text : List ℕ) (from : ℕ) where
       go true t e ih = (i, omega arith, subst (Lists text (from + i) i) (same-bytes x name .0 t) (v .lists))
       go false t e ih = let (j, h, u) = ih e in (j, omega arith, u)
 
-  listed-among : {i : ℕ} {names : List (List ℕ)} (name : List ℕ) → Earlier text from i names → (j : ℕ) → j < i → Lists text (from + j) j name → isAmong names name ≡ true
+  listed-among : {i : ℕ} {names : List (List ℕ)} (name : List ℕ) → Earlier text from i names → (j : ℕ) → j < i
+      → Lists text (from + j) j name → isAmong names name ≡ true
   listed-among name Earlier.start j h u = absurd (not-suc-le-zero h)
   listed-among name (Earlier.next {i = i} {names = names} {name = x} w v) j h u =
       below-now {P = λ j. Lists text (from + j) j name → isAmong (x ∷ names) name ≡ true}
@@ -146,13 +146,14 @@ module _ (text : List ℕ) (from total : ℕ) where
       let R : Answer → Type 0 = PartFault text from total in
       let l = from + i in
       let due : i < total = omega arith in
-      let other : (a : Answer) → a ≡ WrongShape l 1 → ((name : List ℕ) → Lists text l i name → ⊥) → R a = λ a e never. rw e (PartFault.other due (all-new text from w) never) in
+      let before : AllNew text from i = all-new text from w in
+      let other : (a : Answer) → a ≡ WrongShape l 1 → ((name : List ℕ) → Lists text l i name → ⊥) → R a = λ a e never. rw e (PartFault.other due before never) in
       says-bind (LineHere text l) Q R (dueLine text 1 l place) _
-      (says-weaken _ _ _ R (dueLine text 1 l place) (λ x p. p) (λ a (e, never). other a e (λ name v. never (v .ended))) (due-says text 1 l place s))
+      (refusal-weaken _ _ R (dueLine text 1 l place) (λ a (e, never). other a e (λ name v. never (v .ended))) (due-says text 1 l place s))
       (λ (line, n′, place′) (is, ended, e, s′). says-bind (Lists text l i) Q R (shaped 1 l (nameFor i (pieces isComma line))) _
-      (says-weaken _ _ _ R (shaped 1 l (nameFor i (pieces isComma line))) (λ x p. p) (λ a (e, never). other a e never) (shape-says text l i line is ended))
-      (λ name lists. says-then (λ u. (j : ℕ) → j < i → Lists text (from + j) j name → ⊥) Q R (notAgain l earlier name) _
-      (says-weaken _ _ _ R (notAgain l earlier name) (λ x p. p) (λ a (e, (j, h, v)). rw e (PartFault.again due (all-new text from w) lists h v)) (again-says text from name w))
+      (refusal-weaken _ _ R (shaped 1 l (nameFor i (pieces isComma line))) (λ a (e, never). other a e never) (shape-says text l i line is ended))
+      (λ name lists. says-then _ Q R (notAgain l earlier name) _
+      (refusal-weaken _ _ R (notAgain l earlier name) (λ a (e, (j, h, v)). rw e (PartFault.again due before lists h v)) (again-says text from name w))
       (λ u new.
       let v : ListsNew text from i name = record { lists = lists; new = new } in
       let later : n′ ≡ from + suc i = omega arith in
@@ -187,13 +188,16 @@ names-say h text =
     let Q = NamesAre h text in
     let R = NamesFault h text in
     let l = 1 + taskCount h in
+    let past = l + h .methods in
     says-bind _ Q R (nameLines text (taskCount h) 0 [] 1 0) _
-    (says-weaken _ _ _ R (nameLines text (taskCount h) 0 [] 1 0) (λ x p. p) (λ a p. NamesFault.tasks p) (part-says text 1 (taskCount h) 1 0 refl (starts-first text)))
+    (refusal-weaken _ _ R (nameLines text (taskCount h) 0 [] 1 0) (λ a p. NamesFault.tasks p)
+    (part-says text 1 (taskCount h) 1 0 refl (starts-first text)))
     (λ (tasks, n, place) (ts, e, s). says-bind _ Q R (nameLines text (h .methods) 0 [] n place) _
-    (says-weaken _ _ _ R (nameLines text (h .methods) 0 [] n place) (λ x p. p) (λ a p. NamesFault.methods (part-new ts) p) (part-says text l (h .methods) n place e s))
-    (λ (methods, n′, place′) (ms, e′, s′). says-then (λ u. Stands text (l + h .methods) → ⊥) Q R (noMore text 1 n′ place′) _
-    (says-weaken _ _ (λ a. (a ≡ WrongShape (l + h .methods) 1) × Stands text (l + h .methods)) R (noMore text 1 n′ place′) (λ x p. p) (λ a (e″, more). rw e″ (NamesFault.surplus (part-new ts) (part-new ms) more))
-    (rw e′ (more-says text 1 (l + h .methods) place′ s′)))
+    (refusal-weaken _ _ R (nameLines text (h .methods) 0 [] n place) (λ a p. NamesFault.methods (part-new ts) p)
+    (part-says text l (h .methods) n place e s))
+    (λ (methods, n′, place′) (ms, e′, s′). says-then (λ u. Stands text past → ⊥) Q R (noMore text 1 n′ place′) _
+    (refusal-weaken _ (λ a. (a ≡ WrongShape past 1) × Stands text past) R (noMore text 1 n′ place′)
+    (λ a (q, more). rw q (NamesFault.surplus (part-new ts) (part-new ms) more)) (rw e′ (more-says text 1 past place′ s′)))
     (λ u over. record { tasks = ts; methods = ms; over = over })))
 
 -- ---- Names that differ
@@ -206,5 +210,4 @@ distinct-names {text} {from} {count} {names} w i j hi hj e =
   where
     later : (i j : ℕ) → i < length names → j < length names → getD names i [] ≡ getD names j [] → i < j → ⊥
     later i j hi hj e h =
-        w .each j (subst (λ (k : ℕ). j < k) (w .counted) hj) .new i h
-        (subst (Lists text (from + i) i) e (w .each i (subst (λ (k : ℕ). i < k) (w .counted) hi) .lists))
+        w .each j (omega (arith, w .counted)) .new i h (subst (Lists text (from + i) i) e (w .each i (omega (arith, w .counted)) .lists))
