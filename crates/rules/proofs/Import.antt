@@ -13,3 +13,5 @@ pub mod Made
 pub mod Found
 -- What reading says of a name list and of a form.
 pub mod Says
+pub mod Shapes
+pub mod Uses
