@@ -99,13 +99,13 @@ module _ (k : Case) (ns : Names) (tasks : Distinct (ns .tasks)) where
       (λ i h. (λ q. (h, leb-true (k .head .actions) i q), λ p. le-leb (k .head .actions) i (p .1))) (λ i p. p .0)
 
   module _ (methods : Distinct (ns .methods)) (n : ℕ) (name method subtasks : List ℕ) where
-    abbrev Names : ℕ → Type 0
-    Names m = NamesMethod k ns name method (length subtasks) m
+    abbrev NamesBoth : ℕ → Type 0
+    NamesBoth m = NamesMethod k ns name method (length subtasks) m
 
-    method-says : (t : ℕ) → NamesCompound name t → Says Names (NoName Names n) (methodNamed k ns n t method subtasks)
+    method-says : (t : ℕ) → NamesCompound name t → Says NamesBoth (NoName NamesBoth n) (methodNamed k ns n t method subtasks)
     unfolding methodNamed suits
     method-says t (h, c) =
-        used-says (ns .methods) methods method Names (λ m. suits (methodAt (k .methods) m) t (length subtasks)) n
+        used-says (ns .methods) methods method NamesBoth (λ m. suits (methodAt (k .methods) m) t (length subtasks)) n
         (λ m g. (
           λ q. let (a, b) = both-true (eqb (methodAt (k .methods) m .task) t) (eqb (length (methodAt (k .methods) m .subtasks)) (length subtasks)) q in
           record {
@@ -121,10 +121,10 @@ module _ (k : Case) (ns : Names) (tasks : Distinct (ns .tasks)) where
         ))
         (λ m p. p .listed)
 
-    pub both-says : Says Names (NoName Names n) (bothNamed k ns n name method subtasks)
+    pub both-says : Says NamesBoth (NoName NamesBoth n) (bothNamed k ns n name method subtasks)
     unfolding bothNamed
     both-says =
-        says-bind (NamesCompound name) Names (NoName Names n) (compoundNamed k ns n name) _
-        (says-weaken (NamesCompound name) (NamesCompound name) (NoName (NamesCompound name) n) (NoName Names n) (compoundNamed k ns n name) (λ t p. p)
+        says-bind (NamesCompound name) NamesBoth (NoName NamesBoth n) (compoundNamed k ns n name) _
+        (says-weaken (NamesCompound name) (NamesCompound name) (NoName (NamesCompound name) n) (NoName NamesBoth n) (compoundNamed k ns n name) (λ t p. p)
         (λ a (e, f). (e, λ m p. f (p .task) (p .compound, p .notAction))) (compound-says n name))
         method-says
