@@ -15,3 +15,4 @@ pub mod Found
 pub mod Says
 pub mod Shapes
 pub mod Uses
+pub mod LinesShow

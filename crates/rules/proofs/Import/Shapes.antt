@@ -169,7 +169,7 @@ module _ (text : List ℕ) (l : ℕ) (ended : Ended text l) where
 
 -- A shape that is due: it is there, and the next line starts at this place.
 abbrev pub Shaped : {A : Type 0} → (A → Type 0) → List ℕ → ℕ → A × ℕ × ℕ → Type 0
-Shaped P text l (x, n, next) = P x × (n ≡ l + 1) × Starts text (l + 1) next
+Shaped P text l (x, n, next) = P x × (n ≡ l + 1) × Starts text n next
 
 -- The answer where there is none.
 abbrev pub NoShape : {A : Type 0} → (A → Type 0) → ℕ → Answer → Type 0
@@ -182,19 +182,38 @@ shaped-says P l (some a) p = p
 module _ {A : Type 0} (P : A → Type 0) (shapeOf : List (List ℕ) → Option A) (text : List ℕ) (l place : ℕ) (s : Starts text l place)
     (has : (x : A) → P x → Ended text l)
     (shape : Ended text l → (ws : List (List ℕ)) → wordsOf (textLine text l) ≡ ws → JustWhere P (shapeOf ws)) where
+  line-due : Says (LineHere text l) (NoShape P l) (dueLine text 0 l place)
+  line-due =
+      says-weaken (LineHere text l) (LineHere text l) _ (NoShape P l) (dueLine text 0 l place) (λ x p. p) (λ a (e, f). (e, λ x p. f (has x p)))
+      (due-says text 0 l place s)
+
+  shape-due : (line : List ℕ) (n next : ℕ) → LineHere text l (line, n, next)
+      → Says (λ x. Shaped P text l (x, n, next)) (NoShape P l) (shaped 0 l (shapeOf (wordsOf line)))
+  shape-due line n next (e, ended, p, t) =
+      says-weaken P (λ x. Shaped P text l (x, n, next)) (NoShape P l) (NoShape P l) (shaped 0 l (shapeOf (wordsOf line)))
+      (λ x h. (h, p, subst (λ (m : ℕ). Starts text m next) (sym p) t)) (λ a f. f)
+      (shaped-says P l (shapeOf (wordsOf line)) (shape ended (wordsOf line) (ap wordsOf (sym e))))
+
   line-says : Says (Shaped P text l) (NoShape P l)
       (dueLine text 0 l place >>= λ (line, n, next). shaped 0 l (shapeOf (wordsOf line)) >>= λ x. found (x, n, next))
   line-says =
-      says-bind (LineHere text l) (Shaped P text l) (NoShape P l) (dueLine text 0 l place) _
-      (says-weaken (LineHere text l) (LineHere text l) _ (NoShape P l) (dueLine text 0 l place) (λ x p. p)
-      (λ a (e, f). (e, λ x p. f (has x p))) (due-says text 0 l place s))
-      (λ (line, n, next) (e, ended, p, t). says-bind P (Shaped P text l) (NoShape P l) (shaped 0 l (shapeOf (wordsOf line))) _
-      (shaped-says P l (shapeOf (wordsOf line)) (shape ended (wordsOf line) (ap wordsOf (sym e)))) (λ x q. (q, p, t)))
+      says-bind (LineHere text l) (Shaped P text l) (NoShape P l) (dueLine text 0 l place) _ line-due
+      (λ (line, n, next) h. says-bind (λ x. Shaped P text l (x, n, next)) (Shaped P text l) (NoShape P l) (shaped 0 l (shapeOf (wordsOf line))) _
+      (shape-due line n next h) (λ x q. q))
 
 module _ (text : List ℕ) (l place : ℕ) (s : Starts text l place) where
-  pub opening-says : Says (Shaped (Opens text l) text l) (NoShape (Opens text l) l)
-      (dueLine text 0 l place >>= λ (line, n, next). shaped 0 l (openingOf (wordsOf line)) >>= λ u. found (u, n, next))
-  opening-says = line-says (Opens text l) openingOf text l place s (λ u h. h .ended) (opening-shape text l)
+  -- With what follows it.
+  pub opening-says : {B : Type 0} (Q : B → Type 0) (R : Answer → Type 0) (rest : ℕ → ℕ → Result B) → ((a : Answer) → NoShape (Opens text l) l a → R a)
+      → ((n next : ℕ) → Shaped (Opens text l) text l (tt, n, next) → Says Q R (rest n next))
+      → Says Q R (dueLine text 0 l place >>= λ (line, n, next). shaped 0 l (openingOf (wordsOf line)) >> rest n next)
+  opening-says Q R rest r f =
+      says-bind (LineHere text l) Q R (dueLine text 0 l place) _
+      (says-weaken (LineHere text l) (LineHere text l) _ R (dueLine text 0 l place) (λ x p. p) r
+      (line-due (Opens text l) openingOf text l place s (λ u h. h .ended) (opening-shape text l)))
+      (λ (line, n, next) h. says-then (λ u. Shaped (Opens text l) text l (u, n, next)) Q R (shaped 0 l (openingOf (wordsOf line))) (rest n next)
+      (says-weaken (λ u. Shaped (Opens text l) text l (u, n, next)) (λ u. Shaped (Opens text l) text l (u, n, next)) _ R (shaped 0 l (openingOf (wordsOf line))) (λ x p. p) r
+      (shape-due (Opens text l) openingOf text l place s (λ u h. h .ended) (opening-shape text l) line n next h))
+      (λ u h. f n next h))
 
   pub front-says : Says (Shaped (FrontAt text l) text l) (NoShape (FrontAt text l) l) (frontLine text l place)
   unfolding frontLine
