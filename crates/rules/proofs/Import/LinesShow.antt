@@ -144,9 +144,11 @@ module _ (k : Case) (ns : Names) (text : List ℕ) where
   TasksAfter f (es, n, next) = Due k ns text n (over (andTasks f es)) × Starts text n next
 
   task-says : (f : Form) (e : FormLine) (o : Read (List FormLine)) → Says (TasksAfter (andTask f e)) Fault o → Says (TasksAfter f) Fault (withTask e o)
-  task-says f e (found (es, n, next)) (d, s) =
-      (subst (λ (ts : List FormLine). Due k ns text n (over (record { cues = f .cues; rootLine = f .rootLine; root = f .root; tasks = ts })))
-      (append-snoc (f .tasks) e es) d, s)
+  task-says f e (found (es, n, next)) (d, s) = (
+    subst (λ (ts : List FormLine). Due k ns text n (over (record { cues = f .cues; rootLine = f .rootLine; root = f .root; tasks = ts })))
+        (append-snoc (f .tasks) e es) d,
+    s,
+  )
   task-says f e (refused r) w = w
 
   -- What is due, from a line on, after these lines.

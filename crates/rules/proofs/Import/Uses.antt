@@ -108,16 +108,16 @@ module _ (k : Case) (ns : Names) (tasks : Distinct (ns .tasks)) where
         used-says (ns .methods) methods method NamesBoth (λ m. suits (methodAt (k .methods) m) t (length subtasks)) n
         (λ m g. (
           λ q. let (a, b) = both-true (eqb (methodAt (k .methods) m .task) t) (eqb (length (methodAt (k .methods) m .subtasks)) (length subtasks)) q in
-          record {
-            task = t;
-            compound = h;
-            notAction = c;
-            listed = g;
-            tasks = eqb-true (methodAt (k .methods) m .task) t a;
-            counted = eqb-true (length (methodAt (k .methods) m .subtasks)) (length subtasks) b;
-          },
+              record {
+                task = t;
+                compound = h;
+                notAction = c;
+                listed = g;
+                tasks = eqb-true (methodAt (k .methods) m .task) t a;
+                counted = eqb-true (length (methodAt (k .methods) m .subtasks)) (length subtasks) b;
+              },
           λ p. and-both (eq-eqb (methodAt (k .methods) m .task) t (p .tasks ∙ one-place (ns .tasks) tasks name (p .compound) h))
-          (eq-eqb (length (methodAt (k .methods) m .subtasks)) (length subtasks) (p .counted)),
+              (eq-eqb (length (methodAt (k .methods) m .subtasks)) (length subtasks) (p .counted)),
         ))
         (λ m p. p .listed)
 
