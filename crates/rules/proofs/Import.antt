@@ -13,6 +13,9 @@ pub mod Made
 pub mod Found
 -- What reading says of a name list and of a form.
 pub mod Says
+pub mod NamesShow
 pub mod Shapes
+pub mod DueShapes
 pub mod Uses
+pub mod FrontsShow
 pub mod LinesShow

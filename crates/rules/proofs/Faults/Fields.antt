@@ -56,7 +56,7 @@ ends-by : (b : ℕ) (c f : Bool) → isComma b ≡ c → isFeed b ≡ f → ends
 unfolding endsField
 ends-by b c f p q = ap₂ (λ (x y : Bool). x || y) p q
 
-or-true : (c : Bool) → (c || true) ≡ true
+pub or-true : (c : Bool) → (c || true) ≡ true
 or-true true = refl
 or-true false = refl
 

@@ -5,7 +5,6 @@ use mathlib.Core.Bool.{Bool, true, false, false≢true}
 use mathlib.Core.Logic.{_↔_, ⊎-elim}
 use mathlib.Core.List.{List, [], _∷_}
 use Prim.Native.Nat.{ℕ, suc, _+_, _<_}
-use native.Mathlib.Omega.{arith}
 use lib.Dec.{eqb, ltb}
 use lib.ListN.{length, drop, getD, drop-of-length-le}
 use lib.Seq.{drop-drop}
@@ -44,6 +43,10 @@ pub says-weaken : {A : Type 0} (P P′ : A → Type 0) (R R′ : Answer → Type
 says-weaken P P′ R R′ (found a) f g p = f a p
 says-weaken P P′ R R′ (refused r) f g p = g r p
 
+-- The same of what is found.
+pub refusal-weaken : {A : Type 0} (P : A → Type 0) (R R′ : Answer → Type 0) (o : Result A) → ((r : Answer) → R r → R′ r) → Says P R o → Says P R′ o
+refusal-weaken P R R′ o g p = says-weaken P P R R′ o (λ a q. q) g p
+
 -- ---- Lines
 
 -- The line that starts here, and where the next one does.
@@ -78,7 +81,8 @@ module _ (text : List ℕ) (item l place : ℕ) (s : Starts text l place) where
             sym (line-is text l place s first),
             ended-here text l place s (line-in (drop place text) e),
             refl,
-            next-starts text l place s (lineOf (drop place text)) _ (first ∙ ap (λ (bs : List ℕ). lineOf (drop place text) ∷ pieces isFeed bs) (drop-drop _ place text)),
+            next-starts text l place s (lineOf (drop place text)) _
+                (first ∙ ap (λ (bs : List ℕ). lineOf (drop place text) ∷ pieces isFeed bs) (drop-drop _ place text)),
           )
       go false e = (refl, unended text l place s e)
 

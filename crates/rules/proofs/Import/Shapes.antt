@@ -1,29 +1,23 @@
 -- The shapes of a form's lines as statements (02, Card 6, number 17): the words of a line give one just where it has that shape, as each shape has
 -- its number of words, and its tests are those of the statement. Assumes nothing.
-use mathlib.Core.Path.{_≡_, refl, sym, ap, _∙_, subst}
+use mathlib.Core.Path.{_≡_, refl, sym, ap, _∙_}
 use mathlib.Core.Bool.{Bool, true, false, _&&_, false≢true}
-use mathlib.Core.List.{List, [], _∷_, map}
-use mathlib.Core.List.{List·Memᴰ·head as here}
+use mathlib.Core.List.{List, [], _∷_, map, List·Memᴰ·head as here}
 use mathlib.Core.Logic.{_↔_}
 use mathlib.Core.Option.{Option, none, some}
-use Prim.Native.Nat.{ℕ, _+_, _<_}
+use Prim.Native.Nat.{ℕ, _<_}
 use native.Mathlib.Omega.{arith}
 use lib.ListN.{length}
-use Rattle.rules.specs.declared.Answer.{Answer}
-use Rattle.rules.specs.declared.Answer.the-variants.{WrongShape}
-use Rattle.rules.specs.Result.{Result, found, refused, _>>=_, _>>_}
 use Rattle.rules.specs.Text.{isPlain}
-use Rattle.rules.specs.Case.{Read}
 use Rattle.rules.specs.Faults.{Ended, textLine}
-use Rattle.rules.specs.Tokens.{dueLine, shaped, wordsOf, isName, sameBytes, allPlain, idOf}
-use Rattle.rules.specs.Form.{openingWord, rootWord, arrowWord, closingWord, openingOf, Front, anAction, theRoot, frontOf, Back, aCompound, theEnd, backOf, frontLine, backLine}
+use Rattle.rules.specs.Tokens.{wordsOf, isName, sameBytes, allPlain, idOf}
+use Rattle.rules.specs.Form.{openingWord, rootWord, arrowWord, closingWord, openingOf, Front, anAction, theRoot, frontOf, Back, aCompound, theEnd, backOf}
 use Rattle.rules.specs.FormFaults.{HasWords, ActionAt, RootAt, CompoundAt}
 use Rattle.rules.proofs.Tables.{and-both}
 use Rattle.rules.proofs.Judgement.Each.{Each, each-nil, each-cons, each-tail, both-true}
-use Rattle.rules.proofs.Faults.Line.{Starts}
-use Rattle.rules.proofs.Import.Says.{Says, says-bind, says-then, says-weaken, LineHere, due-says, same-bytes}
+use Rattle.rules.proofs.Import.Says.{same-bytes}
 
--- P of what is there, and nothing that P is of where nothing is.
+-- P of what is there; where nothing is, P of nothing.
 abbrev pub JustWhere : {A : Type 0} → (A → Type 0) → Option A → Type 0
 JustWhere {A} P none = (a : A) → P a → ⊥
 JustWhere P (some a) = P a
@@ -39,7 +33,7 @@ abbrev pub BackAt : List ℕ → ℕ → Back → Type 0
 BackAt text l (aCompound id name method subtasks) = CompoundAt text l id name method subtasks
 BackAt text l theEnd = HasWords text l (closingWord ∷ [])
 
--- What a test lets through, or else.
+-- What a test lets through; or else what comes then.
 tested-else : {A : Type 0} (P : A → Type 0) (b : Bool) (a : A) (o : Option A) → (b ≡ true → P a) → (b ≡ false → JustWhere P o)
     → JustWhere {A = A} P (elim b [ true ↦ some a | false ↦ o ])
 tested-else P true a o f g = f refl
@@ -61,7 +55,7 @@ module _ (text : List ℕ) (l : ℕ) (ended : Ended text l) where
   abbrev Words : List (List ℕ) → Type 0
   Words ws = wordsOf (textLine text l) ≡ ws
 
-  opening-shape : (ws : List (List ℕ)) → Words ws → JustWhere (Opens text l) (openingOf ws)
+  pub opening-shape : (ws : List (List ℕ)) → Words ws → JustWhere (Opens text l) (openingOf ws)
   opening-shape [] e = λ u h. omega (arith, ap length (sym e ∙ h .are))
   opening-shape (w ∷ []) e =
       tested (Opens text l) (sameBytes w openingWord) tt
@@ -75,7 +69,7 @@ module _ (text : List ℕ) (l : ℕ) (ended : Ended text l) where
   not-front ws e n (anAction id name) h = n (ap length (sym e ∙ h .words .are))
   not-front ws e n (theRoot id) h = n (ap length (sym e ∙ h .words .are))
 
-  front-shape : (ws : List (List ℕ)) → Words ws → JustWhere (FrontAt text l) (frontOf ws)
+  pub front-shape : (ws : List (List ℕ)) → Words ws → JustWhere (FrontAt text l) (frontOf ws)
   front-shape [] e = not-front [] e (λ q. omega arith)
   front-shape (w ∷ []) e = not-front (w ∷ []) e (λ q. omega arith)
   front-shape (w ∷ v ∷ []) e =
@@ -118,7 +112,7 @@ module _ (text : List ℕ) (l : ℕ) (ended : Ended text l) where
   not-back ws e n c (aCompound id name method subtasks) h = omega (arith, ap length (sym e ∙ h .words .are))
   not-back ws e n c theEnd h = n (ap length (sym e ∙ h .are))
 
-  back-shape : (ws : List (List ℕ)) → Words ws → JustWhere (BackAt text l) (backOf ws)
+  pub back-shape : (ws : List (List ℕ)) → Words ws → JustWhere (BackAt text l) (backOf ws)
   back-shape [] e = not-back [] e (λ q. omega arith) (omega arith)
   back-shape (w ∷ []) e =
       tested (BackAt text l) (sameBytes w closingWord) theEnd
@@ -164,69 +158,3 @@ module _ (text : List ℕ) (l : ℕ) (ended : Ended text l) where
           let f : allPlain ids ≡ true = cc in
           and-both a (and-both b (and-both (same-bytes v arrowWord .1 c) (and-both d f)))
       passes theEnd h = absurd (omega (arith, ap length (sym e ∙ h .are)))
-
--- ---- A line that is due
-
--- A shape that is due: it is there, and the next line starts at this place.
-abbrev pub Shaped : {A : Type 0} → (A → Type 0) → List ℕ → ℕ → A × ℕ × ℕ → Type 0
-Shaped P text l (x, n, next) = P x × (n ≡ l + 1) × Starts text n next
-
--- The answer where there is none.
-abbrev pub NoShape : {A : Type 0} → (A → Type 0) → ℕ → Answer → Type 0
-NoShape {A} P l a = (a ≡ WrongShape l 0) × ((x : A) → P x → ⊥)
-
-shaped-says : {A : Type 0} (P : A → Type 0) (l : ℕ) (o : Option A) → JustWhere P o → Says P (NoShape P l) (shaped 0 l o)
-shaped-says P l none f = (refl, f)
-shaped-says P l (some a) p = p
-
-module _ {A : Type 0} (P : A → Type 0) (shapeOf : List (List ℕ) → Option A) (text : List ℕ) (l place : ℕ) (s : Starts text l place)
-    (has : (x : A) → P x → Ended text l)
-    (shape : Ended text l → (ws : List (List ℕ)) → wordsOf (textLine text l) ≡ ws → JustWhere P (shapeOf ws)) where
-  line-due : Says (LineHere text l) (NoShape P l) (dueLine text 0 l place)
-  line-due =
-      says-weaken (LineHere text l) (LineHere text l) _ (NoShape P l) (dueLine text 0 l place) (λ x p. p) (λ a (e, f). (e, λ x p. f (has x p)))
-      (due-says text 0 l place s)
-
-  shape-due : (line : List ℕ) (n next : ℕ) → LineHere text l (line, n, next)
-      → Says (λ x. Shaped P text l (x, n, next)) (NoShape P l) (shaped 0 l (shapeOf (wordsOf line)))
-  shape-due line n next (e, ended, p, t) =
-      says-weaken P (λ x. Shaped P text l (x, n, next)) (NoShape P l) (NoShape P l) (shaped 0 l (shapeOf (wordsOf line)))
-      (λ x h. (h, p, subst (λ (m : ℕ). Starts text m next) (sym p) t)) (λ a f. f)
-      (shaped-says P l (shapeOf (wordsOf line)) (shape ended (wordsOf line) (ap wordsOf (sym e))))
-
-  line-says : Says (Shaped P text l) (NoShape P l)
-      (dueLine text 0 l place >>= λ (line, n, next). shaped 0 l (shapeOf (wordsOf line)) >>= λ x. found (x, n, next))
-  line-says =
-      says-bind (LineHere text l) (Shaped P text l) (NoShape P l) (dueLine text 0 l place) _ line-due
-      (λ (line, n, next) h. says-bind (λ x. Shaped P text l (x, n, next)) (Shaped P text l) (NoShape P l) (shaped 0 l (shapeOf (wordsOf line))) _
-      (shape-due line n next h) (λ x q. q))
-
-module _ (text : List ℕ) (l place : ℕ) (s : Starts text l place) where
-  -- With what follows it.
-  pub opening-says : {B : Type 0} (Q : B → Type 0) (R : Answer → Type 0) (rest : ℕ → ℕ → Result B) → ((a : Answer) → NoShape (Opens text l) l a → R a)
-      → ((n next : ℕ) → Shaped (Opens text l) text l (tt, n, next) → Says Q R (rest n next))
-      → Says Q R (dueLine text 0 l place >>= λ (line, n, next). shaped 0 l (openingOf (wordsOf line)) >> rest n next)
-  opening-says Q R rest r f =
-      says-bind (LineHere text l) Q R (dueLine text 0 l place) _
-      (says-weaken (LineHere text l) (LineHere text l) _ R (dueLine text 0 l place) (λ x p. p) r
-      (line-due (Opens text l) openingOf text l place s (λ u h. h .ended) (opening-shape text l)))
-      (λ (line, n, next) h. says-then (λ u. Shaped (Opens text l) text l (u, n, next)) Q R (shaped 0 l (openingOf (wordsOf line))) (rest n next)
-      (says-weaken (λ u. Shaped (Opens text l) text l (u, n, next)) (λ u. Shaped (Opens text l) text l (u, n, next)) _ R (shaped 0 l (openingOf (wordsOf line))) (λ x p. p) r
-      (shape-due (Opens text l) openingOf text l place s (λ u h. h .ended) (opening-shape text l) line n next h))
-      (λ u h. f n next h))
-
-  pub front-says : Says (Shaped (FrontAt text l) text l) (NoShape (FrontAt text l) l) (frontLine text l place)
-  unfolding frontLine
-  front-says = line-says (FrontAt text l) frontOf text l place s ended (front-shape text l)
-    where
-      ended : (x : Front) → FrontAt text l x → Ended text l
-      ended (anAction id name) h = h .words .ended
-      ended (theRoot id) h = h .words .ended
-
-  pub back-says : Says (Shaped (BackAt text l) text l) (NoShape (BackAt text l) l) (backLine text l place)
-  unfolding backLine
-  back-says = line-says (BackAt text l) backOf text l place s ended (back-shape text l)
-    where
-      ended : (x : Back) → BackAt text l x → Ended text l
-      ended (aCompound id name method subtasks) h = h .words .ended
-      ended theEnd h = h .ended

@@ -1,26 +1,26 @@
 -- The names on a form's lines as statements (02, Card 6, number 18): as no two names are the same, a name's place among those listed is the one
 -- number that it is listed for, and it serves just where that number does. Assumes nothing.
-use mathlib.Core.Path.{_≡_, refl, sym, ap, _∙_, subst}
-use mathlib.Core.Bool.{Bool, true, false, _&&_, false≢true}
+use mathlib.Core.Path.{_≡_, refl, sym, _∙_, subst}
+use mathlib.Core.Bool.{Bool, true, false, false≢true}
 use mathlib.Core.List.{List, [], _∷_}
 use mathlib.Core.Logic.{_↔_}
 use mathlib.Core.Option.{Option, none, some}
-use Prim.Native.Nat.{ℕ, zero, suc, _+_, _≤_, _<_}
+use Prim.Native.Nat.{ℕ, zero, suc, _+_, _≤_}
 use native.Mathlib.Omega.{arith}
 use lib.Dec.{eqb, leb, ltb}
-use lib.ListN.{length, getD}
+use lib.ListN.{length}
 use borrow.Author.Tests.{eqb-true, eq-eqb, ltb-true, lt-ltb, leb-true, le-leb}
 use Rattle.rules.specs.declared.Answer.{Answer}
 use Rattle.rules.specs.declared.Answer.the-variants.{WrongName}
-use Rattle.rules.specs.Result.{Result, found, refused, _>>=_}
-use Rattle.rules.specs.Case.{Method, methodAt, Case}
+use Rattle.rules.specs.Result.{found, refused}
+use Rattle.rules.specs.Case.{methodAt, Case}
 use Rattle.rules.specs.Tokens.{sameBytes}
 use Rattle.rules.specs.Naming.{Names, listedFrom, listedAt}
 use Rattle.rules.specs.Form.{usedAs, actionNamed, compoundNamed, suits, methodNamed, bothNamed}
 use Rattle.rules.specs.FormFaults.{Listed, NamesAction, NamesMethod}
 use Rattle.rules.proofs.Tables.{and-both}
 use Rattle.rules.proofs.Judgement.Each.{both-true}
-use Rattle.rules.proofs.Import.Says.{Says, says-bind, says-weaken, Distinct, same-bytes}
+use Rattle.rules.proofs.Import.Says.{Says, says-bind, refusal-weaken, Distinct, same-bytes}
 use Rattle.rules.proofs.Import.Shapes.{JustWhere}
 
 -- ---- The place of a name
@@ -125,6 +125,6 @@ module _ (k : Case) (ns : Names) (tasks : Distinct (ns .tasks)) where
     unfolding bothNamed
     both-says =
         says-bind (NamesCompound name) NamesBoth (NoName NamesBoth n) (compoundNamed k ns n name) _
-        (says-weaken (NamesCompound name) (NamesCompound name) (NoName (NamesCompound name) n) (NoName NamesBoth n) (compoundNamed k ns n name) (λ t p. p)
+        (refusal-weaken _ _ (NoName NamesBoth n) (compoundNamed k ns n name)
         (λ a (e, f). (e, λ m p. f (p .task) (p .compound, p .notAction))) (compound-says n name))
         method-says
