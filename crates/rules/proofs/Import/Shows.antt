@@ -17,8 +17,9 @@ use Rattle.rules.specs.FormFaults.{NamesFault, NamesAre, FormFault, Form
 use Rattle.rules.specs.Import.{madeFrom, Stops, onCase, onNames, onForm, onIds, Passes, MadeShows}
 use Rattle.rules.proofs.Faults.{CaseSays, reading-shows}
 use Rattle.rules.proofs.Judgement.Refusals.{ListsSay, lists-say, TextSays, short-says, unread-shows}
-use Rattle.rules.proofs.Import.Says.{Says, says-bind, says-then, says-weaken, Distinct}
+use Rattle.rules.proofs.Import.Says.{Says, says-bind, says-then, says-weaken}
 use Rattle.rules.proofs.Import.NamesShow.{names-say, distinct-names}
+use Rattle.rules.proofs.Import.LinesShow.{lines-say}
 use Rattle.rules.proofs.Import.IdsShow.{ids-say}
 
 module _ (lists : List Lent) (text names form : List ℕ) where
@@ -55,35 +56,34 @@ module _ (lists : List Lent) (text names form : List ℕ) where
   stops : {A : Type 0} (P : A → Type 0) (R : Answer → Type 0) (o : Result A) → ((r : Answer) → R r → Stop r) → Says P R o → Says P Stop o
   stops P R o f = says-weaken P P R Stop o (λ a p. p) f
 
-  module _ (lines-say : (k : Case) (ns : Names) → Distinct (ns .tasks) → Distinct (ns .methods) → Says (FormIs k ns form) (FormFault k ns form) (readForm k ns form)) where
-    module _ (k : Case) (a : Admits lists text) (e : readCase text ≡ found k) where
-      names-stop : Says (NamesAre (k .head) names) Stop (readNames (k .head) names)
-      names-stop = stops _ (NamesFault (k .head) names) (readNames (k .head) names) (λ r w. onNames a e w) (names-say (k .head) names)
+  module _ (k : Case) (a : Admits lists text) (e : readCase text ≡ found k) where
+    names-stop : Says (NamesAre (k .head) names) Stop (readNames (k .head) names)
+    names-stop = stops _ (NamesFault (k .head) names) (readNames (k .head) names) (λ r w. onNames a e w) (names-say (k .head) names)
 
-      form-stops : (ns : Names) → NamesAre (k .head) names ns → Says (FormIs k ns form) Stop (readForm k ns form)
-      form-stops ns n =
-          stops _ (FormFault k ns form) (readForm k ns form) (λ r w. onForm a e n w)
-          (lines-say k ns (distinct-names (n .tasks)) (distinct-names (n .methods)))
+    form-stops : (ns : Names) → NamesAre (k .head) names ns → Says (FormIs k ns form) Stop (readForm k ns form)
+    form-stops ns n =
+        stops _ (FormFault k ns form) (readForm k ns form) (λ r w. onForm a e n w)
+        (lines-say k ns form (distinct-names (n .tasks)) (distinct-names (n .methods)))
 
-      ids-stop : (ns : Names) → NamesAre (k .head) names ns → (f : Form) → FormIs k ns form f → Says (λ u. (l : ℕ) → WrongAt f l → ⊥) Stop (idsRight f)
-      ids-stop ns n f i =
-          stops _ (λ r. (l : ℕ) × (r ≡ WrongId l) × FirstWrong f l) (idsRight f) (λ r (l, q, w). subst Stop (sym q) (onIds a e n i w))
-          (ids-say k ns form f i)
+    ids-stop : (ns : Names) → NamesAre (k .head) names ns → (f : Form) → FormIs k ns form f → Says (λ u. (l : ℕ) → WrongAt f l → ⊥) Stop (idsRight f)
+    ids-stop ns n f i =
+        stops _ (λ r. (l : ℕ) × (r ≡ WrongId l) × FirstWrong f l) (idsRight f) (λ r (l, q, w). subst Stop (sym q) (onIds a e n i w))
+        (ids-say k ns form f i)
 
-    -- ---- All rows
+  -- ---- All rows
 
-    made-says : Says (Passes lists text names form) Stop (madeFrom lists text names form)
-    unfolding madeFrom
-    made-says =
-        let Q = Passes lists text names form in
-        says-then _ Q Stop (listsLong lists) _ lists-stop (λ u l. says-then _ Q Stop (textShort text) _ (text-stops l) (λ v a.
-        says-bind _ Q Stop (readCase text) _ (case-stops a) (λ k e. says-bind _ Q Stop (readNames (k .head) names) _ (names-stop k a e) (λ ns n.
-        says-bind _ Q Stop (readForm k ns form) _ (form-stops k a e ns n) (λ f i. says-then _ Q Stop (idsRight f) _ (ids-stop k a e ns n f i) (λ x w.
-        record { model = k; listed = ns; lines = f; admits = a; reads = e; names-are = n; form-is = i; right = w; is = refl }))))))
+  made-says : Says (Passes lists text names form) Stop (madeFrom lists text names form)
+  unfolding madeFrom
+  made-says =
+      let Q = Passes lists text names form in
+      says-then _ Q Stop (listsLong lists) _ lists-stop (λ u l. says-then _ Q Stop (textShort text) _ (text-stops l) (λ v a.
+      says-bind _ Q Stop (readCase text) _ (case-stops a) (λ k e. says-bind _ Q Stop (readNames (k .head) names) _ (names-stop k a e) (λ ns n.
+      says-bind _ Q Stop (readForm k ns form) _ (form-stops k a e ns n) (λ f i. says-then _ Q Stop (idsRight f) _ (ids-stop k a e ns n f i) (λ x w.
+      record { model = k; listed = ns; lines = f; admits = a; reads = e; names-are = n; form-is = i; right = w; is = refl }))))))
 
-    pub made-shows : MadeShows lists text names form (madeFrom lists text names form)
-    made-shows = go (madeFrom lists text names form) made-says
-      where
-        go : (o : Result Case) → Says (Passes lists text names form) Stop o → MadeShows lists text names form o
-        go (found k) p = p
-        go (refused r) s = s
+  pub made-shows : MadeShows lists text names form (madeFrom lists text names form)
+  made-shows = go (madeFrom lists text names form) made-says
+    where
+      go : (o : Result Case) → Says (Passes lists text names form) Stop o → MadeShows lists text names form o
+      go (found k) p = p
+      go (refused r) s = s
