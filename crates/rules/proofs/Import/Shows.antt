@@ -2,14 +2,13 @@
 -- passed, so a refusal is read off row by row: 1 to 4 on the case, 17 and 18 on the name list and on the form, 19. Assumes nothing.
 use mathlib.Core.Path.{_≡_, refl, sym, subst}
 use mathlib.Core.List.{List}
-use Prim.Native.Nat.{ℕ, _≤_}
+use Prim.Native.Nat.{ℕ}
 use native.Mathlib.Omega.{arith}
-use lib.ListN.{length}
 use Rattle.rules.specs.declared.Answer.{Answer}
 use Rattle.rules.specs.declared.Answer.the-variants.{WrongId}
 use Rattle.rules.specs.Result.{Result, found, refused}
 use Rattle.rules.specs.Case.{Case, readCase}
-use Rattle.rules.specs.Verdict.{Lent, reported, listsLong, textMost, textShort}
+use Rattle.rules.specs.Verdict.{Lent, reported, listsLong, textShort}
 use Rattle.rules.specs.Refusals.{Each, LongEnough, Admits, short, long}
 use Rattle.rules.specs.Naming.{Names, readNames}
 use Rattle.rules.specs.Form.{Form, readForm, idsRight}
@@ -23,6 +22,7 @@ use Rattle.rules.proofs.Import.LinesShow.{lines-say}
 use Rattle.rules.proofs.Import.IdsShow.{ids-say}
 
 module _ (lists : List Lent) (text names form : List ℕ) where
+  -- What refuses these.
   abbrev Stop : Answer → Type 0
   Stop = Stops lists text names form
 
