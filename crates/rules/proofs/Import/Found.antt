@@ -3,7 +3,6 @@
 use mathlib.Core.Path.{_≡_, refl, sym, ap, _∙_, subst}
 use mathlib.Core.List.{List}
 use Prim.Native.Nat.{ℕ}
-use lib.ListN.{length}
 use Rattle.rules.specs.declared.Answer.the-variants.{NoChoice}
 use Rattle.rules.specs.Result.{found, refused}
 use Rattle.rules.specs.Case.{Method, Case, readCase}
@@ -14,12 +13,16 @@ use Rattle.rules.specs.Writing.{roomFor}
 use Rattle.rules.specs.Gaps.{emptyCount, choices, caseWith, textWith, ChoiceOf, fewChoices, beforeChoices, firstAccepted, findGaps}
 use Rattle.rules.specs.Naming.{Names, readNames}
 use Rattle.rules.specs.Form.{Form, readForm, formLines, idsRight}
+use Rattle.rules.specs.FormFaults.{NamesFault, NamesAre, FormFault, FormIs}
 use Rattle.rules.specs.Import.{madeHeader, madeCase, madeFrom, importForm, TreeFor, HasForm}
 use Rattle.rules.proofs.Judgement.Each.{Each, first-in}
 use Rattle.rules.proofs.Judgement.Theorem.{accepts-rules}
 use Rattle.rules.proofs.Gaps.{reads-with, choices-are, found-first}
 use Rattle.rules.proofs.Gaps.Answers.{FirstSays}
-use Rattle.rules.proofs.Import.Lines.{IfFound, found-bind, found-then, found-with, names-counted, GoodForm, form-says, Counts, form-counts}
+use Rattle.rules.proofs.Import.Says.{Says}
+use Rattle.rules.proofs.Import.NamesShow.{names-say, distinct-names}
+use Rattle.rules.proofs.Import.LinesShow.{lines-say}
+use Rattle.rules.proofs.Import.Lines.{IfFound, found-bind, found-then, found-with, GoodForm, form-good, Counts, form-counts}
 use Rattle.rules.proofs.Import.Ids.{RightIds, ids-right}
 use Rattle.rules.proofs.Import.Trees.{tree-hangs}
 use Rattle.rules.proofs.Import.Made.{made-reads}
@@ -89,8 +92,11 @@ module _ (lists : List Lent) (text names form : List ℕ) (made : Case) (m : Mad
 
   good : GoodForm (m .model) (m .lines)
   good =
-      let all = subst (IfFound (λ (ns : Names). length (ns .methods) ≡ m .model .head .methods)) (m .lists) (names-counted (m .model .head) names) in
-      subst (IfFound (GoodForm (m .model))) (m .forms) (form-says (m .model) (m .listed) form all)
+      let k = m .model in
+      let ns = m .listed in
+      let n = subst (Says (NamesAre (k .head) names) (NamesFault (k .head) names)) (m .lists) (names-say (k .head) names) in
+      let says = lines-say k ns form (distinct-names (n .tasks)) (distinct-names (n .methods)) in
+      form-good k ns form (m .lines) (n .methods .counted) (subst (Says (FormIs k ns form) (FormFault k ns form)) (m .forms) says)
 
   this-reads : readCase (printed this) ≡ found this
   this-reads =
