@@ -2,7 +2,7 @@
 -- states, nodes and output are each passed to one callee, at their own lifetimes, and given up for good. work is lent again as `&mut` to `import`, then as `&` to `fill`, each for a lifetime that the walk makes, and is then passed to `clear_work` for good (verdict's `proofs/Again.antt`).
 -- Each call has a lemma for what the callee asks (`goes-..`) and one for what it gives (`..-gives`); that of `import` stands in `proofs/ImportCall.antt`, those of `fill` and `clear_work` are verdict's (`proofs/Calls.antt`).
 -- The number tried is known when `import` has returned; what is found, and all that the later calls are passed, is said of it.
--- Of what it promises, that the nodes are the records owed is `import-filled` (`proofs/Imports.antt`), and that what is found has the form's tree and plan is `has-form`.
+-- Of what it promises, that the nodes are the records owed is `import-filled` (`proofs/Imports.antt`), that what is found has the form's tree and plan is `has-form`, and what refuses the three texts ahead of it is `made-shows`.
 -- Assumes nothing.
 use mathlib.Core.Path.{_≡_, refl, sym, _∙_, ap, subst}
 use Prim.Native.Nat.{ℕ, _<_, _^_}
@@ -49,7 +49,7 @@ use Rattle.rules.specs.Verdict.{Lent, Found, answerOf, filled, noNode, workAfte
 use Rattle.rules.specs.Demands.{lentBy}
 use Rattle.rules.specs.Gaps.{triedAfter}
 use Rattle.rules.specs.Import.{foundTree, madeLength}
-use Rattle.rules.proofs.Import.{has-form}
+use Rattle.rules.proofs.Import.{has-form, made-shows}
 use Rattle.records.specs.Records.{recordAt, upTo, RecordsHeld}
 use Rattle.capi.specs.Replies.{importedReport}
 use Rattle.verdict.proofs.Steps.{is-count, is-unit}
@@ -193,7 +193,7 @@ module _ {M : Type 1} (𝓤 : URA M) (H : Heap 𝓤) (A : Atoms 𝓤) (W : Given
   exits v r number us e within held ls ln lw lo =
       qed W (Had v r number us) ∵
       suffices ! _ (ends-at 𝓤 H A this.ended stayed (this.clauses 𝓤 H A mem run) W (((κt, (κu, (κf, (κs, (κn, (κw, (κo, tt))))))), (qt, (qu, (qf, (qs, (qn, (qw, (qo, tt))))))), tt, a, vals), tt) v r (tt, (tt, (tt, (ss′ number, (ns′ number us, (zeros ws, (os′ number, tt))))))) (tt, (tt, (tt, (ls, (ln, (lw, (lo, tt)))))))) $
-      says ! (record { number = number; limited = within; answer = e .0; answered = e .1; put = refl; sized = e .2; states = refl; nodes = import-filled (length (xs .now)) n (length ws) number (length (xo .now)) (t .now) (tu .now) (tf .now) us held; work = refl; holds = has-form number lists (length (xo .now)) (t .now) (tu .now) (tf .now) }) $
+      says ! (record { number = number; limited = within; answer = e .0; answered = e .1; put = refl; sized = e .2; states = refl; nodes = import-filled (length (xs .now)) n (length ws) number (length (xo .now)) (t .now) (tu .now) (tf .now) us held; work = refl; holds = has-form number lists (length (xo .now)) (t .now) (tu .now) (tf .now); shows = made-shows lists (t .now) (tu .now) (tf .now) }) $
       nothing ! $ move ! (1 ∷ 2 ∷ 3 ∷ 4 ∷ 5 ∷ 6 ∷ 7 ∷ 0 ∷ []) $ group ! 8 $ frame ! $
       nothing ! $ move ! (7 ∷ 0 ∷ []) $ fjoin ! $ move ! (6 ∷ 0 ∷ []) $ fjoin ! $ move ! (5 ∷ 0 ∷ []) $ fjoin ! $ move ! (4 ∷ 0 ∷ []) $ fjoin ! $ move ! (3 ∷ 0 ∷ []) $ fjoin ! $ move ! (2 ∷ 0 ∷ []) $ fjoin ! $ move ! (1 ∷ 0 ∷ []) $ fjoin ! $ done !
 
