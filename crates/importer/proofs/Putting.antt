@@ -2,7 +2,7 @@
 use mathlib.Core.Path.{_≡_, refl, sym, ap, subst, _∙_}
 use mathlib.Core.Bool.{Bool, true, false}
 use mathlib.Core.List.{List}
-use Prim.Native.Nat.{ℕ, zero, suc, _≤_, _<_}
+use Prim.Native.Nat.{ℕ, zero, suc, _*_, _≤_, _<_}
 use native.Mathlib.Omega.{arith}
 use borrow.Author.Tests.{lt-ltb, le-ltb}
 use lib.ListN.{length, getD, take, drop, replicate, length-replicate}
@@ -25,7 +25,7 @@ use Rattle.making.proofs.Cases.{form-cued, form-tasked}
 use Rattle.output.proofs.Cases.{case-text}
 use Rattle.importer.specs.declared.Made.{Made}
 use Rattle.importer.specs.declared.Made.the-variants.{Text, Refused}
-use Rattle.importer.specs.Importing.{FormHeld, madeOf, MadeIs, PutMade}
+use Rattle.importer.specs.Importing.{FormHeld, Unlinked, madeOf, MadeIs, PutMade}
 
 -- ---- The output
 
@@ -48,13 +48,30 @@ module _ (size : ℕ) (made : List ℕ) where
 
 -- ---- Lists that are zero at first
 
-pub zero-at : (n i : ℕ) → _≡_ {A = ℕ} (getD (replicate n 0) i 0) 0
+zero-at : (n i : ℕ) → _≡_ {A = ℕ} (getD (replicate n 0) i 0) 0
 zero-at zero i = refl
 zero-at (suc n) zero = refl
 zero-at (suc n) (suc i) = zero-at n i
 
-pub zeros-long : (n count : ℕ) → count ≤ n → count ≤ length (replicate {A = ℕ} n 0)
+zeros-long : (n count : ℕ) → count ≤ n → count ≤ length (replicate {A = ℕ} n 0)
 zeros-long n count h = omega (arith, length-replicate {A = ℕ} n 0)
+
+pub zeros-unlinked : (count lines links : ℕ) → count ≤ lines → 32 * count ≤ links
+    → Unlinked count (replicate (suc lines) 0) (replicate links 0) (replicate lines 0) (replicate lines 0) (replicate lines 0) (replicate lines 0)
+zeros-unlinked count lines links few fit =
+    let long = zeros-long lines count few in
+    record {
+      starts-long = zeros-long (suc lines) (suc count) (omega arith);
+      links-long = zeros-long links (32 * count) fit;
+      twin-long = long;
+      used-long = long;
+      marks-long = long;
+      spare-long = long;
+      links-zero = zero-at links;
+      twin-zero = zero-at lines;
+      used-zero = zero-at lines;
+      marks-zero = zero-at lines;
+    }
 
 -- ---- The form
 

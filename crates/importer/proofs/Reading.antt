@@ -9,7 +9,7 @@ use Rattle.rules.specs.declared.Answer.{Answer}
 use Rattle.rules.specs.declared.Header.{Header}
 use Rattle.rules.specs.Result.{Result, found, refused, _>>=_}
 use Rattle.rules.specs.Text.{decimal}
-use Rattle.rules.specs.Case.{Case, Valued}
+use Rattle.rules.specs.Case.{Case, Valued, readCase}
 use Rattle.rules.specs.Fields.{lineFields, linesFields, linesOf, fieldsOf}
 use Rattle.rules.specs.Print.{numbersText, lineText, linesText, printed}
 use Rattle.rules.specs.Ranges.{GoodHeader}
@@ -128,6 +128,14 @@ few-fields k r = omega (arith, print-short k r, lines-long (linesOf k))
 
 pub plan-few : (k : Case) → IsRead k → (plan : ℕ) → PlanLast k plan → plan ≤ 32767
 plan-few k r plan last = omega (arith, few-fields k r)
+
+pub plan-room : (k : Case) (plan : ℕ) → PlanLast k plan → (size : ℕ) → length (fieldsOf k) + 12001 ≤ size → plan + 12001 ≤ size
+plan-room k plan last size room = omega arith
+
+-- The fields of a case are at most half as many as the bytes of a text that reads as it.
+pub half-fields : (text : List ℕ) (k : Case) → readCase text ≡ found k → 2 * length (fieldsOf k) ≤ length text
+unfolding fieldsOf printed
+half-fields text k e = omega (arith, lines-long (linesOf k), ap length (canonical text k e))
 
 -- ---- The form that was read
 

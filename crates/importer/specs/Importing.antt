@@ -1,7 +1,7 @@
 -- What the core of the import call answers and leaves (02, Card 6). Assumes nothing.
 use mathlib.Core.Path.{_≡_}
 use mathlib.Core.List.{List}
-use Prim.Native.Nat.{ℕ, _+_, _≤_, _<_}
+use Prim.Native.Nat.{ℕ, _+_, _*_, _≤_, _<_}
 use lib.ListN.{length, getD}
 use Rattle.rules.specs.declared.Header.{Header}
 use Rattle.rules.specs.Result.{Result, found, refused, _>>=_, _>>_}
@@ -53,6 +53,19 @@ pub record FormHeld (k : Case) (f : Form) (text places ids labels : List ℕ) (c
   pub counted : length (formLines f) ≡ count
   pub rooted : f .root ≡ root
   pub rootAt : f .rootLine ≡ 2 + cues
+
+-- Lists for the links of so many lines, which are zero at first but for `spare`.
+pub record Unlinked (count : ℕ) (starts links twin used marks spare : List ℕ) : Type 0 where
+  pub starts-long : count < length starts
+  pub links-long : 32 * count ≤ length links
+  pub twin-long : count ≤ length twin
+  pub used-long : count ≤ length used
+  pub marks-long : count ≤ length marks
+  pub spare-long : count ≤ length spare
+  pub links-zero : (u : ℕ) → getD links u 0 ≡ 0
+  pub twin-zero : (e : ℕ) → getD twin e 0 ≡ 0
+  pub used-zero : (d : ℕ) → getD used d 0 ≡ 0
+  pub marks-zero : (d : ℕ) → getD marks d 0 ≡ 0
 
 -- 19, 14, and the made text.
 unfoldable pub madeOf : ℕ → Case → Form → Result (List ℕ)

@@ -17,7 +17,7 @@ ghost use Rattle.fields.specs.Directory.{IsRead, Roomy, NodesLast};
 ghost use Rattle.output.specs.Output.{HasLines};
 ghost use Rattle.links.specs.Links.{Lines, Spelled};
 ghost use Rattle.making.specs.Making.{PlanLast};
-ghost use Rattle.importer.specs.Importing.{ModelHere, BothAre, FormHeld, CaseHere, madeOf, madeBeside, madeText, MadeIs, PutMade, thenFind, fromMade, LimitedTo, Imports};
+ghost use Rattle.importer.specs.Importing.{ModelHere, BothAre, FormHeld, Unlinked, CaseHere, madeOf, madeBeside, madeText, MadeIs, PutMade, thenFind, fromMade, LimitedTo, Imports};
 use forms::FormRead;
 use forms::LINES;
 use judge::Admission;
@@ -26,13 +26,22 @@ use reading::CaseRead;
 use rules::Answer;
 use rules::Header;
 
-// Room for the fields of any case, and for the P line and the node lines of any form after them.
+// Room for the fields of any case, and for the P line and the node lines of any form after them; and for those of a short case, of fewer than
+// SHORT bytes.
 const FIELDS: usize = 45056;
+
+const FEW_FIELDS: usize = 14336;
+
+const SHORT: usize = 4096;
 
 // How many names of tasks, and of methods, a model may have.
 const NAMES: usize = 2048;
 
-// Room for the links of all lines, of which each has at most 32.
+// How many lines a small form has, and the links of so many lines and of all, of which each has at most 32.
+const FEW_LINES: usize = 256;
+
+const FEW_LINKS: usize = 8192;
+
 const LINKS: usize = 96000;
 
 // What the call answers, how many choices of gaps it tried and how long the made text is, both 0 for a refusal.
@@ -119,7 +128,156 @@ fn put_made(fields: &[u32], end: usize, cues: u32, output: &mut [u8]) -> Made
     }
 }
 
-// 19, and the made case of a form that was read: its links, its fields in the place of the case's own, its text.
+// 19, and the made case of a form that was read: its links, its fields in the place of the case's own, its text. The lists for the links come in
+// zero.
+fn make_with(
+    form: &[u8],
+    places: &[usize],
+    ids: &[u32],
+    labels: &[u32],
+    cues: usize,
+    count: usize,
+    root: u32,
+    work: &mut [u32],
+    fields: &mut [u32],
+    plan: usize,
+    output: &mut [u8],
+    starts: &mut [u32],
+    links: &mut [u16],
+    twin: &mut [u32],
+    used: &mut [u32],
+    marks: &mut [u32],
+    spare: &mut [u32],
+) -> Made
+    requires { ⌜ ((k : Case) × (f : Form) × FormHeld k f (now form) (now places) (now ids) (now labels) cues count root (now fields) plan) ⌝ }
+    requires { ⌜ (length (now ids) ≡ 3000) × (length (now labels) ≡ 3000) × (length (now places) ≡ 3000) × (8192 ≤ length (now work)) × (plan + 12001 ≤ length (now fields)) × (plan ≤ 32767) ⌝ }
+    requires { ⌜ Unlinked count (now starts) (now links) (now twin) (now used) (now marks) (now spare) ⌝ }
+    ensures { λ r. ⌜ ((k : Case) (f : Form) → FormHeld k f (now (form .entry)) (now (places .entry)) (now (ids .entry)) (now (labels .entry)) cues count root (now (fields .entry)) plan → MadeIs (madeOf (length (now (output .entry))) k f) (length (now (output .entry))) r (now (output .exit))) ⌝ }
+{
+    let tied = linking::tie(
+        form,
+        places,
+        ids,
+        cues,
+        count,
+        root,
+        &mut work[..ids::SLOTS],
+        starts,
+        links,
+        twin,
+        used,
+        marks,
+        spare,
+    );
+    if tied.line > 0 {
+        return Made::Refused {
+            answer: Answer::WrongId { line: tied.line },
+        };
+    }
+    let end = making::make(
+        starts,
+        links,
+        labels,
+        cues,
+        count,
+        tied.root,
+        fields,
+        plan,
+        marks,
+        spare,
+    );
+    put_made(fields, end, cues as u32, output)
+}
+
+// The same with lists of its own: of a small form, and of any.
+fn make_few(
+    form: &[u8],
+    places: &[usize],
+    ids: &[u32],
+    labels: &[u32],
+    cues: usize,
+    count: usize,
+    root: u32,
+    work: &mut [u32],
+    fields: &mut [u32],
+    plan: usize,
+    output: &mut [u8],
+) -> Made
+    requires { ⌜ ((k : Case) × (f : Form) × FormHeld k f (now form) (now places) (now ids) (now labels) cues count root (now fields) plan) ⌝ }
+    requires { ⌜ (length (now ids) ≡ 3000) × (length (now labels) ≡ 3000) × (length (now places) ≡ 3000) × (8192 ≤ length (now work)) × (plan + 12001 ≤ length (now fields)) × (plan ≤ 32767) × (count ≤ 256) ⌝ }
+    ensures { λ r. ⌜ ((k : Case) (f : Form) → FormHeld k f (now (form .entry)) (now (places .entry)) (now (ids .entry)) (now (labels .entry)) cues count root (now (fields .entry)) plan → MadeIs (madeOf (length (now (output .entry))) k f) (length (now (output .entry))) r (now (output .exit))) ⌝ }
+{
+    let mut starts = [0u32; FEW_LINES + 1];
+    let mut links = [0u16; FEW_LINKS];
+    let mut twin = [0u32; FEW_LINES];
+    let mut used = [0u32; FEW_LINES];
+    let mut marks = [0u32; FEW_LINES];
+    let mut spare = [0u32; FEW_LINES];
+    make_with(
+        form,
+        places,
+        ids,
+        labels,
+        cues,
+        count,
+        root,
+        work,
+        fields,
+        plan,
+        output,
+        &mut starts,
+        &mut links,
+        &mut twin,
+        &mut used,
+        &mut marks,
+        &mut spare,
+    )
+}
+
+fn make_many(
+    form: &[u8],
+    places: &[usize],
+    ids: &[u32],
+    labels: &[u32],
+    cues: usize,
+    count: usize,
+    root: u32,
+    work: &mut [u32],
+    fields: &mut [u32],
+    plan: usize,
+    output: &mut [u8],
+) -> Made
+    requires { ⌜ ((k : Case) × (f : Form) × FormHeld k f (now form) (now places) (now ids) (now labels) cues count root (now fields) plan) ⌝ }
+    requires { ⌜ (length (now ids) ≡ 3000) × (length (now labels) ≡ 3000) × (length (now places) ≡ 3000) × (8192 ≤ length (now work)) × (plan + 12001 ≤ length (now fields)) × (plan ≤ 32767) ⌝ }
+    ensures { λ r. ⌜ ((k : Case) (f : Form) → FormHeld k f (now (form .entry)) (now (places .entry)) (now (ids .entry)) (now (labels .entry)) cues count root (now (fields .entry)) plan → MadeIs (madeOf (length (now (output .entry))) k f) (length (now (output .entry))) r (now (output .exit))) ⌝ }
+{
+    let mut starts = [0u32; LINES + 1];
+    let mut links = [0u16; LINKS];
+    let mut twin = [0u32; LINES];
+    let mut used = [0u32; LINES];
+    let mut marks = [0u32; LINES];
+    let mut spare = [0u32; LINES];
+    make_with(
+        form,
+        places,
+        ids,
+        labels,
+        cues,
+        count,
+        root,
+        work,
+        fields,
+        plan,
+        output,
+        &mut starts,
+        &mut links,
+        &mut twin,
+        &mut used,
+        &mut marks,
+        &mut spare,
+    )
+}
+
 fn make_from(
     form: &[u8],
     places: &[usize],
@@ -134,48 +292,37 @@ fn make_from(
     output: &mut [u8],
 ) -> Made
     requires { ⌜ ((k : Case) × (f : Form) × FormHeld k f (now form) (now places) (now ids) (now labels) cues count root (now fields) plan) ⌝ }
-    requires { ⌜ (length (now ids) ≡ 3000) × (length (now labels) ≡ 3000) × (length (now places) ≡ 3000) × (8192 ≤ length (now work)) × (length (now fields) ≡ 45056) × (plan ≤ 32767) ⌝ }
+    requires { ⌜ (length (now ids) ≡ 3000) × (length (now labels) ≡ 3000) × (length (now places) ≡ 3000) × (8192 ≤ length (now work)) × (plan + 12001 ≤ length (now fields)) × (plan ≤ 32767) ⌝ }
     ensures { λ r. ⌜ ((k : Case) (f : Form) → FormHeld k f (now (form .entry)) (now (places .entry)) (now (ids .entry)) (now (labels .entry)) cues count root (now (fields .entry)) plan → MadeIs (madeOf (length (now (output .entry))) k f) (length (now (output .entry))) r (now (output .exit))) ⌝ }
 {
-    let mut starts = [0u32; LINES + 1];
-    let mut links = [0u16; LINKS];
-    let mut twin = [0u32; LINES];
-    let mut used = [0u32; LINES];
-    let mut marks = [0u32; LINES];
-    let mut spare = [0u32; LINES];
-    let tied = linking::tie(
+    if count <= FEW_LINES {
+        return make_few(
+            form,
+            places,
+            ids,
+            labels,
+            cues,
+            count,
+            root,
+            work,
+            fields,
+            plan,
+            output,
+        );
+    }
+    make_many(
         form,
         places,
         ids,
-        cues,
-        count,
-        root,
-        &mut work[..ids::SLOTS],
-        &mut starts,
-        &mut links,
-        &mut twin,
-        &mut used,
-        &mut marks,
-        &mut spare,
-    );
-    if tied.line > 0 {
-        return Made::Refused {
-            answer: Answer::WrongId { line: tied.line },
-        };
-    }
-    let end = making::make(
-        &starts,
-        &links,
         labels,
         cues,
         count,
-        tied.root,
+        root,
+        work,
         fields,
         plan,
-        &mut marks,
-        &mut spare,
-    );
-    put_made(fields, end, cues as u32, output)
+        output,
+    )
 }
 
 // The rows from the name list on, of a case that was read.
@@ -188,8 +335,8 @@ fn make_case(
     fields: &mut [u32],
     output: &mut [u8],
 ) -> Made
-    requires { ⌜ ((k : Case) × CaseHere k header nodes (now fields) (now work)) ⌝ }
-    requires { ⌜ (8192 ≤ length (now work)) × (length (now fields) ≡ 45056) ⌝ }
+    requires { ⌜ ((k : Case) × CaseHere k header nodes (now fields) (now work) × (length (fieldsOf k) + 12001 ≤ length (now fields))) ⌝ }
+    requires { ⌜ 8192 ≤ length (now work) ⌝ }
     ensures { λ r. ⌜ ((k : Case) → CaseHere k header nodes (now (fields .entry)) (now (work .entry)) → MadeIs (madeBeside (length (now (output .entry))) k (now (names .entry)) (now (form .entry))) (length (now (output .entry))) r (now (output .exit))) ⌝ }
 {
     let mut ids = [0u32; LINES];
@@ -234,7 +381,7 @@ fn make_text(
     fields: &mut [u32],
     output: &mut [u8],
 ) -> Made
-    requires { ⌜ (length (now text) ≤ textMost) × (workNeed ≤ length (now work)) × (length (now fields) ≡ 45056) ⌝ }
+    requires { ⌜ (length (now text) ≤ textMost) × (workNeed ≤ length (now work)) × (length (now text) + 24003 ≤ 2 * length (now fields)) ⌝ }
     ensures { λ r. ⌜ MadeIs (madeText (length (now (output .entry))) (now (text .entry)) (now (names .entry)) (now (form .entry))) (length (now (output .entry))) r (now (output .exit)) ⌝ }
 {
     match reading::read_case(text, fields, work) {
@@ -249,12 +396,31 @@ fn make_text(
     }
 }
 
+// The same with room for the fields of a short case, and with room for those of any.
+fn make_short(text: &[u8], names: &[u8], form: &[u8], work: &mut [u32], output: &mut [u8]) -> Made
+    requires { ⌜ (length (now text) < 4096) × (workNeed ≤ length (now work)) ⌝ }
+    ensures { λ r. ⌜ MadeIs (madeText (length (now (output .entry))) (now (text .entry)) (now (names .entry)) (now (form .entry))) (length (now (output .entry))) r (now (output .exit)) ⌝ }
+{
+    let mut fields = [0u32; FEW_FIELDS];
+    make_text(text, names, form, work, &mut fields, output)
+}
+
 fn make_any(text: &[u8], names: &[u8], form: &[u8], work: &mut [u32], output: &mut [u8]) -> Made
     requires { ⌜ (length (now text) ≤ textMost) × (workNeed ≤ length (now work)) ⌝ }
     ensures { λ r. ⌜ MadeIs (madeText (length (now (output .entry))) (now (text .entry)) (now (names .entry)) (now (form .entry))) (length (now (output .entry))) r (now (output .exit)) ⌝ }
 {
     let mut fields = [0u32; FIELDS];
     make_text(text, names, form, work, &mut fields, output)
+}
+
+fn make_lent(text: &[u8], names: &[u8], form: &[u8], work: &mut [u32], output: &mut [u8]) -> Made
+    requires { ⌜ (length (now text) ≤ textMost) × (workNeed ≤ length (now work)) ⌝ }
+    ensures { λ r. ⌜ MadeIs (madeText (length (now (output .entry))) (now (text .entry)) (now (names .entry)) (now (form .entry))) (length (now (output .entry))) r (now (output .exit)) ⌝ }
+{
+    if text.len() < SHORT {
+        return make_short(text, names, form, work, output);
+    }
+    make_any(text, names, form, work, output)
 }
 
 // "zero if refused"
@@ -305,7 +471,7 @@ fn import_lent(
     requires { ⌜ Cleared (now text) (now states) (now work) ⌝ }
     ensures { λ r. ⌜ Imports (λ n. fromMade n (checkLists (length (now (states .entry))) «node_room» (length (now (work .entry)))) (madeText (length (now (output .entry))) (now (text .entry)) (now (names .entry)) (now (form .entry)))) (LimitedTo (checkLists (length (now (states .entry))) «node_room» (length (now (work .entry)))) (madeText (length (now (output .entry))) (now (text .entry)) (now (names .entry)) (now (form .entry)))) (length (now (states .entry))) (length (now (output .entry))) r (now (states .exit)) (now (work .exit)) (now (output .exit)) ⌝ }
 {
-    match make_any(text, names, form, work, output) {
+    match make_lent(text, names, form, work, output) {
         Made::Text { length } => find_made(states, work, node_room, length, output),
         Made::Refused { answer } => refuse(output, answer),
     }

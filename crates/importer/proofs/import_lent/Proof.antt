@@ -13,8 +13,8 @@ use Rattle.importer.proofs.Rows.{made-text, made-refused, lent-found, l
 use Rattle.importer.proofs.import_lent.Statement.{statement}
 use Rattle.importer.proofs.import_lent.Tie as tie
 
-make-any-requires : tie.Need-make-any-requires
-make-any-requires c κs =
+make-lent-requires : tie.Need-make-lent-requires
+make-lent-requires c κs =
     let p = c .before .before .before .before .before .before .before .before .pre in
     (p .short, p .workRoom)
 
@@ -23,7 +23,7 @@ enum-known-length c = search needs
 
 find-made-requires : tie.Need-find-made-requires
 find-made-requires c κs =
-    let b = c .before .before .before .before .before .before .before .before .before .before .make-any in
+    let b = c .before .before .before .before .before .before .before .before .before .before .make-lent in
     let s = c .before .before .before .before .before .before .before .before .before .before .before .before .before .before .before .before .before .before .before in
     let a = s .args in
     let size = length (a .output .now) in
@@ -52,7 +52,7 @@ same-length-3 c = search needs
 returns : tie.Need-returns
 returns c =
     let d = c .before .before .before .before .before .before in
-    let b = d .before .before .before .before .before .before .before .before .before .before .before .make-any in
+    let b = d .before .before .before .before .before .before .before .before .before .before .before .make-lent in
     let s = d .before .before .before .before .before .before .before .before .before .before .before .before .before .before .before .before .before .before .before .before in
     let a = s .args in
     let size = length (a .output .now) in
@@ -74,7 +74,7 @@ same-length-5 c = search needs
 
 returns-2 : tie.Need-returns-2
 returns-2 c =
-    let b = c .before .before .before .before .before .before .before .before .before .before .before .make-any in
+    let b = c .before .before .before .before .before .before .before .before .before .before .before .make-lent in
     let s = c .before .before .before .before .before .before .before .before .before .before .before .before .before .before .before .before .before .before .before .before in
     let a = s .args in
     let size = length (a .output .now) in
@@ -91,7 +91,7 @@ pub import-lent-spec : {M : Type 1} → statement M
 import-lent-spec =
     tie.close
     (tie.spec
-    make-any-requires
+    make-lent-requires
     enum-known-length
     find-made-requires
     enum-known-answer

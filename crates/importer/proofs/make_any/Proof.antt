@@ -1,8 +1,9 @@
 -- There is room for the fields of any case and of any form. Assumes nothing.
-use mathlib.Core.Path.{_≡_}
 use Prim.Native.Nat.{ℕ}
+use native.Mathlib.Omega.{arith}
 use borrow.Author.Needs.{needs}
-use lib.ListN.{length, replicate, length-replicate}
+use lib.ListN.{length-replicate}
+use Rattle.rules.specs.Verdict.{textMost}
 use Rattle.importer.proofs.make_any.Statement.{statement}
 use Rattle.importer.proofs.make_any.Tie as tie
 
@@ -10,9 +11,12 @@ slice-aggregate-make-text : tie.Need-slice-aggregate-make-text
 slice-aggregate-make-text c = search needs
 
 make-text-requires : tie.Need-make-text-requires
+unfolding textMost
 make-text-requires c κs =
     let p = c .before .before .before .before .before .before .before .before .pre in
-    (p .0, p .1, length-replicate {A = ℕ} 45056 0)
+    let short = p .0 in
+    let room = length-replicate {A = ℕ} 45056 0 in
+    (short, p .1, omega arith)
 
 same-length : tie.Need-same-length
 same-length c = search needs

@@ -2,8 +2,8 @@
 use mathlib.Core.Path.{_∙_}
 use Prim.Native.Nat.{ℕ}
 use borrow.Author.Needs.{needs}
-use lib.ListN.{length-replicate}
-use Rattle.importer.proofs.Reading.{plan-few, cues-are, both-held, made-read, made-refused}
+use lib.ListN.{length, length-replicate}
+use Rattle.importer.proofs.Reading.{plan-few, plan-room, cues-are, both-held, made-read, made-refused}
 use Rattle.importer.proofs.make_case.Statement.{statement}
 use Rattle.importer.proofs.make_case.Tie as tie
 
@@ -18,7 +18,7 @@ slice-aggregate-read-both-3 c = search needs
 
 read-both-requires : tie.Need-read-both-requires
 read-both-requires c κs =
-    let (k, x) = c .before .before .before .before .before .before .before .before .before .before .pre .0 in
+    let (k, x, room) = c .before .before .before .before .before .before .before .before .before .before .pre .0 in
     ((k, x .model), (length-replicate {A = ℕ} 3000 0, length-replicate {A = ℕ} 3000 0, length-replicate {A = ℕ} 3000 0))
 
 enum-known-cues : tie.Need-enum-known-cues
@@ -26,7 +26,7 @@ enum-known-cues c = search needs
 
 plan-place-requires : tie.Need-plan-place-requires
 plan-place-requires c κs =
-    let (k, x) = c .before .before .before .before .before .before .before .before .before .before .before .before .before .before .before .before .before .pre .0 in
+    let (k, x, room) = c .before .before .before .before .before .before .before .before .before .before .before .before .before .before .before .before .before .pre .0 in
     (k, x .model .read, x .last, cues-are x)
 
 slice-aggregate-make-from : tie.Need-slice-aggregate-make-from
@@ -41,11 +41,11 @@ slice-aggregate-make-from-3 c = search needs
 make-from-requires : tie.Need-make-from-requires
 make-from-requires c κs =
     let s = c .before .before .before .before .before .before .before .before .before .before .before .before .before .before .before .before .before .before .before .before .before .before .before .before in
-    let (k, x) = s .pre .0 in
+    let (k, x, room) = s .pre .0 in
     let b = c .before .before .before .before .before .before .before .before .before .before .before .before .before .read-both in
     let last = c .before .before .before .before .before .before .plan-place .ensures k (x .model .read) (x .last) (cues-are x) in
     let f = both-held x (s .args .names .now) (s .args .form .now) (b .result) (b .last .1 .1 .1 .1 .1 .0) (b .last .1 .1 .1 .1 .1 .1 .0) (b .last .1 .1 .1 .1 .1 .1 .1 .0) (b .ensures k (x .model)) _ _ _ (c .before .before .before .before .before .before .before .before .cues .given .1) _ last in
-    ((k, f .0, f .2), (b .kept .1 .1 .1 .1 .1 .0 ∙ length-replicate {A = ℕ} 3000 0, b .kept .1 .1 .1 .1 .1 .1 .0 ∙ length-replicate {A = ℕ} 3000 0, b .kept .1 .1 .1 .1 .1 .1 .1 .0 ∙ length-replicate {A = ℕ} 3000 0, s .pre .1 .0, s .pre .1 .1, plan-few k (x .model .read) _ last))
+    ((k, f .0, f .2), (b .kept .1 .1 .1 .1 .1 .0 ∙ length-replicate {A = ℕ} 3000 0, b .kept .1 .1 .1 .1 .1 .1 .0 ∙ length-replicate {A = ℕ} 3000 0, b .kept .1 .1 .1 .1 .1 .1 .1 .0 ∙ length-replicate {A = ℕ} 3000 0, s .pre .1, plan-room k _ last (length (s .args .fields .now)) room, plan-few k (x .model .read) _ last))
 
 enum-known-answer : tie.Need-enum-known-answer
 enum-known-answer c = search needs

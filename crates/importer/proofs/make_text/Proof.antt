@@ -7,6 +7,7 @@ use lib.ListN.{length}
 use Rattle.rules.specs.Verdict.{textMost, workNeed}
 use Rattle.fields.specs.Directory.{directorySize}
 use Rattle.judge.proofs.Phases.{read-opens, read-refuses}
+use Rattle.importer.proofs.Reading.{half-fields}
 use Rattle.importer.proofs.Opening.{case-here, text-made, text-refused}
 use Rattle.importer.proofs.make_text.Statement.{statement}
 use Rattle.importer.proofs.make_text.Tie as tie
@@ -36,7 +37,7 @@ make-case-requires c κs =
     let long = s .pre .2 in
     let (k, reads, opens) = read-opens (a .text .now) (b .last .1 .0) (b .last .1 .1 .0) (b .ensures) (x .0 .0) (x .0 .1 .0) (x .0 .1 .1 .0) (x .0 .1 .1 .1 .0)
     (x .0 .1 .1 .1 .1 .0) (x .1) (s .pre .0) (omega arith) in
-    ((k, case-here k _ _ _ _ opens), (omega arith, fieldsKept ∙ long))
+    ((k, case-here k _ _ _ _ opens, omega (arith, half-fields (a .text .now) k reads)), omega arith)
 
 enum-known-answer : tie.Need-enum-known-answer
 enum-known-answer c = search needs
