@@ -2,7 +2,7 @@
 -- nothing.
 use mathlib.Core.Path.{_≡_, refl, sym, ap, _∙_, subst}
 use mathlib.Core.List.{List, [], _∷_, _++_, map, flatten, append-assoc}
-use Prim.Native.Nat.{ℕ, zero, suc, _+_, _≤_}
+use Prim.Native.Nat.{ℕ, zero, suc, _+_, _*_, _≤_}
 use native.Mathlib.Omega.{arith}
 use lib.ListN.{length, take, replicate, length-append, length-replicate}
 use lib.Seq.{take-at}
@@ -12,7 +12,7 @@ use Rattle.rules.specs.Fields.{lineFields, linesFields, headerLine, initialLine
 use Rattle.rules.specs.Print.{linesText, printed}
 use Rattle.rules.specs.Ranges.{Sound}
 use Rattle.rules.specs.Verdict.{textMost}
-use Rattle.rules.specs.Gaps.{emptyCount, ChoiceOf, withGaps, caseWith, textWith, gapsOf}
+use Rattle.rules.specs.Gaps.{emptyCount, Within, ChoiceOf, withGaps, caseWith, textWith, gapsOf}
 use Rattle.rules.proofs.Judgement.Sound.{sound}
 use Rattle.rules.proofs.Printing.{canonical}
 use Rattle.rules.proofs.Gaps.Texts.{reads-with}
@@ -25,7 +25,7 @@ use Rattle.output.specs.Output.{HasLines}
 use Rattle.output.proofs.Cases.{case-has-lines}
 use Rattle.judge.specs.declared.Opened.{Opened}
 use Rattle.choices.proofs.Order.{zeros-within}
-use Rattle.gaps.proofs.Digits.{digits-one}
+use Rattle.gaps.proofs.Digits.{digits-one, digits-few}
 use Rattle.finder.specs.Finding.{Printable, BaseOf, SpareOf}
 
 -- ---- The lines ahead of the nodes
@@ -170,9 +170,14 @@ module _ (k : Case) (base : ℕ) (b : BaseOf k base) where
   pub spare-of : (spare : ℕ) → base + spare ≡ textMost → SpareOf k spare
   spare-of spare e gs h l = omega (arith, length-with gs h)
 
-surplus-zeros : (e : ℕ) → surplus (replicate e 0) ≡ 0
+pub surplus-zeros : (e : ℕ) → surplus (replicate e 0) ≡ 0
 surplus-zeros zero = refl
 surplus-zeros (suc e) = omega (arith, digits-one 0 (omega arith), surplus-zeros e)
+
+-- A gap has at most three digits past its first.
+pub surplus-few : (cues : ℕ) (gs : List ℕ) → cues ≤ 1000 → Within cues gs → surplus gs ≤ 3 * length gs
+surplus-few cues [] few w = omega arith
+surplus-few cues (g ∷ gs) few w = omega (arith, digits-few g (omega (arith, w .0)), surplus-few cues gs few (w .1))
 
 -- The digits of its own gaps past their first ones are among the text.
 pub surplus-inside : (k : Case) → surplus (gapsOf (k .nodes)) ≤ length (printed k)

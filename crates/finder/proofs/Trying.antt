@@ -16,21 +16,26 @@ use Rattle.rules.specs.Verdict.{textMost}
 use Rattle.rules.specs.Gaps.{emptyCount, Within, ChoiceOf, withGaps, caseWith, textWith, choiceCount}
 use Rattle.rules.proofs.Judgement.Rows.{fromText, fromTree}
 use Rattle.rules.proofs.Gaps.Lengths.{surplus}
+use Rattle.fields.specs.Directory.{Roomy}
 use Rattle.records.specs.Records.{NodesStand}
 use Rattle.choices.proofs.Order.{zeros-within}
 use Rattle.choices.proofs.Skipping.{skips-self}
 use Rattle.judge.specs.declared.Opened.{Opened}
 use Rattle.judge.specs.Phases.{Answers}
 use Rattle.judge.proofs.Verdicts.{text-long}
-use Rattle.finder.specs.Finding.{checkedWith, passing, fromChoices, Finds, Tried, Printable, BaseOf}
+use Rattle.finder.specs.Finding.{checkedWith, passing, fromChoices, Finds, Tried, Printable, BaseOf, digitsMost, Spacious}
 use Rattle.finder.proofs.First.{acceptance-finds, refusal-fails, zeros-after, found-at, none-at}
-use Rattle.finder.proofs.Prints.{nodes-stand, put-printable, text-of, text-with, length-with}
+use Rattle.finder.proofs.Prints.{nodes-stand, few-cues, put-printable, text-of, text-with, length-with, surplus-few}
 use Rattle.finder.proofs.Counts.{tried-one, only-one, only-fails}
 use Rattle.finder.proofs.Verdicts.{accepted-finds, refused-finds}
 
 module _ {k : Case} {fields : List ℕ} {o : Opened} (p : Printable k fields o) (base : ℕ) (b : BaseOf k base) (choice : List ℕ) (h : ChoiceOf k choice) where
   pub within-header : Within (o .header .cues) choice
   within-header = subst (λ (x : Header). Within (x .cues) choice) (sym (p .head)) (h .1)
+
+  -- A choice among others has few gaps, and so few digits.
+  pub choice-few : length choice ≤ 19 → surplus choice ≤ digitsMost
+  choice-few few = omega (arith, surplus-few (o .header .cues) choice (few-cues p) within-header)
 
   module _ (digits : ℕ) (d : digits ≡ surplus choice) where
     -- Its text is too long.
@@ -51,6 +56,11 @@ module _ {k : Case} {fields : List ℕ} {o : Opened} (p : Printable k fields o) 
 
     pub choice-size : length (linesText (linesOf (caseWith choice k))) ≡ base + digits
     choice-size = omega (arith, ap length text-is, length-with k base b choice h)
+
+    -- The fields have room for it.
+    pub choice-roomy : Spacious base fields → surplus choice ≤ digitsMost → base + digits ≤ textMost → (now : List ℕ) → length now ≡ length fields
+        → Roomy (linesText (linesOf (caseWith choice k))) now
+    choice-roomy room few short now kept = omega (arith, choice-size, room (base + digits) (omega arith) short)
 
     pub choice-answers : {size : ℕ} {r : Answer} {states work : List ℕ}
         → Answers (fromText fromTree (linesText (linesOf (caseWith choice k)))) size r states work → Answers (checkedWith k choice) size r states work

@@ -2,7 +2,7 @@
 use mathlib.Core.Path.{_≡_}
 use mathlib.Core.Bool.{Bool, true, false}
 use mathlib.Core.List.{List}
-use Prim.Native.Nat.{ℕ, _+_, _≤_, _<_}
+use Prim.Native.Nat.{ℕ, _+_, _*_, _≤_, _<_}
 use lib.ListN.{length, replicate}
 use Rattle.rules.specs.declared.Answer.the-variants.{NoChoice}
 use Rattle.rules.specs.Result.{found, refused, _>>_}
@@ -78,6 +78,14 @@ BaseOf k base = base + surplus (gapsOf (k .nodes)) ≡ length (printed k)
 -- So many digits past the gaps' first ones have room: with more the text is too long.
 abbrev pub SpareOf : Case → ℕ → Type 0
 SpareOf k spare = (gs : List ℕ) → ChoiceOf k gs → spare < surplus gs → textMost < length (textWith gs k)
+
+-- The most digits that the gaps of a choice have past their first ones, where there are other choices: three of each of 19.
+abbrev pub digitsMost : ℕ
+digitsMost = 57
+
+-- The fields have room for a text that is so long without the digits of its gaps, with the gaps of any choice, unless it is too long.
+abbrev pub Spacious : ℕ → List ℕ → Type 0
+Spacious base fields = (n : ℕ) → n ≤ base + digitsMost → n ≤ textMost → n < 2 * length fields
 
 -- What one turn of the search leaves: the first choice from c on that nothing is known against was tried, and its check accepted it; or refused it,
 -- and the state list is zero; or none from c on passes.

@@ -18,7 +18,7 @@ ghost use Rattle.columns.specs.Columns.{Blank};
 ghost use Rattle.output.specs.Output.{HasLines};
 ghost use Rattle.seeking.specs.Seeking.{Sought};
 ghost use Rattle.judge.specs.Phases.{Answers, Cleared, Claimed, Passes, fromClaimed};
-ghost use Rattle.finder.specs.Finding.{checkedWith, passing, fromChoices, fromCount, fromGaps, Finds, Tried, LimitedBy, Printable, BaseOf, SpareOf, TurnsOut};
+ghost use Rattle.finder.specs.Finding.{checkedWith, passing, fromChoices, fromCount, fromGaps, Finds, Tried, LimitedBy, Printable, BaseOf, SpareOf, digitsMost, Spacious, TurnsOut};
 use blames::ORDER;
 use blames::POOL;
 use blames::POSITIONS;
@@ -35,6 +35,9 @@ use rules::TEXT;
 const SMALL: usize = 2048;
 
 const SHORT: usize = 4096;
+
+// The most digits that the gaps of a choice have past their first ones, where there are other choices: three of each of 19.
+const DIGITS: usize = 57;
 
 // "15, that power is over 1,000,000"
 const CHOICES: u32 = 1000000;
@@ -73,18 +76,8 @@ fn surplus_of(choice: &[u32], k: u32) -> u32
     digits
 }
 
-// The check of a text. The fields that came have had their use: what it reads goes in their place, if there is room.
-fn check_text(text: &[u8], states: &mut [u64], work: &mut [u32], fields: &mut [u32]) -> Answer
-    requires { ⌜ Cleared (now text) (now states) (now work) ⌝ }
-    ensures { λ r. ⌜ Answers (fromText fromTree (now (text .entry))) (length (now (states .entry))) r (now (states .exit)) (now (work .exit)) ⌝ }
-{
-    if text.len() / 2 < fields.len() {
-        return judge::judge_text(text, states, work, fields);
-    }
-    judge::judge_lent(text, states, work)
-}
-
-// The check of the text of the first `end` fields, printed into a lent output.
+// The check of the text of the first `end` fields, printed into a lent output. They have had their use then: what the check reads goes in their
+// place, which has room for it.
 fn check_print(
     fields: &mut [u32],
     end: usize,
@@ -93,13 +86,13 @@ fn check_print(
     states: &mut [u64],
     work: &mut [u32],
 ) -> Answer
-    requires { ⌜ ((xs : List Valued) × HasLines cues (now fields) end xs × (length (linesText xs) ≤ length (now output))) ⌝ }
+    requires { ⌜ ((xs : List Valued) × HasLines cues (now fields) end xs × (length (linesText xs) ≤ length (now output)) × Roomy (linesText xs) (now fields)) ⌝ }
     requires { ⌜ (stateNeed ≤ length (now states)) × (workNeed ≤ length (now work)) × (length (now output) ≤ textMost) ⌝ }
     ensures { λ r. ⌜ ((xs : List Valued) → HasLines cues (now (fields .entry)) end xs → Answers (fromText fromTree (linesText xs)) (length (now (states .entry))) r (now (states .exit)) (now (work .exit))) ⌝ }
 {
     let length = output::put_text(fields, end, cues, output);
     rows::clear(states);
-    check_text(&output[..length], states, work, fields)
+    judge::judge_text(&output[..length], states, work, fields)
 }
 
 // The same with an output of its own, for a short text and for any.
@@ -110,7 +103,7 @@ fn check_short(
     states: &mut [u64],
     work: &mut [u32],
 ) -> Answer
-    requires { ⌜ ((xs : List Valued) × HasLines cues (now fields) end xs × (length (linesText xs) ≤ 4096)) ⌝ }
+    requires { ⌜ ((xs : List Valued) × HasLines cues (now fields) end xs × (length (linesText xs) ≤ 4096) × Roomy (linesText xs) (now fields)) ⌝ }
     requires { ⌜ (stateNeed ≤ length (now states)) × (workNeed ≤ length (now work)) ⌝ }
     ensures { λ r. ⌜ ((xs : List Valued) → HasLines cues (now (fields .entry)) end xs → Answers (fromText fromTree (linesText xs)) (length (now (states .entry))) r (now (states .exit)) (now (work .exit))) ⌝ }
 {
@@ -125,7 +118,7 @@ fn check_any(
     states: &mut [u64],
     work: &mut [u32],
 ) -> Answer
-    requires { ⌜ ((xs : List Valued) × HasLines cues (now fields) end xs × (length (linesText xs) ≤ textMost)) ⌝ }
+    requires { ⌜ ((xs : List Valued) × HasLines cues (now fields) end xs × (length (linesText xs) ≤ textMost) × Roomy (linesText xs) (now fields)) ⌝ }
     requires { ⌜ (stateNeed ≤ length (now states)) × (workNeed ≤ length (now work)) ⌝ }
     ensures { λ r. ⌜ ((xs : List Valued) → HasLines cues (now (fields .entry)) end xs → Answers (fromText fromTree (linesText xs)) (length (now (states .entry))) r (now (states .exit)) (now (work .exit))) ⌝ }
 {
@@ -145,6 +138,7 @@ fn try_choice(
 ) -> Answer
     requires { ⌜ ((k : Case) × Printable k (now fields) o × BaseOf k base × ChoiceOf k (now choice)) ⌝ }
     requires { ⌜ (stateNeed ≤ length (now states)) × (workNeed ≤ length (now work)) ⌝ }
+    requires { ⌜ Spacious base (now fields) × (surplus (now choice) ≤ digitsMost) ⌝ }
     ensures { λ r. ⌜ ((k : Case) → Printable k (now (fields .entry)) o → BaseOf k base → ChoiceOf k (now (choice .entry)) → Answers (checkedWith k (now (choice .entry))) (length (now (states .entry))) r (now (states .exit)) (now (work .exit))) ⌝ }
 {
     let header = o.header;
@@ -176,6 +170,7 @@ fn find_only(
 ) -> Discovery
     requires { ⌜ ((k : Case) × Printable k (now fields) o × BaseOf k base × (emptyCount (k .nodes) ≡ empties) × (choiceCount k ≡ 1)) ⌝ }
     requires { ⌜ (stateNeed ≤ length (now states)) × (workNeed ≤ length (now work)) ⌝ }
+    requires { ⌜ Spacious base (now fields) ⌝ }
     ensures { λ r. ⌜ ((k : Case) → Printable k (now (fields .entry)) o → BaseOf k base → emptyCount (k .nodes) ≡ empties → choiceCount k ≡ 1 → Finds (λ n. fromChoices n k) (Tried k) (length (now (states .entry))) r (now (states .exit)) (now (work .exit))) ⌝ }
 {
     let zeros = [0u32; NODES];
@@ -339,7 +334,7 @@ fn take_turn(
     work: &mut [u32],
 ) -> Attempt
     requires { ⌜ ((k : Case) × Claimed k (now fields) o (now states) (now work) × BaseOf k base × ChoiceOf k (now choice)) ⌝ }
-    requires { ⌜ (base ≤ 65535) × (length (now choice) ≤ 19) × (length (now why) ≡ length (now choice)) ⌝ }
+    requires { ⌜ (base ≤ 65535) × (length (now choice) ≤ 19) × (length (now why) ≡ length (now choice)) × Spacious base (now fields) ⌝ }
     ensures { λ r. ⌜ ((k : Case) → Claimed k (now (fields .entry)) o (now (states .entry)) (now (work .entry)) → BaseOf k base → ChoiceOf k (now (choice .entry)) → Known (passing k) (k .head .cues) (now (why .entry)) (now (choice .entry)) → TurnsOut k (length (now (states .entry))) (now (choice .entry)) r (now (choice .exit)) (now (why .exit)) (now (states .exit)) (now (work .exit))) ⌝ }
 {
     let spare = (TEXT - base) as u32;
@@ -366,7 +361,7 @@ fn find_first(
     work: &mut [u32],
 ) -> Discovery
     requires { ⌜ ((k : Case) × Passes (now text) (now fields) o (now states) (now work) k × BaseOf k base × ChoiceOf k (now choice) × (choiceCount k ≤ choiceMost)) ⌝ }
-    requires { ⌜ Roomy (now text) (now fields) × (length (now text) ≤ textMost) × (base ≤ 65535) × (length (now choice) ≤ 19) × (length (now why) ≡ length (now choice)) × (now choice ≡ replicate (length (now choice)) 0) ⌝ }
+    requires { ⌜ Spacious (length (now text)) (now fields) × (length (now text) ≤ textMost) × (base ≤ length (now text)) × (length (now choice) ≤ 19) × (length (now why) ≡ length (now choice)) × (now choice ≡ replicate (length (now choice)) 0) ⌝ }
     ensures { λ r. ⌜ ((k : Case) → Passes (now (text .entry)) (now (fields .entry)) o (now (states .entry)) (now (work .entry)) k → BaseOf k base → ChoiceOf k (now (choice .entry)) → choiceCount k ≤ choiceMost → Finds (λ n. fromChoices n k) (Tried k) (length (now (states .entry))) r (now (states .exit)) (now (work .exit))) ⌝ }
 {
     let mut at = o;
@@ -423,7 +418,7 @@ fn find_choices(
     work: &mut [u32],
 ) -> Discovery
     requires { ⌜ ((k : Case) × Passes (now text) (now fields) o (now states) (now work) k) ⌝ }
-    requires { ⌜ Roomy (now text) (now fields) × (length (now text) ≤ textMost) ⌝ }
+    requires { ⌜ Spacious (length (now text)) (now fields) × (length (now text) ≤ textMost) ⌝ }
     ensures { λ r. ⌜ ((k : Case) → Passes (now (text .entry)) (now (fields .entry)) o (now (states .entry)) (now (work .entry)) k → Finds (λ n. fromCount n k) (Tried k) (length (now (states .entry))) r (now (states .exit)) (now (work .exit))) ⌝ }
 {
     let header = o.header;
@@ -453,9 +448,9 @@ fn find_choices(
     )
 }
 
-// The rows from reading on, with room for the fields.
+// The rows from reading on, with room for the fields of the text, whatever gaps it is given.
 fn find_text(text: &[u8], states: &mut [u64], work: &mut [u32], fields: &mut [u32]) -> Discovery
-    requires { ⌜ Cleared (now text) (now states) (now work) × Roomy (now text) (now fields) ⌝ }
+    requires { ⌜ Cleared (now text) (now states) (now work) × Spacious (length (now text)) (now fields) ⌝ }
     ensures { λ r. ⌜ Finds (λ n. fromText (fromClaimed (fromGaps n)) (now (text .entry))) (LimitedBy (now (text .entry))) (length (now (states .entry))) r (now (states .exit)) (now (work .exit)) ⌝ }
 {
     match judge::open_text(text, states, work, fields) {
@@ -464,9 +459,9 @@ fn find_text(text: &[u8], states: &mut [u64], work: &mut [u32], fields: &mut [u3
     }
 }
 
-// The same with room for the fields of a short text; and with room for those of any.
+// The same with room for the fields of a text that is short with the gaps of any choice; and with room for those of any text.
 fn find_short(text: &[u8], states: &mut [u64], work: &mut [u32]) -> Discovery
-    requires { ⌜ Cleared (now text) (now states) (now work) × (length (now text) < 4096) ⌝ }
+    requires { ⌜ Cleared (now text) (now states) (now work) × (length (now text) + digitsMost < 4096) ⌝ }
     ensures { λ r. ⌜ Finds (λ n. fromText (fromClaimed (fromGaps n)) (now (text .entry))) (LimitedBy (now (text .entry))) (length (now (states .entry))) r (now (states .exit)) (now (work .exit)) ⌝ }
 {
     let mut fields = [0u32; SMALL];
@@ -485,7 +480,7 @@ fn find_lent(text: &[u8], states: &mut [u64], work: &mut [u32]) -> Discovery
     requires { ⌜ Cleared (now text) (now states) (now work) ⌝ }
     ensures { λ r. ⌜ Finds (λ n. fromText (fromClaimed (fromGaps n)) (now (text .entry))) (LimitedBy (now (text .entry))) (length (now (states .entry))) r (now (states .exit)) (now (work .exit)) ⌝ }
 {
-    if text.len() < 2 * SMALL {
+    if text.len() < 2 * SMALL - DIGITS {
         return find_short(text, states, work);
     }
     find_any(text, states, work)

@@ -15,9 +15,8 @@ find-text-requires : tie.Need-find-text-requires
 unfolding textMost
 find-text-requires c κs =
     let p = c .before .before .before .before .before .before .pre in
-    let short = p .short in
     let room : length (replicate {A = ℕ} 32768 0) ≡ 32768 = length-replicate {A = ℕ} 32768 0 in
-    (p, omega arith)
+    (p, λ n m short. omega arith)
 
 same-length : tie.Need-same-length
 same-length c = search needs

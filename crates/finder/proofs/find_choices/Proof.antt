@@ -4,7 +4,6 @@ use Prim.Native.Nat.{ℕ}
 use native.Mathlib.Omega.{arith}
 use borrow.Author.Needs.{needs}
 use Rattle.rules.specs.Gaps.{emptyCount}
-use Rattle.rules.specs.Verdict.{textMost}
 use Rattle.rules.specs.declared.Answer.the-variants.{TooManyChoices}
 use Rattle.finder.proofs.Counting.{counted-many, counted-few, counted-is, counted-positions, digits-inside, base-of, start-size, start-zeros}
 use Rattle.finder.proofs.Counts.{tried-one, zeros-taken, zeros-choice}
@@ -88,8 +87,10 @@ find-only-requires c κs =
     let digits = c .before .before .before .before .claimed-surplus .result in
     let own = c .before .before .before .before .claimed-surplus .ensures (k .nodes) stand in
     let b = base-of (a .text .now) k (x .reads) digits own in
-    let one = counted-is k (a .o .header) (p .head) e counted n is (omega (arith, c .before .before .before .before .before .before .if1 .left)) ∙ c .before .before .before .if2 .taken in
-    ((k, p, b, sym counted, one), (x .claimed .walked .run .stateRoom, x .claimed .walked .opens .workRoom))
+    let one = counted-is k (a .o .header) (p .head) e counted n is (omega (arith, c .before .before .before .before .before .before .if1 .left)) ∙ c .before .before .before .if2 .taken in (
+      (k, p, b, sym counted, one),
+      ((x .claimed .walked .run .stateRoom, x .claimed .walked .opens .workRoom), λ m l short. s .pre .1 .0 m (omega arith) short),
+    )
 
 same-length-3 : tie.Need-same-length-3
 same-length-3 c = search needs
@@ -177,7 +178,6 @@ slice-aggregate-find-first-2 c =
     sym (start-size e 19 most)
 
 find-first-requires : tie.Need-find-first-requires
-unfolding textMost
 find-first-requires c κs =
     let s = c .before .before .before .before .before .before .before .before .before .before .before .before .before .before .before .before .before .before in
     let a = s .args in
@@ -195,7 +195,7 @@ find-first-requires c κs =
     let most = counted-positions k (a .o .header) (p .head) e counted n is (omega (arith, c .before .before .before .before .before .before .before .before .if1 .left)) (c .before .before .before .before .before .if2 .left) in
     let size = start-size e 19 most in (
       (k, x, b, zeros-choice k e _ (sym counted) (zeros-taken e 19 most), few),
-      (s .pre .1 .0, s .pre .1 .1, omega (arith, s .pre .1 .1), omega arith, refl, start-zeros e 19 most),
+      (s .pre .1 .0, s .pre .1 .1, omega arith, omega arith, refl, start-zeros e 19 most),
     )
 
 same-length-6 : tie.Need-same-length-6

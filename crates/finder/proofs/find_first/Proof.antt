@@ -7,6 +7,7 @@ use borrow.Author.Needs.{needs}
 use lib.ListN.{length, replicate}
 use Rattle.rules.specs.Case.{Case}
 use Rattle.rules.specs.Gaps.{ChoiceOf, power}
+use Rattle.rules.specs.Verdict.{textMost}
 use Rattle.rules.specs.declared.Header.{Header}
 use Rattle.choices.specs.Searching.{place, onFrom}
 use Rattle.finder.proofs.Counts.{counted-all}
@@ -43,6 +44,7 @@ loop-holds c =
     )
 
 take-turn-requires : tie.Need-take-turn-requires Inv-loop μ-loop
+unfolding textMost
 take-turn-requires c κs =
     let s = c .before .before .before .before .before .before .before .before .before .before .before .before .before in
     let a = s .args in
@@ -50,7 +52,12 @@ take-turn-requires c κs =
     let (k, x, b, h, few) = s .pre .0 in
     let g = l .inv .5 k x b (s .pre .1 .5) h in (
       (k, g .passes .claimed, b, going-choice g h),
-      (s .pre .1 .2, omega (arith, l .inv .1, s .pre .1 .3), l .inv .2 ∙ s .pre .1 .4 ∙ sym (l .inv .1)),
+      (
+        omega (arith, s .pre .1 .1, s .pre .1 .2),
+        omega (arith, l .inv .1, s .pre .1 .3),
+        l .inv .2 ∙ s .pre .1 .4 ∙ sym (l .inv .1),
+        λ n m short. omega (arith, s .pre .1 .0 n (omega (arith, s .pre .1 .2)) short, l .inv .0),
+      ),
     )
 
 enum-known-answer : tie.Need-enum-known-answer Inv-loop μ-loop
@@ -260,7 +267,7 @@ open-text-requires c κs =
         workRoom = omega (arith, g .passes .claimed .walked .opens .workRoom);
         statesZero = failed .2 ∙ ap (λ (n : ℕ). replicate n 0) (sym states);
       },
-      omega (arith, s .pre .1 .0, l .inv .0),
+      omega (arith, s .pre .1 .0 (length (a .text .now)) (omega arith) (s .pre .1 .1), l .inv .0),
     )
 
 enum-known-case : tie.Need-enum-known-case Inv-loop μ-loop

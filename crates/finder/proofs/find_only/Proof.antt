@@ -1,12 +1,13 @@
 -- `find_only`: the one choice is accepted, or there is none. Assumes nothing.
-use mathlib.Core.Path.{_≡_, sym}
+use mathlib.Core.Path.{_≡_, sym, ap}
 use Prim.Native.Nat.{ℕ}
 use native.Mathlib.Omega.{arith}
 use borrow.Author.Needs.{needs}
 use lib.ListN.{length, take, replicate, length-replicate}
 use lib.Seq.{length-take-le}
+use Rattle.rules.proofs.Gaps.Lengths.{surplus}
 use Rattle.finder.proofs.Counts.{zeros-taken, zeros-choice}
-use Rattle.finder.proofs.Prints.{few-empties}
+use Rattle.finder.proofs.Prints.{few-empties, surplus-zeros}
 use Rattle.finder.proofs.Trying.{only-accepted, only-refused}
 use Rattle.finder.proofs.find_only.Statement.{statement}
 use Rattle.finder.proofs.find_only.Tie as tie
@@ -28,10 +29,11 @@ slice-aggregate-try-choice c =
 
 try-choice-requires : tie.Need-try-choice-requires
 try-choice-requires c κs =
-    let a = c .before .before .before .before .before .before .before .args in
-    let (k, p, b, e, one) = c .before .before .before .before .before .before .before .pre .0 in
+    let s = c .before .before .before .before .before .before .before in
+    let a = s .args in
+    let (k, p, b, e, one) = s .pre .0 in
     let zeros : take (a .empties) (replicate {A = ℕ} 3000 0) ≡ replicate (a .empties) 0 = zeros-taken (a .empties) 3000 (omega (arith, few-empties p)) in
-    ((k, p, b, zeros-choice k (a .empties) _ e zeros), c .before .before .before .before .before .before .before .pre .1)
+    ((k, p, b, zeros-choice k (a .empties) _ e zeros), (s .pre .1 .0, (s .pre .1 .1, omega (arith, ap surplus zeros, surplus-zeros (a .empties)))))
 
 enum-told : tie.Need-enum-told
 enum-told c = search needs

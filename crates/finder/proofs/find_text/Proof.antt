@@ -11,7 +11,9 @@ use Rattle.finder.specs.Finding.{fromGaps}
 use Rattle.judge.proofs.Openings.{opening-passes, opening-refuses}
 
 open-text-requires : tie.Need-open-text-requires
-open-text-requires c κs = search needs
+open-text-requires c κs =
+    let s = c .before .before .before .before .before .before .before in
+    (s .pre .0, s .pre .1 (length (s .args .text .now)) (omega arith) (s .pre .0 .short))
 
 enum-known-case : tie.Need-enum-known-case
 enum-known-case c = search needs
@@ -23,7 +25,7 @@ find-choices-requires c κs =
     let x = c .before .before .before .before .case .given in
     let (k, p) = opening-passes _ (b .last .1 .1 .1 .0) _ (b .result) (b .last .1 .0) (b .last .1 .1 .0) (b .ensures) (x .0 .0) (x .1) in
     let kept : length (b .last .1 .1 .1 .0) ≡ length (s .args .fields .now) = b .kept .1 .1 .1 .0 in
-    ((k, p), (omega (arith, s .pre .1), s .pre .0 .short))
+    ((k, p), (λ n m short. omega (arith, s .pre .1 n m short), s .pre .0 .short))
 
 enum-known-answer : tie.Need-enum-known-answer
 enum-known-answer c = search needs

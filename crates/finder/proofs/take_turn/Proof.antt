@@ -1,11 +1,13 @@
 -- `take_turn`: no choice is left; or the first that nothing is known against is tried, and its check accepts it or not. Assumes nothing.
+use mathlib.Core.Path.{_≡_}
 use Prim.Native.Nat.{_-_}
 use native.Mathlib.Omega.{arith}
 use borrow.Author.Needs.{needs}
+use lib.ListN.{length}
 use Rattle.rules.specs.Verdict.{textMost}
 use Rattle.finder.proofs.Prints.{spare-of}
 use Rattle.finder.proofs.Seeks.{choice-of, has-sought, sought-none, sought-some}
-use Rattle.finder.proofs.Trying.{choice-passes, choice-fails, choice-zeros}
+use Rattle.finder.proofs.Trying.{choice-few, choice-passes, choice-fails, choice-zeros}
 use Rattle.finder.proofs.Turns.{claimed-printable}
 use Rattle.finder.proofs.take_turn.Statement.{statement}
 use Rattle.finder.proofs.take_turn.Tie as tie
@@ -54,9 +56,13 @@ try-choice-requires c κs =
     let s = c .before .before .before .before .before .before .before .before .before .before .before .before .before .before .before .before .before .before .before .before in
     let a = s .args in
     let g = c .before .before .before .before .before .before .before .before .before .seek-on in
-    let (k, x, b, h) = s .pre .0 in (
-      (k, claimed-printable x, b, choice-of x (a .choice .now) (g .last .1 .1 .1 .0) h (g .kept .1 .1 .1 .0) (g .ensures .0 (has-sought (g .result) (c .before .before .before .before .if1 .left)))),
-      (x .walked .run .stateRoom, x .walked .opens .workRoom),
+    let (k, x, b, h) = s .pre .0 in
+    let d = g .last .1 .1 .1 .0 in
+    let p = claimed-printable x in
+    let same : length d ≡ length (a .choice .now) = g .kept .1 .1 .1 .0 in
+    let on = choice-of x (a .choice .now) d h same (g .ensures .0 (has-sought (g .result) (c .before .before .before .before .if1 .left))) in (
+      (k, p, b, on),
+      ((x .walked .run .stateRoom, x .walked .opens .workRoom), (s .pre .1 .3, choice-few p (a .base) b d on (omega (arith, s .pre .1 .1)))),
     )
 
 enum-told : tie.Need-enum-told

@@ -8,7 +8,7 @@ use Rattle.rules.specs.Gaps.{caseWith}
 use Rattle.rules.specs.Verdict.{textMost}
 use Rattle.rules.specs.declared.Answer.the-variants.{LongText}
 use Rattle.finder.proofs.Prints.{is-sound, nodes-stand, few-lines, few-cues, few-empties, has-lines, print-short}
-use Rattle.finder.proofs.Trying.{within-header, choice-long, choice-put, choice-size, choice-answers}
+use Rattle.finder.proofs.Trying.{within-header, choice-long, choice-put, choice-size, choice-roomy, choice-answers}
 use Rattle.finder.proofs.try_choice.Statement.{statement}
 use Rattle.finder.proofs.try_choice.Tie as tie
 use Rattle.judge.proofs.Phases.{refused-all}
@@ -79,7 +79,8 @@ check-short-requires c κs =
     let l = caseWith (a .choice .now) k in
     let lines = has-lines q (c .before .before .before .before .sum-lines .result .next) (c .before .before .before .before .sum-lines .ensures (l .nodes) (nodes-stand q) .3) in
     let size = choice-size p (a .base) b (a .choice .now) h (digits .result) (digits .ensures) in
-    ((linesOf l, lines, omega (arith, c .before .before .before .if2 .taken)), s .pre .1)
+    let own = choice-roomy p (a .base) b (a .choice .now) h (digits .result) (digits .ensures) (s .pre .1 .1 .0) (s .pre .1 .1 .1) short (put .last .0) (put .kept .0) in
+    ((linesOf l, lines, omega (arith, c .before .before .before .if2 .taken), own), s .pre .1 .0)
 
 same-length-2 : tie.Need-same-length-2
 same-length-2 c = search needs
@@ -116,7 +117,8 @@ check-any-requires c κs =
     let l = caseWith (a .choice .now) k in
     let lines = has-lines q (c .before .before .before .before .sum-lines .result .next) (c .before .before .before .before .sum-lines .ensures (l .nodes) (nodes-stand q) .3) in
     let size = choice-size p (a .base) b (a .choice .now) h (digits .result) (digits .ensures) in
-    ((linesOf l, lines, omega arith), s .pre .1)
+    let own = choice-roomy p (a .base) b (a .choice .now) h (digits .result) (digits .ensures) (s .pre .1 .1 .0) (s .pre .1 .1 .1) short (put .last .0) (put .kept .0) in
+    ((linesOf l, lines, omega arith, own), s .pre .1 .0)
 
 same-length-5 : tie.Need-same-length-5
 same-length-5 c = search needs
