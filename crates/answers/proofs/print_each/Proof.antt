@@ -1,9 +1,9 @@
--- `print_records`: the records that are left count down. Assumes nothing.
+-- `print_each`: the records that are left count down. Assumes nothing.
 use Prim.{Unit}
 use Prim.Native.Nat.{_-_}
 use borrow.Author.Needs.{needs}
-use Rattle.gapsvectors.proofs.print_records.Statement.{statement}
-use Rattle.gapsvectors.proofs.print_records.Tie as tie
+use Rattle.answers.proofs.print_each.Statement.{statement}
+use Rattle.answers.proofs.print_each.Tie as tie
 
 abbrev Inv-loop : tie.InvT-loop
 Inv-loop work count i₀ i = Unit {0}
@@ -29,7 +29,7 @@ loop-again c = search needs
 returns : tie.Need-returns Inv-loop μ-loop
 returns c = search needs
 
-pub print-records-spec : {M : Type 1} → statement M
-print-records-spec =
+pub print-each-spec : {M : Type 1} → statement M
+print-each-spec =
     tie.close
     (tie.spec Inv-loop μ-loop loop-holds print-record-requires add-i loop-less loop-again returns)
