@@ -8,7 +8,7 @@ cases have in common is stored once, under the first one's name. What is due is 
 import sys
 from pathlib import Path
 
-from gap_cases import ASKED, LIMIT, D, E, L, Writer, blocks, ladder, nested, padded
+from gap_cases import ASKED, LIMIT, D, E, L, Writer, ladder, nested, padded
 
 ROOM = 400
 
@@ -363,7 +363,7 @@ def of_trees():
     yield "no-empty", row(3, 0).lent()
     yield "gaps-1-2", row(3, 2, ["B,0,1", "B,1,2"]).lent()
     yield "gaps-last", row(3, 3, ["B,2,7"]).lent()
-    yield "gap-9-before-10", row(12, 1, ["B,9,1"]).lent()
+    yield "gap-10-of-12", row(12, 1, ["B,9,1"]).lent()
     yield "gaps-in-line-order", Planner(D([L(0, 2), D([E(), L(1, 3)], ["O,1,0"]), E(), L(2, 1)], ["O,2,3"]), ladder(3)).lent(order=lambda lines: lines[::-1])
     yield "64-levels", Planner(nested(63, E()), ladder(1)).lent()
     yield "32-subtasks", Planner(D([L(i % 2) for i in range(31)] + [E()], ["O,30,31"]), ladder(2)).lent()
@@ -433,11 +433,11 @@ def of_names():
 # ---------------------------------------------------------------- limits
 
 
-def thousand(cues, more=0):
+def thousand(cues, more=0, unused=()):
     """So many cues under tasks of their own, some of them under two, in groups of 32."""
     step = lambda i: D([D([L(i % 3)], name=f"one{i % 3}")], name=f"two{i % 3}") if i < more else D([L(i % 3)], name=f"one{i % 3}")
     leaves = [step(i) for i in range(cues)]
-    return Planner(D([D(leaves[i : i + 32]) for i in range(0, cues, 32)]), [((), (), (), ())] * 3)
+    return Planner(D([D(leaves[i : i + 32]) for i in range(0, cues, 32)]), [((), (), (), ())] * 3, unused=unused)
 
 
 def empties(count):
@@ -449,13 +449,18 @@ def empties(count):
     return Planner(D([D(rows[t::tops]) for t in range(tops)]), ())
 
 
-def long_made(length, gap=9, k=12):
-    """A case that makes a text of just this length; this gap is the first that would do."""
-    make = lambda unused: Planner(D([E()] + [L(a) for a in range(k)], [f"B,{gap - 1},1"]), ladder(k), propositions=30, unused=unused)
+def made_of(length, make):
+    """A case that makes a text of just this length; `make` takes methods that no node uses."""
     found = []
     padded(lambda unused: found.append(make(unused)) or found[-1].text(), length)
     assert len(found[-1].text()) == length
     return found[-1]
+
+
+def long_made(length, gap=9):
+    """The same with 12 cues and an empty task, for which this gap is the first that would do."""
+    root = lambda: D([E()] + [L(a) for a in range(12)], [f"B,{gap - 1},1"])
+    return made_of(length, lambda unused: Planner(root(), ladder(12), propositions=30, unused=unused))
 
 
 def of_limits():
@@ -482,6 +487,9 @@ def of_limits():
     yield "2-65536-bytes-made", long_made(LIMIT + 1).lent()
     yield "14-item-65536", long_made(LIMIT + 1).lent(room=LIMIT)
     yield "14-item-65535", long_made(LIMIT).lent(room=LIMIT - 1)
+    longest = made_of(80000, lambda unused: thousand(1000, 967, unused))
+    yield "2-80000-bytes-made", longest.lent()
+    yield "14-item-80000", longest.lent(room=LIMIT)
 
 
 PARTS = [of_cases, of_list_shapes, of_list_names, of_form_shapes, of_root_lines, of_action_lines, of_compound_lines, of_uses, of_ids, of_trees, of_found, of_names, of_limits]
