@@ -161,7 +161,7 @@ def of_list_shapes():
     yield listed("blank-after-comma", 3, "2, take")
     yield listed("tab", 3, "2,take\t")
     yield listed("carriage-return", 8, "2,as-is\r")
-    for byte in (31, 127, 255):
+    for byte in (0, 31, 127, 128, 255):
         yield listed(f"byte-{byte}", 3, f"2,ta{chr(byte)}ke")
 
 
@@ -192,6 +192,7 @@ def of_form_shapes():
     yield shaped("head-missing", FORM[1:])
     yield shaped("head-blank", put(FORM, 1, "==> "))
     yield shaped("head-twice", put(FORM, 1, "==>", "==>"))
+    yield shaped("unended-unlisted", "==>\n1 unload")
     yield shaped("tail-missing", FORM[:-1])
     yield shaped("tail-blank", put(FORM, 7, "<== "))
     yield shaped("tail-long", put(FORM, 7, "<==="))
@@ -233,6 +234,7 @@ def of_action_lines():
     yield shaped("byte-127", "2 take\x7f")
     yield shaped("bytes-195-169", "2 tak\xc3\xa9")
     yield shaped("leading-zero", "02 take")
+    yield shaped("plus", "+2 take")
     yield shaped("letter-in-id", "2a take")
     yield shaped("4294967296", "4294967296 take")
     yield shaped("id-alone", "2")

@@ -1,8 +1,10 @@
 // Runs the core of the import call on every case that its arguments name, in their order: seven words to a case, its file, those of the name list
 // and of the form, the bytes of the output, and the lengths of the state list, the node list and the work space. All that is lent comes in dirty.
-// Prints the words and the answer of each, and then the records of what was found, from their columns, and what was put out. What it prints is
-// held against the stored expectations, which come from the papers and from two renderings that search whole lists and try every choice.
+// Prints the words and the answer of each; then the records of what was found, from their columns, and what was put out; and last, if any byte of the
+// output behind that is not zero, the place of the first. What it prints is held against the stored expectations, which come from the papers and
+// from two renderings that search whole lists and try every choice.
 use importer::Outcome;
+use libc::STDOUT_FILENO;
 use rules::STATES;
 use rules::WORK;
 use state::WORDS;
@@ -15,7 +17,28 @@ const MOST_WORK: usize = WORK + 32;
 
 const MOST_OUTPUT: usize = 120000;
 
-// The answer, the records of an acceptance, and the bytes up to the length answered.
+// The place of the first byte from there on that is not zero, or the length of the output.
+fn first_dirt(output: &[u8], from: usize) -> usize {
+    let mut at = from;
+    while at < output.len() {
+        if output[at] != 0 {
+            return at;
+        }
+        at += 1;
+    }
+    output.len()
+}
+
+fn print_dirt(output: &[u8], from: usize) {
+    let at = first_dirt(output, from);
+    if at < output.len() {
+        io::write_all(STDOUT_FILENO, b"dirty ");
+        io::print_decimal(STDOUT_FILENO, at as u64);
+        io::write_all(STDOUT_FILENO, b"\n");
+    }
+}
+
+// The answer, the records of an acceptance, the bytes up to the length answered, and whether those behind are zero.
 fn print_all(o: Outcome, work: &[u32], output: &[u8]) {
     let answer = o.answer;
     let tried = o.tried;
@@ -24,6 +47,7 @@ fn print_all(o: Outcome, work: &[u32], output: &[u8]) {
     answers::print_answer(r, &[tried, length]);
     answers::print_records(work, r.nodes);
     answers::print_text(output, length);
+    print_dirt(output, length as usize);
 }
 
 fn import_with(
