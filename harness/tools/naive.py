@@ -12,6 +12,7 @@ layout with the Rust renderings.
                               step and hold now
     naive.py stored FOLDER    the stored cases of the write call (args, data, stdout)
     naive.py stored-gaps FOLDER    those of the call that finds the gaps
+    naive.py stored-imports FOLDER    those of the import call
     naive.py stored-steps FILE STDOUT    those of the step call, and what is printed of them
     naive.py dump FILE        every record that the program `dump` wrote (texts, steps and plan forms
                               with the plain rendering's answers and lists)
@@ -725,6 +726,31 @@ def compare_stored_gaps(folder):
     return differing + len(told)
 
 
+def compare_stored_imports(folder):
+    """Seven words to a case: its file, the name list's and the form's, the bytes of the output, the lengths of the three lists. An
+    accepted one is followed by its node records and the text put out."""
+    folder = Path(folder)
+    words = (folder / "args").read_text().split()
+    told = (folder / "stdout").read_bytes()
+    count = differing = 0
+    for i in range(0, len(words), 7):
+        *files, output_len, states_len, nodes_len, work_len = words[i : i + 7]
+        texts = [(folder / "data" / name).read_bytes() for name in files]
+        answer, _, records, output = import_form(*texts, *map(int, (states_len, nodes_len, work_len, output_len)))
+        due = " ".join(words[i : i + 7]) + " " + printed(answer)
+        for node in range(0, len(records), 5):
+            due += "T," + ",".join(map(str, records[node : node + 5])) + "\n"
+        due = due.encode() + output[: answer[6]]
+        count += 1
+        if not told.startswith(due):
+            differing += 1
+            print(f"{files}: {due[:200]!r}")
+            break
+        told = told[len(due) :]
+    print(f"{count} cases, {differing} differences, {len(told)} bytes over")
+    return differing + len(told)
+
+
 def compare_stored_steps(file, stdout):
     """Six lines to a case: its name, and a set on each of the others. Three lines are printed of it."""
     lines = Path(file).read_text().splitlines()
@@ -829,6 +855,7 @@ if __name__ == "__main__":
         "cards": compare_cards,
         "stored": compare_stored,
         "stored-gaps": compare_stored_gaps,
+        "stored-imports": compare_stored_imports,
         "stored-steps": compare_stored_steps,
         "dump": compare_dump,
     }

@@ -1,4 +1,4 @@
-// What the programs of stored cases with lists of given lengths share: a number among a program's arguments, and how much of a list it lends.
+// What the programs of stored cases with lists of given lengths share: a file and a number among a program's arguments, and how much of a list it lends.
 use libc::STDOUT_FILENO;
 ghost use mathlib.Core.Path.{_≡_};
 ghost use Prim.Native.Nat.{_≤_};
@@ -32,6 +32,25 @@ pub fn number_at(i: usize) -> usize {
     let mut word = io::buffer();
     let n = word_at(i, &mut word);
     number(&word[..n])
+}
+
+// Reads the file that argument i names, as much of it as the buffer has room for; answers how many bytes that is. The word is printed, with a blank
+// after it; that of a file that cannot be opened is not, and so the run is refused.
+pub fn file_at(i: usize, buffer: &mut [u8]) -> usize
+    ensures { λ r. ⌜ Counts r (now (buffer .exit)) ⌝ }
+{
+    let mut path = io::buffer();
+    let n = os::arg(i, &mut path);
+    let fd = os::open_read(&path[..n]);
+    if fd < 0 {
+        os::fail(&path[..n]);
+        return 0;
+    }
+    let count = io::read_full(fd, buffer);
+    libc::close(fd);
+    io::write_all(STDOUT_FILENO, &path[..n]);
+    io::write_all(STDOUT_FILENO, b" ");
+    count
 }
 
 // How much is lent of a list of so many elements: what is asked, or all.

@@ -1,8 +1,6 @@
 // Runs the core of the write call on every case that its arguments name, in their order: five words to a case, its file, the bytes of the
 // output, and the lengths of the state list, the node list and the work space. All that is lent comes in dirty. Prints the words and the answer of each, and then
 // what was put out. What it prints is held against the stored expectations, which come from the papers and two independent renderings.
-use capi::Reply;
-use libc::STDOUT_FILENO;
 use rules::STATES;
 use rules::TEXT;
 use rules::WORK;
@@ -17,34 +15,12 @@ const MOST_WORK: usize = WORK + 32;
 
 const MOST_OUTPUT: usize = TEXT + 1;
 
-fn print_field(n: u32) {
-    io::write_all(STDOUT_FILENO, b",");
-    io::print_decimal(STDOUT_FILENO, n as u64);
-}
-
-// The answer: `Y,k,n,length` or `R,number,line,item`, and a line feed.
-fn print_written(r: Reply, length: u32) {
-    if r.number == 0 {
-        io::write_all(STDOUT_FILENO, b"Y");
-        print_field(r.cues);
-        print_field(r.nodes);
-        print_field(length);
-    } else {
-        io::write_all(STDOUT_FILENO, b"R");
-        print_field(r.number);
-        print_field(r.line);
-        print_field(r.item);
-    }
-    io::write_all(STDOUT_FILENO, b"\n");
-}
-
 // The answer, and the bytes up to the length answered.
 fn print_all(w: Wrote, output: &[u8]) {
     let answer = w.answer;
     let length = w.length;
-    print_written(capi::as_reply(answer), length);
-    let n = arguments::lesser(length as usize, output.len());
-    io::write_all(STDOUT_FILENO, &output[..n]);
+    answers::print_answer(capi::as_reply(answer), &[length]);
+    answers::print_text(output, length);
 }
 
 fn write_with(text: &[u8], nodes: usize, states: &mut [u64], work: &mut [u32], output: &mut [u8]) {
@@ -74,33 +50,17 @@ fn write_text(
     );
 }
 
-// The case of a file, its bytes up to one more than a case may have, and the words that follow its name.
-fn write_file(path: &[u8], i: usize)
+// The case of the file that argument i names, its bytes up to one more than a case may have, and the lengths that follow its name.
+fn write_argument(i: usize)
     requires { ⌜ i + 4 ≤ 18446744073709551615 ⌝ }
 {
-    let fd = os::open_read(path);
-    if fd < 0 {
-        os::fail(path);
-        return;
-    }
     let mut buffer = io::large_buffer();
-    let n = io::read_full(fd, &mut buffer);
-    libc::close(fd);
-    io::write_all(STDOUT_FILENO, path);
-    io::write_all(STDOUT_FILENO, b" ");
+    let n = arguments::file_at(i, &mut buffer);
     let output = arguments::number_at(i + 1);
     let states = arguments::number_at(i + 2);
     let nodes = arguments::number_at(i + 3);
     let work = arguments::number_at(i + 4);
     write_text(&buffer[..n], output, states, nodes, work);
-}
-
-fn write_argument(i: usize)
-    requires { ⌜ i + 4 ≤ 18446744073709551615 ⌝ }
-{
-    let mut path = io::buffer();
-    let n = os::arg(i, &mut path);
-    write_file(&path[..n], i);
 }
 
 fn main() {
