@@ -2,7 +2,6 @@
 // the state list, the node list and the work space. All that is lent comes in dirty. Prints the words and the answer of each, and then the records
 // of what was found, from their columns. What it prints is held against the stored expectations, which come from the papers and from two
 // renderings that try every choice.
-use capi::Reply;
 use finder::Discovery;
 use libc::STDOUT_FILENO;
 use records::ENDS;
@@ -10,6 +9,7 @@ use records::LABELS;
 use records::LETTERS;
 use records::PLACES;
 use records::STARTS;
+use replies::Reply;
 use rules::NODES;
 use rules::STATES;
 use rules::WORK;
@@ -71,7 +71,7 @@ fn print_records(work: &[u32], count: usize)
 fn print_all(d: Discovery, work: &[u32]) {
     let answer = d.answer;
     let tried = d.tried;
-    let r = capi::as_reply(answer);
+    let r = replies::as_reply(answer);
     print_found(r, tried);
     if work.len() < WORK {
         return;

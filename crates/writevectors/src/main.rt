@@ -1,8 +1,8 @@
 // Runs the core of the write call on every case that its arguments name, in their order: five words to a case, its file, the bytes of the
 // output, and the lengths of the state list, the node list and the work space. All that is lent comes in dirty. Prints the words and the answer of each, and then
 // what was put out. What it prints is held against the stored expectations, which come from the papers and two independent renderings.
-use capi::Reply;
 use libc::STDOUT_FILENO;
+use replies::Reply;
 use rules::STATES;
 use rules::TEXT;
 use rules::WORK;
@@ -42,7 +42,7 @@ fn print_written(r: Reply, length: u32) {
 fn print_all(w: Wrote, output: &[u8]) {
     let answer = w.answer;
     let length = w.length;
-    print_written(capi::as_reply(answer), length);
+    print_written(replies::as_reply(answer), length);
     let n = arguments::lesser(length as usize, output.len());
     io::write_all(STDOUT_FILENO, &output[..n]);
 }
