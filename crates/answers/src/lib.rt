@@ -1,11 +1,11 @@
 // What the programs of stored cases print of an answer: its line, the records that come with it from their columns, and the text put out.
-use capi::Reply;
 use libc::STDOUT_FILENO;
 use records::ENDS;
 use records::LABELS;
 use records::LETTERS;
 use records::PLACES;
 use records::STARTS;
+use replies::Reply;
 use rules::NODES;
 use rules::WORK;
 ghost use Prim.Native.Nat.{_≤_, _<_};

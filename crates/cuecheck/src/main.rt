@@ -5,5 +5,5 @@ use libc::STDIN_FILENO;
 fn main() {
     let mut buffer = io::large_buffer();
     let n = io::read_full(STDIN_FILENO, &mut buffer);
-    printing::print_reply(capi::as_reply(verdict::check_text(&buffer[..n])));
+    printing::print_reply(replies::as_reply(verdict::check_text(&buffer[..n])));
 }

@@ -17,7 +17,7 @@ const MOST_WORK: usize = WORK + 32;
 fn print_all(d: Discovery, work: &[u32]) {
     let answer = d.answer;
     let tried = d.tried;
-    let r = capi::as_reply(answer);
+    let r = replies::as_reply(answer);
     answers::print_answer(r, &[tried]);
     answers::print_records(work, r.nodes);
 }

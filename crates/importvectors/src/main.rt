@@ -43,7 +43,7 @@ fn print_all(o: Outcome, work: &[u32], output: &[u8]) {
     let answer = o.answer;
     let tried = o.tried;
     let length = o.length;
-    let r = capi::as_reply(answer);
+    let r = replies::as_reply(answer);
     answers::print_answer(r, &[tried, length]);
     answers::print_records(work, r.nodes);
     answers::print_text(output, length);

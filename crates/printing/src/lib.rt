@@ -3,9 +3,9 @@ ghost use mathlib.Core.Path.{_≡_};
 ghost use Prim.Native.Nat.{_≤_};
 ghost use lib.ListN.{length, drop};
 ghost use Rattle.rules.specs.Line.{printedReport};
-ghost use Rattle.capi.specs.Replies.{reportOf};
-use capi::Reply;
+ghost use Rattle.replies.specs.Replies.{reportOf};
 use libc::STDOUT_FILENO;
+use replies::Reply;
 use report::LONGEST;
 
 // The line of a reply, at the end of `out`; answers where it starts.

@@ -3,8 +3,8 @@
 // comes in dirty. Prints the words and the answer of each; then the row of each state, without the zeros at its end; and last, if any other
 // number of the state list is not zero, the place of the first. What it prints is held against the stored expectations, which come from the
 // papers and two independent renderings.
-use capi::Reply;
 use libc::STDOUT_FILENO;
+use replies::Reply;
 use rules::Answer;
 use rules::STATES;
 use rules::WORK;
@@ -93,7 +93,7 @@ fn rows_of(r: Reply) -> usize
 }
 
 fn print_all(answer: Answer, states: &[u64]) {
-    let r = capi::as_reply(answer);
+    let r = replies::as_reply(answer);
     let count = rows_of(r);
     printing::print_reply(r);
     print_rows(states, count);

@@ -14,7 +14,7 @@ fn check_file(path: &[u8]) {
     libc::close(fd);
     io::write_all(STDOUT_FILENO, path);
     io::write_all(STDOUT_FILENO, b" ");
-    printing::print_reply(capi::as_reply(verdict::check_text(&buffer[..n])));
+    printing::print_reply(replies::as_reply(verdict::check_text(&buffer[..n])));
 }
 
 fn check_argument(i: usize) {

@@ -19,7 +19,7 @@ const MOST_OUTPUT: usize = TEXT + 1;
 fn print_all(w: Wrote, output: &[u8]) {
     let answer = w.answer;
     let length = w.length;
-    answers::print_answer(capi::as_reply(answer), &[length]);
+    answers::print_answer(replies::as_reply(answer), &[length]);
     answers::print_text(output, length);
 }
 

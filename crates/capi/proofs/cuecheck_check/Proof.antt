@@ -35,25 +35,25 @@ use denote.Triple.Walked.{Stays, stay-none-slice, gave-slice, walkOf, goes-none-
 use denote.Exit.{yes}
 use denote.Signature.{plain}
 use Rattle.rules.specs.declared.Answer.{Answer}
-use Rattle.capi.specs.declared.Reply.{Reply}
+use Rattle.replies.specs.declared.Reply.{Reply}
 use Rattle.rules.specs.Verdict.{reported}
 use Rattle.rules.specs.Demands.{lentBy, Demand2, Demand3}
 use Rattle.rules.proofs.Demands.{demand-2, demand-3}
-use Rattle.capi.specs.Replies.{reportOf}
+use Rattle.replies.specs.Replies.{reportOf}
 use Rattle.verdict.proofs.Clauses.{says-3}
 use Rattle.verdict.proofs.CheckCall.{Args, ans, ss′, ns′, ws′, Lens, came, owes, Check, to-check, goes-check, Gave, check-gives}
 use Rattle.rules.proofs.Node as T
 use Rattle.rules.proofs.Answer as S
 use Rattle.rules.proofs.Answer.Laws as S′
-use Rattle.capi.proofs.Reply as P
-use Rattle.capi.proofs.Reply.Laws as P′
+use Rattle.replies.proofs.Reply as P
+use Rattle.replies.proofs.Reply.Laws as P′
 use Rattle.verdict.proofs.check.Symbol as check-def
 use Rattle.verdict.proofs.check.Symbol.{name as #verdict·check}
 use Rattle.verdict.proofs.check.Met as check-thm
-use Rattle.capi.proofs.as_reply as reply
-use Rattle.capi.proofs.as_reply.Symbol as reply-def
-use Rattle.capi.proofs.as_reply.Symbol.{name as #capi·as-reply}
-use Rattle.capi.proofs.as_reply.Met as reply-thm
+use Rattle.replies.proofs.as_reply as reply
+use Rattle.replies.proofs.as_reply.Symbol as reply-def
+use Rattle.replies.proofs.as_reply.Symbol.{name as #replies·as-reply}
+use Rattle.replies.proofs.as_reply.Met as reply-thm
 use Rattle.capi.proofs.cuecheck_check.Key.{name as #capi·cuecheck-check}
 use Rattle.capi.proofs.cuecheck_check as this
 use Rattle.capi.proofs.cuecheck_check.Statement as stated
@@ -111,7 +111,7 @@ module _ {M : Type 1} (𝓤 : URA M) (H : Heap 𝓤) (A : Atoms 𝓤) (W : Given
   goes-reply : (v : Val) → ent 𝓤 (sem 𝓤 H A (S.the-row .own (ans a) (v ∷ []))) (AsReply 𝓤 H A mem run .pre (to-reply v))
   goes-reply v = qed W (‵ (S.the-row .own (ans a) (v ∷ [])) ∷ []) ∵ nothing ! $ move ! (1 ∷ 0 ∷ []) $ join ! $ nothing ! $ join ! $ frame ! $ done !
 
-  module _ (C : Calls 𝓤 H) (Λ : Loops 𝓤 H) (fm : FmC 𝓤 H (W .laws) C) (known-check : Triple 𝓤 (C #verdict·check) (Check 𝓤 H A mem run)) (known-reply : Triple 𝓤 (C #capi·as-reply) (AsReply 𝓤 H A mem run)) where
+  module _ (C : Calls 𝓤 H) (Λ : Loops 𝓤 H) (fm : FmC 𝓤 H (W .laws) C) (known-check : Triple 𝓤 (C #verdict·check) (Check 𝓤 H A mem run)) (known-reply : Triple 𝓤 (C #replies·as-reply) (AsReply 𝓤 H A mem run)) where
     walk : Is (ShrSlice (named 0) κt u8) (a .0) (vt ∷ []) → Room u64 (length (a .1 .0 .now)) → Room T.the-row (length (a .1 .1 .0 .now)) → Room u32 (length (a .1 .1 .1 .0 .now))
         → ent 𝓤 (onEntry 𝓤 H A this.signature (κt, (κs, (κn, (κw, tt)))) (qt, (qs, (qn, (qw, tt)))) a vals) (WpFn 𝓤 H C Λ code.function (vt ∷ vs ∷ vn ∷ vw ∷ []) Post)
     walk t-is rs rn rw =
@@ -145,7 +145,7 @@ module _ {M : Type 1} (𝓤 : URA M) (H : Heap 𝓤) (A : Atoms 𝓤) (W : Given
         move ! (31 ∷ 32 ∷ []) $ free1 ! $ move ! (29 ∷ 30 ∷ []) $ free1 ! $ move ! (27 ∷ 28 ∷ []) $ free1 ! $ move ! (25 ∷ 26 ∷ []) $ free1 ! $ move ! (23 ∷ 24 ∷ []) $ free1 ! $ move ! (21 ∷ 22 ∷ []) $ free1 ! $ move ! (19 ∷ 20 ∷ []) $ free1 ! $ move ! (17 ∷ 18 ∷ []) $ free1 ! $ move ! (15 ∷ 16 ∷ []) $ free1 ! $ move ! (13 ∷ 14 ∷ []) $ free1 ! $ move ! (11 ∷ 12 ∷ []) $ free1 ! $ move ! (9 ∷ 10 ∷ []) $ free1 ! $ free0 ! $ by ! (exits r v′ e lens))))))))))))))))))))
 
 module _ {M : Type 1} (𝓤 : URA M) (H : Heap 𝓤) (A : Atoms 𝓤) (W : Given 𝓤 H A) (mem : Memory → SProp 𝓤) (run : Routine → Fun 𝓤) where
-  cuecheck-check-walks : (C : Calls 𝓤 H) (Λ : Loops 𝓤 H) → FmC 𝓤 H (W .laws) C → Triple 𝓤 (C #verdict·check) (Check 𝓤 H A mem run) → Triple 𝓤 (C #capi·as-reply) (AsReply 𝓤 H A mem run)
+  cuecheck-check-walks : (C : Calls 𝓤 H) (Λ : Loops 𝓤 H) → FmC 𝓤 H (W .laws) C → Triple 𝓤 (C #verdict·check) (Check 𝓤 H A mem run) → Triple 𝓤 (C #replies·as-reply) (AsReply 𝓤 H A mem run)
       → Walks 𝓤 H A this.ended stayed (WpFn 𝓤 H C Λ code.function) (this.clauses 𝓤 H A mem run)
   cuecheck-check-walks C Λ fm known-check known-reply = walked 𝓤 H A this.ended stayed (this.clauses 𝓤 H A mem run) (WpFn 𝓤 H C Λ code.function)
       (λ κs. (slice-vals, (slice-vals, (slice-vals, (slice-vals, tt)))))
@@ -154,7 +154,7 @@ module _ {M : Type 1} (𝓤 : URA M) (H : Heap 𝓤) (A : Atoms 𝓤) (W : Given
       (walk 𝓤 H A W mem run (κs .0) (κs .1 .0) (κs .1 .1 .0) (κs .1 .1 .1 .0) (qs .0) (qs .1 .0) (qs .1 .1 .0) (qs .1 .1 .1 .0) a C Λ fm known-check known-reply (are .0) (are .1 .0 .0 .1) (are .1 .1 .0 .0 .1) (are .1 .1 .1 .0 .0 .1)))
 
 cuecheck-check-meets : {M : Type 1} (𝓤 : URA M) (H : Heap 𝓤) (A : Atoms 𝓤) → Given 𝓤 H A → (mem : Memory → SProp 𝓤) (run : Routine → Fun 𝓤) (𝓣 : Tables 𝓤 H)
-    → Triple 𝓤 (𝓣 .C #verdict·check) (Check 𝓤 H A mem run) → Triple 𝓤 (𝓣 .C #capi·as-reply) (AsReply 𝓤 H A mem run)
+    → Triple 𝓤 (𝓣 .C #verdict·check) (Check 𝓤 H A mem run) → Triple 𝓤 (𝓣 .C #replies·as-reply) (AsReply 𝓤 H A mem run)
     → Meets 𝓤 H A this.signature (WpFn 𝓤 H (𝓣 .C) (𝓣 .Λ) code.function) (this.spec 𝓤 H A mem run)
 cuecheck-check-meets 𝓤 H A W mem run 𝓣 known-check known-reply =
     walk-meets 𝓤 H A this.ended stayed W
@@ -168,4 +168,4 @@ cuecheck-check-spec 𝓤 H 𝓜 𝓖 𝓡 =
     (tables 𝓤 H 𝓜 𝓡 code.env .C) (tables 𝓤 H 𝓜 𝓡 code.env .Λ) #capi·cuecheck-check code.function (code.unfolded 𝓤 H 𝓜 𝓡)
     (cuecheck-check-meets 𝓤 H (𝓖 .A) (givenOf 𝓤 H 𝓜 𝓖) (𝓜 .mem) (𝓡 .run) (tablesOf 𝓤 H 𝓜 (tables 𝓤 H 𝓜 𝓡 code.env))
     (cited 𝓤 H (Check 𝓤 H (𝓖 .A) (𝓜 .mem) (𝓡 .run)) 𝓜 𝓡 code.env #verdict·check check-def.routine code.calls-verdict·check (check-thm.met 𝓤 H 𝓜 𝓖 𝓡))
-    (cited 𝓤 H (AsReply 𝓤 H (𝓖 .A) (𝓜 .mem) (𝓡 .run)) 𝓜 𝓡 code.env #capi·as-reply reply-def.routine code.calls-capi·as-reply (reply-thm.met 𝓤 H 𝓜 𝓖 𝓡)))
+    (cited 𝓤 H (AsReply 𝓤 H (𝓖 .A) (𝓜 .mem) (𝓡 .run)) 𝓜 𝓡 code.env #replies·as-reply reply-def.routine code.calls-replies·as-reply (reply-thm.met 𝓤 H 𝓜 𝓖 𝓡)))

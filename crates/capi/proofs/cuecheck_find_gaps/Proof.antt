@@ -43,14 +43,14 @@ use denote.Exit.{yes}
 use denote.Signature.{plain}
 use Rattle.rules.specs.declared.Node.{Node}
 use Rattle.finder.specs.declared.Discovery.{Discovery}
-use Rattle.capi.specs.declared.Found.{Found as FoundReply}
+use Rattle.replies.specs.declared.Found.{Found as FoundReply}
 use Rattle.rules.specs.Tree.{Tree}
 use Rattle.rules.specs.Verdict.{Lent, Found, answerOf, filled, noNode, workAfter, reported}
 use Rattle.rules.specs.Demands.{lentBy}
 use Rattle.rules.specs.Gaps.{triedAfter, FindAnswers}
 use Rattle.rules.proofs.Gaps.Answers.{find-answers}
 use Rattle.records.specs.Records.{recordAt, upTo, RecordsHeld}
-use Rattle.capi.specs.Replies.{foundReport}
+use Rattle.replies.specs.Replies.{foundReport}
 use Rattle.verdict.proofs.Steps.{is-count, is-unit}
 use Rattle.verdict.proofs.Records.{Comes, Fits, records-fit, records-filled}
 use Rattle.verdict.proofs.Finds.{find-comes}
@@ -61,25 +61,25 @@ use Rattle.capi.proofs.FindCall.{Args, lists as listsOf, found as found
 use Rattle.rules.proofs.Node as T
 use Rattle.finder.proofs.Discovery as R
 use Rattle.finder.proofs.Discovery.Laws as R′
-use Rattle.capi.proofs.Found as P
-use Rattle.capi.proofs.Found.Laws as P′
+use Rattle.replies.proofs.Found as P
+use Rattle.replies.proofs.Found.Laws as P′
 use Rattle.finder.proofs.find.Symbol as find-def
 use Rattle.finder.proofs.find.Symbol.{name as #finder·find}
 use Rattle.finder.proofs.find.Met as find-thm
-use Rattle.capi.proofs.records_found as records-found
-use Rattle.capi.proofs.records_found.Symbol as records-def
-use Rattle.capi.proofs.records_found.Symbol.{name as #capi·records-found}
-use Rattle.capi.proofs.records_found.Met as records-thm
+use Rattle.replies.proofs.records_found as records-found
+use Rattle.replies.proofs.records_found.Symbol as records-def
+use Rattle.replies.proofs.records_found.Symbol.{name as #replies·records-found}
+use Rattle.replies.proofs.records_found.Met as records-thm
 use Rattle.verdict.proofs.fill.Symbol as fill-def
 use Rattle.verdict.proofs.fill.Symbol.{name as #verdict·fill}
 use Rattle.verdict.proofs.fill.Met as fill-thm
 use Rattle.rows.proofs.clear_work.Symbol as clear-def
 use Rattle.rows.proofs.clear_work.Symbol.{name as #rows·clear-work}
 use Rattle.rows.proofs.clear_work.Met as clear-thm
-use Rattle.capi.proofs.as_found as as-found
-use Rattle.capi.proofs.as_found.Symbol as found-def
-use Rattle.capi.proofs.as_found.Symbol.{name as #capi·as-found}
-use Rattle.capi.proofs.as_found.Met as found-thm
+use Rattle.replies.proofs.as_found as as-found
+use Rattle.replies.proofs.as_found.Symbol as found-def
+use Rattle.replies.proofs.as_found.Symbol.{name as #replies·as-found}
+use Rattle.replies.proofs.as_found.Met as found-thm
 use Rattle.capi.proofs.cuecheck_find_gaps.Key.{name as #capi·cuecheck-find-gaps}
 use Rattle.capi.proofs.cuecheck_find_gaps as this
 use Rattle.capi.proofs.cuecheck_find_gaps.Statement as stated
@@ -239,7 +239,7 @@ module _ {M : Type 1} (𝓤 : URA M) (H : Heap 𝓤) (A : Atoms 𝓤) (W : Given
       use1 W (raw (fact 𝓤 (Returned number r))) (found-is number r) $ heard ! (Returned number r) (λ e. split ! $ drop ! $
       at-once ! $ show ! (λ (r′ : FoundReply). mean 𝓤 H A (FoundGave number u r′)) r $ check ! e $ done !))
 
-  module _ (C : Calls 𝓤 H) (Λ : Loops 𝓤 H) (fm : FmC 𝓤 H (W .laws) C) (known-find : Triple 𝓤 (C #finder·find) (Find 𝓤 H A mem run)) (known-count : Triple 𝓤 (C #capi·records-found) (Count 𝓤 H A mem run)) (known-fill : Triple 𝓤 (C #verdict·fill) (Fill 𝓤 H A mem run)) (known-clear : Triple 𝓤 (C #rows·clear-work) (Clear 𝓤 H A mem run)) (known-found : Triple 𝓤 (C #capi·as-found) (AsFound 𝓤 H A mem run)) where
+  module _ (C : Calls 𝓤 H) (Λ : Loops 𝓤 H) (fm : FmC 𝓤 H (W .laws) C) (known-find : Triple 𝓤 (C #finder·find) (Find 𝓤 H A mem run)) (known-count : Triple 𝓤 (C #replies·records-found) (Count 𝓤 H A mem run)) (known-fill : Triple 𝓤 (C #verdict·fill) (Fill 𝓤 H A mem run)) (known-clear : Triple 𝓤 (C #rows·clear-work) (Clear 𝓤 H A mem run)) (known-found : Triple 𝓤 (C #replies·as-found) (AsFound 𝓤 H A mem run)) where
     walk : Is (ShrSlice (named 0) κt u8) t (vt ∷ []) → Room u64 (length (xs .now)) → Room T.the-row n → Room u32 (length ws)
         → ent 𝓤 (onEntry 𝓤 H A this.signature (κt, (κs, (κn, (κw, tt)))) (qt, (qs, (qn, (qw, tt)))) a vals) (WpFn 𝓤 H C Λ code.function (vt ∷ vs ∷ vn ∷ vw ws ∷ []) Post)
     walk t-is rs rn rw =
@@ -317,7 +317,7 @@ module _ {M : Type 1} (𝓤 : URA M) (H : Heap 𝓤) (A : Atoms 𝓤) (W : Given
         room-of number us l = subst (λ (w : ℕ). Fits n w (m number)) (sym l) (records-fit (length (xs .now)) n (length ws) (comes number .0) (found number) (comes number .1))
 
 module _ {M : Type 1} (𝓤 : URA M) (H : Heap 𝓤) (A : Atoms 𝓤) (W : Given 𝓤 H A) (mem : Memory → SProp 𝓤) (run : Routine → Fun 𝓤) where
-  cuecheck-find-gaps-walks : (C : Calls 𝓤 H) (Λ : Loops 𝓤 H) → FmC 𝓤 H (W .laws) C → Triple 𝓤 (C #finder·find) (Find 𝓤 H A mem run) → Triple 𝓤 (C #capi·records-found) (Count 𝓤 H A mem run) → Triple 𝓤 (C #verdict·fill) (Fill 𝓤 H A mem run) → Triple 𝓤 (C #rows·clear-work) (Clear 𝓤 H A mem run) → Triple 𝓤 (C #capi·as-found) (AsFound 𝓤 H A mem run)
+  cuecheck-find-gaps-walks : (C : Calls 𝓤 H) (Λ : Loops 𝓤 H) → FmC 𝓤 H (W .laws) C → Triple 𝓤 (C #finder·find) (Find 𝓤 H A mem run) → Triple 𝓤 (C #replies·records-found) (Count 𝓤 H A mem run) → Triple 𝓤 (C #verdict·fill) (Fill 𝓤 H A mem run) → Triple 𝓤 (C #rows·clear-work) (Clear 𝓤 H A mem run) → Triple 𝓤 (C #replies·as-found) (AsFound 𝓤 H A mem run)
       → Walks 𝓤 H A this.ended stayed (WpFn 𝓤 H C Λ code.function) (this.clauses 𝓤 H A mem run)
   cuecheck-find-gaps-walks C Λ fm known-find known-count known-fill known-clear known-found = walked 𝓤 H A this.ended stayed (this.clauses 𝓤 H A mem run) (WpFn 𝓤 H C Λ code.function)
       (λ κs. (slice-vals, (slice-vals, (slice-vals, (slice-vals, tt)))))
@@ -327,7 +327,7 @@ module _ {M : Type 1} (𝓤 : URA M) (H : Heap 𝓤) (A : Atoms 𝓤) (W : Given
       C Λ fm known-find known-count known-fill known-clear known-found (are .0) (are .1 .0 .0 .1) (are .1 .1 .0 .0 .1) (are .1 .1 .1 .0 .0 .1)))
 
 cuecheck-find-gaps-meets : {M : Type 1} (𝓤 : URA M) (H : Heap 𝓤) (A : Atoms 𝓤) → Given 𝓤 H A → (mem : Memory → SProp 𝓤) (run : Routine → Fun 𝓤) (𝓣 : Tables 𝓤 H)
-    → Triple 𝓤 (𝓣 .C #finder·find) (Find 𝓤 H A mem run) → Triple 𝓤 (𝓣 .C #capi·records-found) (Count 𝓤 H A mem run) → Triple 𝓤 (𝓣 .C #verdict·fill) (Fill 𝓤 H A mem run) → Triple 𝓤 (𝓣 .C #rows·clear-work) (Clear 𝓤 H A mem run) → Triple 𝓤 (𝓣 .C #capi·as-found) (AsFound 𝓤 H A mem run)
+    → Triple 𝓤 (𝓣 .C #finder·find) (Find 𝓤 H A mem run) → Triple 𝓤 (𝓣 .C #replies·records-found) (Count 𝓤 H A mem run) → Triple 𝓤 (𝓣 .C #verdict·fill) (Fill 𝓤 H A mem run) → Triple 𝓤 (𝓣 .C #rows·clear-work) (Clear 𝓤 H A mem run) → Triple 𝓤 (𝓣 .C #replies·as-found) (AsFound 𝓤 H A mem run)
     → Meets 𝓤 H A this.signature (WpFn 𝓤 H (𝓣 .C) (𝓣 .Λ) code.function) (this.spec 𝓤 H A mem run)
 cuecheck-find-gaps-meets 𝓤 H A W mem run 𝓣 known-find known-count known-fill known-clear known-found =
     walk-meets 𝓤 H A this.ended stayed W
@@ -341,7 +341,7 @@ cuecheck-find-gaps-spec 𝓤 H 𝓜 𝓖 𝓡 =
     (tables 𝓤 H 𝓜 𝓡 code.env .C) (tables 𝓤 H 𝓜 𝓡 code.env .Λ) #capi·cuecheck-find-gaps code.function (code.unfolded 𝓤 H 𝓜 𝓡)
     (cuecheck-find-gaps-meets 𝓤 H (𝓖 .A) (givenOf 𝓤 H 𝓜 𝓖) (𝓜 .mem) (𝓡 .run) (tablesOf 𝓤 H 𝓜 (tables 𝓤 H 𝓜 𝓡 code.env))
     (cited 𝓤 H (Find 𝓤 H (𝓖 .A) (𝓜 .mem) (𝓡 .run)) 𝓜 𝓡 code.env #finder·find find-def.routine code.calls-finder·find (find-thm.met 𝓤 H 𝓜 𝓖 𝓡))
-    (cited 𝓤 H (Count 𝓤 H (𝓖 .A) (𝓜 .mem) (𝓡 .run)) 𝓜 𝓡 code.env #capi·records-found records-def.routine code.calls-capi·records-found (records-thm.met 𝓤 H 𝓜 𝓖 𝓡))
+    (cited 𝓤 H (Count 𝓤 H (𝓖 .A) (𝓜 .mem) (𝓡 .run)) 𝓜 𝓡 code.env #replies·records-found records-def.routine code.calls-replies·records-found (records-thm.met 𝓤 H 𝓜 𝓖 𝓡))
     (cited 𝓤 H (Fill 𝓤 H (𝓖 .A) (𝓜 .mem) (𝓡 .run)) 𝓜 𝓡 code.env #verdict·fill fill-def.routine code.calls-verdict·fill (fill-thm.met 𝓤 H 𝓜 𝓖 𝓡))
     (cited 𝓤 H (Clear 𝓤 H (𝓖 .A) (𝓜 .mem) (𝓡 .run)) 𝓜 𝓡 code.env #rows·clear-work clear-def.routine code.calls-rows·clear-work (clear-thm.met 𝓤 H 𝓜 𝓖 𝓡))
-    (cited 𝓤 H (AsFound 𝓤 H (𝓖 .A) (𝓜 .mem) (𝓡 .run)) 𝓜 𝓡 code.env #capi·as-found found-def.routine code.calls-capi·as-found (found-thm.met 𝓤 H 𝓜 𝓖 𝓡)))
+    (cited 𝓤 H (AsFound 𝓤 H (𝓖 .A) (𝓜 .mem) (𝓡 .run)) 𝓜 𝓡 code.env #replies·as-found found-def.routine code.calls-replies·as-found (found-thm.met 𝓤 H 𝓜 𝓖 𝓡)))

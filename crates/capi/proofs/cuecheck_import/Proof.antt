@@ -43,7 +43,7 @@ use denote.Exit.{yes}
 use denote.Signature.{plain}
 use Rattle.rules.specs.declared.Node.{Node}
 use Rattle.importer.specs.declared.Outcome.{Outcome}
-use Rattle.capi.specs.declared.Imported.{Imported}
+use Rattle.replies.specs.declared.Imported.{Imported}
 use Rattle.rules.specs.Tree.{Tree}
 use Rattle.rules.specs.Verdict.{Lent, Found, answerOf, filled, noNode, workAfter, reported}
 use Rattle.rules.specs.Demands.{lentBy}
@@ -51,7 +51,7 @@ use Rattle.rules.specs.Gaps.{triedAfter}
 use Rattle.rules.specs.Import.{foundTree, madeLength}
 use Rattle.rules.proofs.Import.{has-form, made-shows}
 use Rattle.records.specs.Records.{recordAt, upTo, RecordsHeld}
-use Rattle.capi.specs.Replies.{importedReport}
+use Rattle.replies.specs.Replies.{importedReport}
 use Rattle.verdict.proofs.Steps.{is-count, is-unit}
 use Rattle.verdict.proofs.Records.{Fits}
 use Rattle.verdict.proofs.Calls.{Fill, to-fill, goes-fill, FillGave, fill-gives, Clear, to-clear, goes-clear, ClearGave, clear-gives}
@@ -61,25 +61,25 @@ use Rattle.capi.proofs.ImportCall.{Args, lists as listsOf, found as fou
 use Rattle.rules.proofs.Node as T
 use Rattle.importer.proofs.Outcome as R
 use Rattle.importer.proofs.Outcome.Laws as R′
-use Rattle.capi.proofs.Imported as P
-use Rattle.capi.proofs.Imported.Laws as P′
+use Rattle.replies.proofs.Imported as P
+use Rattle.replies.proofs.Imported.Laws as P′
 use Rattle.importer.proofs.import.Symbol as import-def
 use Rattle.importer.proofs.import.Symbol.{name as #importer·import}
 use Rattle.importer.proofs.import.Met as import-thm
-use Rattle.capi.proofs.records_imported as records-imported
-use Rattle.capi.proofs.records_imported.Symbol as records-def
-use Rattle.capi.proofs.records_imported.Symbol.{name as #capi·records-imported}
-use Rattle.capi.proofs.records_imported.Met as records-thm
+use Rattle.replies.proofs.records_imported as records-imported
+use Rattle.replies.proofs.records_imported.Symbol as records-def
+use Rattle.replies.proofs.records_imported.Symbol.{name as #replies·records-imported}
+use Rattle.replies.proofs.records_imported.Met as records-thm
 use Rattle.verdict.proofs.fill.Symbol as fill-def
 use Rattle.verdict.proofs.fill.Symbol.{name as #verdict·fill}
 use Rattle.verdict.proofs.fill.Met as fill-thm
 use Rattle.rows.proofs.clear_work.Symbol as clear-def
 use Rattle.rows.proofs.clear_work.Symbol.{name as #rows·clear-work}
 use Rattle.rows.proofs.clear_work.Met as clear-thm
-use Rattle.capi.proofs.as_imported as as-imported
-use Rattle.capi.proofs.as_imported.Symbol as imported-def
-use Rattle.capi.proofs.as_imported.Symbol.{name as #capi·as-imported}
-use Rattle.capi.proofs.as_imported.Met as imported-thm
+use Rattle.replies.proofs.as_imported as as-imported
+use Rattle.replies.proofs.as_imported.Symbol as imported-def
+use Rattle.replies.proofs.as_imported.Symbol.{name as #replies·as-imported}
+use Rattle.replies.proofs.as_imported.Met as imported-thm
 use Rattle.capi.proofs.cuecheck_import.Key.{name as #capi·cuecheck-import}
 use Rattle.capi.proofs.cuecheck_import as this
 use Rattle.capi.proofs.cuecheck_import.Statement as stated
@@ -253,7 +253,7 @@ module _ {M : Type 1} (𝓤 : URA M) (H : Heap 𝓤) (A : Atoms 𝓤) (W : Given
       use1 W (raw (fact 𝓤 (Returned number r))) (imported-is number r) $ heard ! (Returned number r) (λ e. split ! $ drop ! $
       at-once ! $ show ! (λ (r′ : Imported). mean 𝓤 H A (ImportedGave number u r′)) r $ check ! e $ done !))
 
-  module _ (C : Calls 𝓤 H) (Λ : Loops 𝓤 H) (fm : FmC 𝓤 H (W .laws) C) (known-import : Triple 𝓤 (C #importer·import) (Import 𝓤 H A mem run)) (known-count : Triple 𝓤 (C #capi·records-imported) (Count 𝓤 H A mem run)) (known-fill : Triple 𝓤 (C #verdict·fill) (Fill 𝓤 H A mem run)) (known-clear : Triple 𝓤 (C #rows·clear-work) (Clear 𝓤 H A mem run)) (known-imported : Triple 𝓤 (C #capi·as-imported) (AsImported 𝓤 H A mem run)) where
+  module _ (C : Calls 𝓤 H) (Λ : Loops 𝓤 H) (fm : FmC 𝓤 H (W .laws) C) (known-import : Triple 𝓤 (C #importer·import) (Import 𝓤 H A mem run)) (known-count : Triple 𝓤 (C #replies·records-imported) (Count 𝓤 H A mem run)) (known-fill : Triple 𝓤 (C #verdict·fill) (Fill 𝓤 H A mem run)) (known-clear : Triple 𝓤 (C #rows·clear-work) (Clear 𝓤 H A mem run)) (known-imported : Triple 𝓤 (C #replies·as-imported) (AsImported 𝓤 H A mem run)) where
     walk : Is (ShrSlice (named 0) κt u8) t (vt ∷ []) → Is (ShrSlice (named 1) κu u8) tu (vu ∷ []) → Is (ShrSlice (named 2) κf u8) tf (vf ∷ []) → Room u64 (length (xs .now)) → Room T.the-row n → Room u32 (length ws) → Room u8 (length (xo .now))
         → ent 𝓤 (onEntry 𝓤 H A this.signature (κt, (κu, (κf, (κs, (κn, (κw, (κo, tt))))))) (qt, (qu, (qf, (qs, (qn, (qw, (qo, tt))))))) a vals) (WpFn 𝓤 H C Λ code.function (vt ∷ vu ∷ vf ∷ vs ∷ vn ∷ vw ws ∷ vo ∷ []) Post)
     walk t-is u-is f-is rs rn rw ro =
@@ -335,7 +335,7 @@ module _ {M : Type 1} (𝓤 : URA M) (H : Heap 𝓤) (A : Atoms 𝓤) (W : Given
         room-of number us l = subst (λ (w : ℕ). Fits n w (m number)) (sym l) (import-fits (length (xs .now)) n (length ws) number (length (xo .now)) (t .now) (tu .now) (tf .now))
 
 module _ {M : Type 1} (𝓤 : URA M) (H : Heap 𝓤) (A : Atoms 𝓤) (W : Given 𝓤 H A) (mem : Memory → SProp 𝓤) (run : Routine → Fun 𝓤) where
-  cuecheck-import-walks : (C : Calls 𝓤 H) (Λ : Loops 𝓤 H) → FmC 𝓤 H (W .laws) C → Triple 𝓤 (C #importer·import) (Import 𝓤 H A mem run) → Triple 𝓤 (C #capi·records-imported) (Count 𝓤 H A mem run) → Triple 𝓤 (C #verdict·fill) (Fill 𝓤 H A mem run) → Triple 𝓤 (C #rows·clear-work) (Clear 𝓤 H A mem run) → Triple 𝓤 (C #capi·as-imported) (AsImported 𝓤 H A mem run)
+  cuecheck-import-walks : (C : Calls 𝓤 H) (Λ : Loops 𝓤 H) → FmC 𝓤 H (W .laws) C → Triple 𝓤 (C #importer·import) (Import 𝓤 H A mem run) → Triple 𝓤 (C #replies·records-imported) (Count 𝓤 H A mem run) → Triple 𝓤 (C #verdict·fill) (Fill 𝓤 H A mem run) → Triple 𝓤 (C #rows·clear-work) (Clear 𝓤 H A mem run) → Triple 𝓤 (C #replies·as-imported) (AsImported 𝓤 H A mem run)
       → Walks 𝓤 H A this.ended stayed (WpFn 𝓤 H C Λ code.function) (this.clauses 𝓤 H A mem run)
   cuecheck-import-walks C Λ fm known-import known-count known-fill known-clear known-imported = walked 𝓤 H A this.ended stayed (this.clauses 𝓤 H A mem run) (WpFn 𝓤 H C Λ code.function)
       (λ κs. (slice-vals, (slice-vals, (slice-vals, (slice-vals, (slice-vals, (slice-vals, (slice-vals, tt))))))))
@@ -345,7 +345,7 @@ module _ {M : Type 1} (𝓤 : URA M) (H : Heap 𝓤) (A : Atoms 𝓤) (W : Given
       C Λ fm known-import known-count known-fill known-clear known-imported (are .0) (are .1 .0) (are .1 .1 .0) (are .1 .1 .1 .0 .0 .1) (are .1 .1 .1 .1 .0 .0 .1) (are .1 .1 .1 .1 .1 .0 .0 .1) (are .1 .1 .1 .1 .1 .1 .0 .0 .1)))
 
 cuecheck-import-meets : {M : Type 1} (𝓤 : URA M) (H : Heap 𝓤) (A : Atoms 𝓤) → Given 𝓤 H A → (mem : Memory → SProp 𝓤) (run : Routine → Fun 𝓤) (𝓣 : Tables 𝓤 H)
-    → Triple 𝓤 (𝓣 .C #importer·import) (Import 𝓤 H A mem run) → Triple 𝓤 (𝓣 .C #capi·records-imported) (Count 𝓤 H A mem run) → Triple 𝓤 (𝓣 .C #verdict·fill) (Fill 𝓤 H A mem run) → Triple 𝓤 (𝓣 .C #rows·clear-work) (Clear 𝓤 H A mem run) → Triple 𝓤 (𝓣 .C #capi·as-imported) (AsImported 𝓤 H A mem run)
+    → Triple 𝓤 (𝓣 .C #importer·import) (Import 𝓤 H A mem run) → Triple 𝓤 (𝓣 .C #replies·records-imported) (Count 𝓤 H A mem run) → Triple 𝓤 (𝓣 .C #verdict·fill) (Fill 𝓤 H A mem run) → Triple 𝓤 (𝓣 .C #rows·clear-work) (Clear 𝓤 H A mem run) → Triple 𝓤 (𝓣 .C #replies·as-imported) (AsImported 𝓤 H A mem run)
     → Meets 𝓤 H A this.signature (WpFn 𝓤 H (𝓣 .C) (𝓣 .Λ) code.function) (this.spec 𝓤 H A mem run)
 cuecheck-import-meets 𝓤 H A W mem run 𝓣 known-import known-count known-fill known-clear known-imported =
     walk-meets 𝓤 H A this.ended stayed W
@@ -359,7 +359,7 @@ cuecheck-import-spec 𝓤 H 𝓜 𝓖 𝓡 =
     (tables 𝓤 H 𝓜 𝓡 code.env .C) (tables 𝓤 H 𝓜 𝓡 code.env .Λ) #capi·cuecheck-import code.function (code.unfolded 𝓤 H 𝓜 𝓡)
     (cuecheck-import-meets 𝓤 H (𝓖 .A) (givenOf 𝓤 H 𝓜 𝓖) (𝓜 .mem) (𝓡 .run) (tablesOf 𝓤 H 𝓜 (tables 𝓤 H 𝓜 𝓡 code.env))
     (cited 𝓤 H (Import 𝓤 H (𝓖 .A) (𝓜 .mem) (𝓡 .run)) 𝓜 𝓡 code.env #importer·import import-def.routine code.calls-importer·import (import-thm.met 𝓤 H 𝓜 𝓖 𝓡))
-    (cited 𝓤 H (Count 𝓤 H (𝓖 .A) (𝓜 .mem) (𝓡 .run)) 𝓜 𝓡 code.env #capi·records-imported records-def.routine code.calls-capi·records-imported (records-thm.met 𝓤 H 𝓜 𝓖 𝓡))
+    (cited 𝓤 H (Count 𝓤 H (𝓖 .A) (𝓜 .mem) (𝓡 .run)) 𝓜 𝓡 code.env #replies·records-imported records-def.routine code.calls-replies·records-imported (records-thm.met 𝓤 H 𝓜 𝓖 𝓡))
     (cited 𝓤 H (Fill 𝓤 H (𝓖 .A) (𝓜 .mem) (𝓡 .run)) 𝓜 𝓡 code.env #verdict·fill fill-def.routine code.calls-verdict·fill (fill-thm.met 𝓤 H 𝓜 𝓖 𝓡))
     (cited 𝓤 H (Clear 𝓤 H (𝓖 .A) (𝓜 .mem) (𝓡 .run)) 𝓜 𝓡 code.env #rows·clear-work clear-def.routine code.calls-rows·clear-work (clear-thm.met 𝓤 H 𝓜 𝓖 𝓡))
-    (cited 𝓤 H (AsImported 𝓤 H (𝓖 .A) (𝓜 .mem) (𝓡 .run)) 𝓜 𝓡 code.env #capi·as-imported imported-def.routine code.calls-capi·as-imported (imported-thm.met 𝓤 H 𝓜 𝓖 𝓡)))
+    (cited 𝓤 H (AsImported 𝓤 H (𝓖 .A) (𝓜 .mem) (𝓡 .run)) 𝓜 𝓡 code.env #replies·as-imported imported-def.routine code.calls-replies·as-imported (imported-thm.met 𝓤 H 𝓜 𝓖 𝓡)))

@@ -4,7 +4,7 @@ use mathlib.Core.Path.{_≡_, sym, _∙_}
 use Rattle.capi.proofs.Steps.{step-yes, step-no}
 use Rattle.capi.proofs.cuecheck_step.Statement.{statement}
 use Rattle.capi.proofs.cuecheck_step.Tie as tie
-use Rattle.capi.specs.Replies.{lentAction}
+use Rattle.capi.specs.Stepping.{lentAction}
 use Rattle.rules.specs.State.{step, touched}
 use Rattle.rules.proofs.Quiet.{traced-yes, traced-no}
 use borrow.Author.Needs.{needs}

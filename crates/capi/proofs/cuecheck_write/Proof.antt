@@ -42,7 +42,7 @@ use denote.Exit.{yes}
 use denote.Signature.{plain}
 use Rattle.rules.specs.declared.Node.{Node}
 use Rattle.writer.specs.declared.Wrote.{Wrote}
-use Rattle.capi.specs.declared.Written.{Written}
+use Rattle.replies.specs.declared.Written.{Written}
 use Rattle.rules.specs.Tree.{Tree}
 use Rattle.rules.specs.Verdict.{Lent, Found, answerOf, filled, noNode, workAfter, reported}
 use Rattle.rules.specs.Demands.{lentBy}
@@ -50,7 +50,7 @@ use Rattle.rules.specs.Writing.{lengthAfter, WriteAnswers}
 use Rattle.rules.proofs.Writing.{writer-laws}
 use Rattle.rules.proofs.Writing.Answers.{write-answers}
 use Rattle.records.specs.Records.{recordAt, upTo, RecordsHeld}
-use Rattle.capi.specs.Replies.{writtenReport}
+use Rattle.replies.specs.Replies.{writtenReport}
 use Rattle.verdict.proofs.Clauses.{says-3}
 use Rattle.verdict.proofs.Steps.{is-count, is-unit}
 use Rattle.verdict.proofs.Records.{Comes, Fits, records-fit, records-filled}
@@ -61,25 +61,25 @@ use Rattle.capi.proofs.WriteCall.{Args, lists as listsOf, found as foun
 use Rattle.rules.proofs.Node as T
 use Rattle.writer.proofs.Wrote as R
 use Rattle.writer.proofs.Wrote.Laws as R′
-use Rattle.capi.proofs.Written as P
-use Rattle.capi.proofs.Written.Laws as P′
+use Rattle.replies.proofs.Written as P
+use Rattle.replies.proofs.Written.Laws as P′
 use Rattle.writer.proofs.write.Symbol as write-def
 use Rattle.writer.proofs.write.Symbol.{name as #writer·write}
 use Rattle.writer.proofs.write.Met as write-thm
-use Rattle.capi.proofs.records_of as records-of
-use Rattle.capi.proofs.records_of.Symbol as records-def
-use Rattle.capi.proofs.records_of.Symbol.{name as #capi·records-of}
-use Rattle.capi.proofs.records_of.Met as records-thm
+use Rattle.replies.proofs.records_of as records-of
+use Rattle.replies.proofs.records_of.Symbol as records-def
+use Rattle.replies.proofs.records_of.Symbol.{name as #replies·records-of}
+use Rattle.replies.proofs.records_of.Met as records-thm
 use Rattle.verdict.proofs.fill.Symbol as fill-def
 use Rattle.verdict.proofs.fill.Symbol.{name as #verdict·fill}
 use Rattle.verdict.proofs.fill.Met as fill-thm
 use Rattle.rows.proofs.clear_work.Symbol as clear-def
 use Rattle.rows.proofs.clear_work.Symbol.{name as #rows·clear-work}
 use Rattle.rows.proofs.clear_work.Met as clear-thm
-use Rattle.capi.proofs.as_written as as-written
-use Rattle.capi.proofs.as_written.Symbol as written-def
-use Rattle.capi.proofs.as_written.Symbol.{name as #capi·as-written}
-use Rattle.capi.proofs.as_written.Met as written-thm
+use Rattle.replies.proofs.as_written as as-written
+use Rattle.replies.proofs.as_written.Symbol as written-def
+use Rattle.replies.proofs.as_written.Symbol.{name as #replies·as-written}
+use Rattle.replies.proofs.as_written.Met as written-thm
 use Rattle.capi.proofs.cuecheck_write.Key.{name as #capi·cuecheck-write}
 use Rattle.capi.proofs.cuecheck_write as this
 use Rattle.capi.proofs.cuecheck_write.Statement as stated
@@ -251,7 +251,7 @@ module _ {M : Type 1} (𝓤 : URA M) (H : Heap 𝓤) (A : Atoms 𝓤) (W : Given
       use1 W (raw (fact 𝓤 (Returned r))) (written-is r) $ heard ! (Returned r) (λ e. split ! $ drop ! $
       at-once ! $ show ! (λ (r′ : Written). mean 𝓤 H A (WrittenGave u r′)) r $ check ! e $ done !))
 
-  module _ (C : Calls 𝓤 H) (Λ : Loops 𝓤 H) (fm : FmC 𝓤 H (W .laws) C) (known-write : Triple 𝓤 (C #writer·write) (Write 𝓤 H A mem run)) (known-count : Triple 𝓤 (C #capi·records-of) (Count 𝓤 H A mem run)) (known-fill : Triple 𝓤 (C #verdict·fill) (Fill 𝓤 H A mem run)) (known-clear : Triple 𝓤 (C #rows·clear-work) (Clear 𝓤 H A mem run)) (known-written : Triple 𝓤 (C #capi·as-written) (AsWritten 𝓤 H A mem run)) where
+  module _ (C : Calls 𝓤 H) (Λ : Loops 𝓤 H) (fm : FmC 𝓤 H (W .laws) C) (known-write : Triple 𝓤 (C #writer·write) (Write 𝓤 H A mem run)) (known-count : Triple 𝓤 (C #replies·records-of) (Count 𝓤 H A mem run)) (known-fill : Triple 𝓤 (C #verdict·fill) (Fill 𝓤 H A mem run)) (known-clear : Triple 𝓤 (C #rows·clear-work) (Clear 𝓤 H A mem run)) (known-written : Triple 𝓤 (C #replies·as-written) (AsWritten 𝓤 H A mem run)) where
     walk : Is (ShrSlice (named 0) κt u8) t (vt ∷ []) → Room u64 (length (xs .now)) → Room T.the-row n → Room u32 (length ws) → Room u8 (length (xo .now))
         → ent 𝓤 (onEntry 𝓤 H A this.signature (κt, (κs, (κn, (κw, (κo, tt))))) (qt, (qs, (qn, (qw, (qo, tt))))) a vals) (WpFn 𝓤 H C Λ code.function (vt ∷ vs ∷ vn ∷ vw ws ∷ vo ∷ []) Post)
     walk t-is rs rn rw ro =
@@ -331,7 +331,7 @@ module _ {M : Type 1} (𝓤 : URA M) (H : Heap 𝓤) (A : Atoms 𝓤) (W : Given
         room-of us l = subst (λ (w : ℕ). Fits n w m) (sym l) (records-fit (length (xs .now)) n (length ws) (t .now) found comes)
 
 module _ {M : Type 1} (𝓤 : URA M) (H : Heap 𝓤) (A : Atoms 𝓤) (W : Given 𝓤 H A) (mem : Memory → SProp 𝓤) (run : Routine → Fun 𝓤) where
-  cuecheck-write-walks : (C : Calls 𝓤 H) (Λ : Loops 𝓤 H) → FmC 𝓤 H (W .laws) C → Triple 𝓤 (C #writer·write) (Write 𝓤 H A mem run) → Triple 𝓤 (C #capi·records-of) (Count 𝓤 H A mem run) → Triple 𝓤 (C #verdict·fill) (Fill 𝓤 H A mem run) → Triple 𝓤 (C #rows·clear-work) (Clear 𝓤 H A mem run) → Triple 𝓤 (C #capi·as-written) (AsWritten 𝓤 H A mem run)
+  cuecheck-write-walks : (C : Calls 𝓤 H) (Λ : Loops 𝓤 H) → FmC 𝓤 H (W .laws) C → Triple 𝓤 (C #writer·write) (Write 𝓤 H A mem run) → Triple 𝓤 (C #replies·records-of) (Count 𝓤 H A mem run) → Triple 𝓤 (C #verdict·fill) (Fill 𝓤 H A mem run) → Triple 𝓤 (C #rows·clear-work) (Clear 𝓤 H A mem run) → Triple 𝓤 (C #replies·as-written) (AsWritten 𝓤 H A mem run)
       → Walks 𝓤 H A this.ended stayed (WpFn 𝓤 H C Λ code.function) (this.clauses 𝓤 H A mem run)
   cuecheck-write-walks C Λ fm known-write known-count known-fill known-clear known-written = walked 𝓤 H A this.ended stayed (this.clauses 𝓤 H A mem run) (WpFn 𝓤 H C Λ code.function)
       (λ κs. (slice-vals, (slice-vals, (slice-vals, (slice-vals, (slice-vals, tt))))))
@@ -341,7 +341,7 @@ module _ {M : Type 1} (𝓤 : URA M) (H : Heap 𝓤) (A : Atoms 𝓤) (W : Given
       C Λ fm known-write known-count known-fill known-clear known-written (are .0) (are .1 .0 .0 .1) (are .1 .1 .0 .0 .1) (are .1 .1 .1 .0 .0 .1) (are .1 .1 .1 .1 .0 .0 .1)))
 
 cuecheck-write-meets : {M : Type 1} (𝓤 : URA M) (H : Heap 𝓤) (A : Atoms 𝓤) → Given 𝓤 H A → (mem : Memory → SProp 𝓤) (run : Routine → Fun 𝓤) (𝓣 : Tables 𝓤 H)
-    → Triple 𝓤 (𝓣 .C #writer·write) (Write 𝓤 H A mem run) → Triple 𝓤 (𝓣 .C #capi·records-of) (Count 𝓤 H A mem run) → Triple 𝓤 (𝓣 .C #verdict·fill) (Fill 𝓤 H A mem run) → Triple 𝓤 (𝓣 .C #rows·clear-work) (Clear 𝓤 H A mem run) → Triple 𝓤 (𝓣 .C #capi·as-written) (AsWritten 𝓤 H A mem run)
+    → Triple 𝓤 (𝓣 .C #writer·write) (Write 𝓤 H A mem run) → Triple 𝓤 (𝓣 .C #replies·records-of) (Count 𝓤 H A mem run) → Triple 𝓤 (𝓣 .C #verdict·fill) (Fill 𝓤 H A mem run) → Triple 𝓤 (𝓣 .C #rows·clear-work) (Clear 𝓤 H A mem run) → Triple 𝓤 (𝓣 .C #replies·as-written) (AsWritten 𝓤 H A mem run)
     → Meets 𝓤 H A this.signature (WpFn 𝓤 H (𝓣 .C) (𝓣 .Λ) code.function) (this.spec 𝓤 H A mem run)
 cuecheck-write-meets 𝓤 H A W mem run 𝓣 known-write known-count known-fill known-clear known-written =
     walk-meets 𝓤 H A this.ended stayed W
@@ -355,7 +355,7 @@ cuecheck-write-spec 𝓤 H 𝓜 𝓖 𝓡 =
     (tables 𝓤 H 𝓜 𝓡 code.env .C) (tables 𝓤 H 𝓜 𝓡 code.env .Λ) #capi·cuecheck-write code.function (code.unfolded 𝓤 H 𝓜 𝓡)
     (cuecheck-write-meets 𝓤 H (𝓖 .A) (givenOf 𝓤 H 𝓜 𝓖) (𝓜 .mem) (𝓡 .run) (tablesOf 𝓤 H 𝓜 (tables 𝓤 H 𝓜 𝓡 code.env))
     (cited 𝓤 H (Write 𝓤 H (𝓖 .A) (𝓜 .mem) (𝓡 .run)) 𝓜 𝓡 code.env #writer·write write-def.routine code.calls-writer·write (write-thm.met 𝓤 H 𝓜 𝓖 𝓡))
-    (cited 𝓤 H (Count 𝓤 H (𝓖 .A) (𝓜 .mem) (𝓡 .run)) 𝓜 𝓡 code.env #capi·records-of records-def.routine code.calls-capi·records-of (records-thm.met 𝓤 H 𝓜 𝓖 𝓡))
+    (cited 𝓤 H (Count 𝓤 H (𝓖 .A) (𝓜 .mem) (𝓡 .run)) 𝓜 𝓡 code.env #replies·records-of records-def.routine code.calls-replies·records-of (records-thm.met 𝓤 H 𝓜 𝓖 𝓡))
     (cited 𝓤 H (Fill 𝓤 H (𝓖 .A) (𝓜 .mem) (𝓡 .run)) 𝓜 𝓡 code.env #verdict·fill fill-def.routine code.calls-verdict·fill (fill-thm.met 𝓤 H 𝓜 𝓖 𝓡))
     (cited 𝓤 H (Clear 𝓤 H (𝓖 .A) (𝓜 .mem) (𝓡 .run)) 𝓜 𝓡 code.env #rows·clear-work clear-def.routine code.calls-rows·clear-work (clear-thm.met 𝓤 H 𝓜 𝓖 𝓡))
-    (cited 𝓤 H (AsWritten 𝓤 H (𝓖 .A) (𝓜 .mem) (𝓡 .run)) 𝓜 𝓡 code.env #capi·as-written written-def.routine code.calls-capi·as-written (written-thm.met 𝓤 H 𝓜 𝓖 𝓡)))
+    (cited 𝓤 H (AsWritten 𝓤 H (𝓖 .A) (𝓜 .mem) (𝓡 .run)) 𝓜 𝓡 code.env #replies·as-written written-def.routine code.calls-replies·as-written (written-thm.met 𝓤 H 𝓜 𝓖 𝓡)))

@@ -1,13 +1,13 @@
--- `capi::as_reply` meets its contract: in each arm the answer is the variant at the values that the pattern binds, and its row of the table is
+-- `replies::as_reply` meets its contract: in each arm the answer is the variant at the values that the pattern binds, and its row of the table is
 -- what `refusal` makes. Assumes nothing.
 use mathlib.Core.Path.{_≡_, sym, _∙_, ap}
 use borrow.Author.Needs.{needs}
 use Rattle.rules.specs.declared.Answer.{Answer}
 use Rattle.rules.specs.Verdict.{reported}
-use Rattle.capi.specs.declared.Reply.{Reply}
-use Rattle.capi.specs.Replies.{reportOf}
-use Rattle.capi.proofs.as_reply.Statement.{statement}
-use Rattle.capi.proofs.as_reply.Tie as tie
+use Rattle.replies.specs.declared.Reply.{Reply}
+use Rattle.replies.specs.Replies.{reportOf}
+use Rattle.replies.proofs.as_reply.Statement.{statement}
+use Rattle.replies.proofs.as_reply.Tie as tie
 
 -- a reply to what the answer is told to be is the reply to the answer
 told : (r : Reply) (answer variant : Answer) → answer ≡ variant → reportOf r ≡ reported variant → reportOf r ≡ reported answer
