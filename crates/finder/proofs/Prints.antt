@@ -14,7 +14,6 @@ use Rattle.rules.specs.Ranges.{Sound}
 use Rattle.rules.specs.Verdict.{textMost}
 use Rattle.rules.specs.Gaps.{emptyCount, Within, ChoiceOf, withGaps, caseWith, textWith, gapsOf}
 use Rattle.rules.proofs.Judgement.Sound.{sound}
-use Rattle.rules.proofs.Printing.{canonical}
 use Rattle.rules.proofs.Gaps.Texts.{reads-with}
 use Rattle.rules.proofs.Gaps.Lengths.{surplus, length-surplus}
 use Rattle.fields.specs.Standing.{Stands}
@@ -158,10 +157,6 @@ module _ {k : Case} {fields : List ℕ} {o : Opened} (p : Printable k fields o) 
       }
 
 -- ---- The text's length
-
--- A case that was read prints as a text that is not too long.
-pub print-short : (k : Case) → IsRead k → length (printed k) ≤ textMost
-print-short k r = subst (λ (l : List ℕ). length l ≤ textMost) (canonical (r .text) k (r .reads)) (r .short)
 
 module _ (k : Case) (base : ℕ) (b : BaseOf k base) where
   pub length-with : (gs : List ℕ) → ChoiceOf k gs → length (textWith gs k) ≡ base + surplus gs

@@ -1,17 +1,15 @@
 -- The name list and the form beside a case that was read: what their readers ask for, what both answer together, and the form as the lists hold
 -- it. Assumes nothing.
 use mathlib.Core.Path.{_≡_, refl, sym, ap, subst, _∙_}
-use mathlib.Core.List.{List, [], _∷_}
-use Prim.Native.Nat.{ℕ, zero, suc, _+_, _*_, _≤_}
+use mathlib.Core.List.{List}
+use Prim.Native.Nat.{ℕ, _+_, _*_, _≤_}
 use native.Mathlib.Omega.{arith}
-use lib.ListN.{length, getD, replicate, length-append, length-replicate}
+use lib.ListN.{length, replicate, length-replicate}
 use Rattle.rules.specs.declared.Answer.{Answer}
 use Rattle.rules.specs.declared.Header.{Header}
 use Rattle.rules.specs.Result.{Result, found, refused, _>>=_}
-use Rattle.rules.specs.Text.{decimal}
-use Rattle.rules.specs.Case.{Case, Valued, readCase}
-use Rattle.rules.specs.Fields.{lineFields, linesFields, linesOf, fieldsOf}
-use Rattle.rules.specs.Print.{numbersText, lineText, linesText, printed}
+use Rattle.rules.specs.Case.{Case, readCase}
+use Rattle.rules.specs.Fields.{fieldsOf}
 use Rattle.rules.specs.Ranges.{GoodHeader}
 use Rattle.rules.specs.Verdict.{textMost}
 use Rattle.rules.specs.Naming.{Names, readNames}
@@ -19,7 +17,7 @@ use Rattle.rules.specs.Form.{Form, formLines, readForm}
 use Rattle.rules.proofs.Judgement.Sound.{sound}
 use Rattle.rules.proofs.Printing.{canonical}
 use Rattle.fields.specs.Directory.{IsRead}
-use Rattle.output.proofs.Decimals.{size-least}
+use Rattle.output.proofs.Cases.{case-least, print-short}
 use Rattle.naming.specs.declared.NamesRead.{NamesRead}
 use Rattle.naming.specs.declared.NamesRead.the-variants.{Read as NamesAre, Refused as NamesRefused}
 use Rattle.naming.specs.Listing.{Blank, NamesLeft}
@@ -29,6 +27,7 @@ use Rattle.forms.specs.declared.FormRead.{FormRead}
 use Rattle.forms.specs.declared.FormRead.the-variants.{Form as FormOf, Refused as FormRefused}
 use Rattle.forms.specs.Held.{MethodsHere, Tasks, Methods, FormIs}
 use Rattle.making.specs.Making.{PlanLast}
+use Rattle.importer.proofs.Putting.{zero-at}
 use Rattle.importer.specs.declared.Made.{Made}
 use Rattle.importer.specs.declared.Made.the-variants.{Refused}
 use Rattle.importer.specs.Importing.{ModelHere, BothAre, CaseHere, FormHeld, madeOf, madeBeside, MadeIs}
@@ -38,19 +37,14 @@ apart z = absurd (omega arith)
 
 -- ---- What the readers ask for
 
-all-zero : (n i : ℕ) → _≡_ {A = ℕ} (getD (replicate n 0) i 0) 0
-all-zero zero i = refl
-all-zero (suc n) zero = refl
-all-zero (suc n) (suc i) = all-zero n i
-
 -- New lists hold no names.
 pub zeros-blank : (n m : ℕ) → n ≡ 2048 → m ≡ 4096 → Blank (replicate n 0) (replicate n 0) (replicate m 0)
 zeros-blank n m e f = record {
   starts-length = length-replicate {A = ℕ} n 0 ∙ e;
   ends-length = length-replicate {A = ℕ} n 0 ∙ e;
   slots-length = length-replicate {A = ℕ} m 0 ∙ f;
-  starts-zero = all-zero n;
-  ends-zero = all-zero n;
+  starts-zero = zero-at n;
+  ends-zero = zero-at n;
 }
 
 module _ {k : Case} {h : Header} {fields directory : List ℕ} (m : ModelHere k h fields directory) where
@@ -101,30 +95,9 @@ module _ {k : Case} {h : Header} {fields directory : List ℕ} (m : ModelHere k 
 
 -- ---- How many fields there are
 
--- Every field takes two bytes at least: a number its comma and a digit, the letter itself and the line feed.
-numbers-long : (ns : List ℕ) → 2 * length ns ≤ length (numbersText ns)
-unfolding decimal
-numbers-long [] = omega arith
-numbers-long (n ∷ ns) =
-    let some = size-least 9 n [] in
-    omega (arith, numbers-long ns, length-append (decimal n) (numbersText ns))
-
-line-long : (ns : List ℕ) → 2 * length ns ≤ length (lineText ns)
-unfolding lineText
-line-long [] = omega arith
-line-long (l ∷ ns) = omega (arith, numbers-long ns, length-append (numbersText ns) (10 ∷ []))
-
-lines-long : (xs : List Valued) → 2 * length (linesFields xs) ≤ length (linesText xs)
-lines-long [] = omega arith
-lines-long (x ∷ xs) =
-    omega (arith, line-long (lineFields x), lines-long xs, length-append (lineFields x) (linesFields xs), length-append (lineText (lineFields x)) (linesText xs))
-
-print-short : (k : Case) → IsRead k → length (printed k) ≤ textMost
-print-short k r = subst (λ (l : List ℕ). length l ≤ textMost) (canonical (r .text) k (r .reads)) (r .short)
-
 few-fields : (k : Case) → IsRead k → length (fieldsOf k) ≤ 32767
-unfolding fieldsOf printed textMost
-few-fields k r = omega (arith, print-short k r, lines-long (linesOf k))
+unfolding textMost
+few-fields k r = omega (arith, print-short k r, case-least k)
 
 pub plan-few : (k : Case) → IsRead k → (plan : ℕ) → PlanLast k plan → plan ≤ 32767
 plan-few k r plan last = omega (arith, few-fields k r)
@@ -134,8 +107,7 @@ plan-room k plan last size room = omega arith
 
 -- The fields of a case are at most half as many as the bytes of a text that reads as it.
 pub half-fields : (text : List ℕ) (k : Case) → readCase text ≡ found k → 2 * length (fieldsOf k) ≤ length text
-unfolding fieldsOf printed
-half-fields text k e = omega (arith, lines-long (linesOf k), ap length (canonical text k e))
+half-fields text k e = omega (arith, case-least k, ap length (canonical text k e))
 
 -- ---- The form that was read
 

@@ -26,17 +26,6 @@ and-false : (a : Bool) → (a && false) ≡ false
 and-false true = refl
 and-false false = refl
 
--- It holds exactly of a list and itself.
-pub eq-is : (a b : List ℕ) → sameBytes a b ≡ true → a ≡ b
-eq-is [] [] e = refl
-eq-is [] (y ∷ b) e = let z : _≡_ {A = ℕ} 0 1 = cc in absurd (omega arith)
-eq-is (x ∷ a) [] e = let z : _≡_ {A = ℕ} 0 1 = cc in absurd (omega arith)
-eq-is (x ∷ a) (y ∷ b) e = ap₂ _∷_ (eqb-true x y (and-left (eqb x y) (sameBytes a b) e)) (eq-is a b (and-right (eqb x y) (sameBytes a b) e))
-
-pub eq-self : (a : List ℕ) → sameBytes a a ≡ true
-eq-self [] = refl
-eq-self (x ∷ a) = ap (λ (t : Bool). t && sameBytes a a) (eq-eqb x x refl) ∙ eq-self a
-
 -- ---- `same`
 
 pub eq-lengths : (a b : List ℕ) → (length a ≡ length b → ⊥) → sameBytes a b ≡ false

@@ -11,10 +11,10 @@ use lib.Dec.{eqb}
 use lib.ListN.{length, getD, take, drop, set, length-set}
 use lib.Seq.{getD-set-same, getD-set-other}
 use Rattle.rules.specs.Tokens.{sameBytes}
+use Rattle.rules.proofs.Import.Says.{same-bytes}
 use Rattle.probing.specs.Probing.{Kept}
 use Rattle.probing.proofs.Tables.{Puts, puts, kept-agree}
 use Rattle.names.specs.Names.{nameAt, sameName, Placed, hashFrom, cut, hashName}
-use Rattle.names.proofs.Bytes.{eq-is, eq-self}
 
 pub cut-small : (h : ℕ) → cut h < 4096
 unfolding cut
@@ -25,7 +25,7 @@ pub name-puts : (text starts ends slots : List ℕ) (n : ℕ) → length slots �
     → Puts (sameName text starts ends) hashName slots n (nameAt text starts ends n)
 name-puts text starts ends slots n size kept =
     let k = nameAt text starts ends n in
-    puts (sameName text starts ends) hashName slots n k kept (λ j e. sym (eq-is k j e)) (eq-self k) (omega (arith, cut-small (hashFrom 0 k)))
+    puts (sameName text starts ends) hashName slots n k kept (λ j e. sym (same-bytes k j .0 e)) (same-bytes k k .1 refl) (omega (arith, cut-small (hashFrom 0 k)))
 
 -- ---- Entries from n on may change
 

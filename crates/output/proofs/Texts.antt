@@ -12,7 +12,7 @@ use Rattle.rules.specs.Fields.{lineFields, linesFields}
 use Rattle.rules.specs.Print.{numbersText, lineText, linesText}
 use Rattle.fields.specs.Standing.{Stands}
 use Rattle.fields.proofs.Standing.{stands-inside}
-use Rattle.output.proofs.Decimals.{decimal-most}
+use Rattle.output.proofs.Decimals.{decimal-most, size-least}
 use Rattle.output.proofs.Putting.{Putting, putting-starts, putting-as, putting-more, putting-one, putting-room, putting-ends}
 
 -- What stands from a place on is the slice from there.
@@ -153,6 +153,24 @@ text-most (x ∷ xs) =
     let l = line-most (lineFields x) (omega arith) in
     let r = text-most xs in
     omega arith
+
+-- Every field takes two bytes at least: a number its comma and a digit, the letter itself and the line feed.
+numbers-least : (ns : List ℕ) → 2 * length ns ≤ length (numbersText ns)
+unfolding decimal
+numbers-least [] = omega arith
+numbers-least (n ∷ ns) =
+    let some = size-least 9 n [] in
+    omega (arith, numbers-least ns, length-append (decimal n) (numbersText ns))
+
+line-least : (ns : List ℕ) → 2 * length ns ≤ length (lineText ns)
+unfolding lineText
+line-least [] = omega arith
+line-least (l ∷ ns) = omega (arith, numbers-least ns, length-append (numbersText ns) (10 ∷ []))
+
+pub text-least : (xs : List Valued) → 2 * length (linesFields xs) ≤ length (linesText xs)
+text-least [] = omega arith
+text-least (x ∷ xs) =
+    omega (arith, line-least (lineFields x), text-least xs, length-append (lineFields x) (linesFields xs), length-append (lineText (lineFields x)) (linesText xs))
 
 -- ---- A line that is measured
 

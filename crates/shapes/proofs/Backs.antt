@@ -18,7 +18,8 @@ use Rattle.tokens.proofs.Lines.{pieceEnd}
 use Rattle.shapes.specs.declared.Back.the-variants.{Compound, End, Other}
 use Rattle.shapes.specs.declared.Ids.the-variants.{All, Other as OtherIds}
 use Rattle.shapes.specs.Shapes.{bytes, wordsAt, endAt, wordsAfter, endAfter, Numbered, Headed, IdsAre, BackIs}
-use Rattle.shapes.proofs.Words.{apart, word-inside, word-feeds, word-ends, word-more, word-last, word-feed-or-space, words-after, words-some, plain-apart, same-is, NameAt, name-here, no-name}
+use Rattle.rules.proofs.Import.Says.{same-bytes}
+use Rattle.shapes.proofs.Words.{apart, word-inside, word-feeds, word-ends, word-more, word-last, word-feed-or-space, words-after, words-some, plain-apart, NameAt, name-here, no-name}
 use Rattle.shapes.proofs.Fronts.{both-true, both-false, first-false}
 
 -- ---- By the words
@@ -106,7 +107,7 @@ module _ (t : List ℕ) (at : ℕ) where
 module _ (t : List ℕ) (at : ℕ) (f : feedFollows t at ≡ true) where
   closing-at : sameBytes (pieceFrom 32 t at) closingWord ≡ true → at + 3 ≡ pieceEnd 32 t at
   unfolding closingWord
-  closing-at is = ap (λ (l : List ℕ). at + length l) (sym (same-is (pieceFrom 32 t at) closingWord is))
+  closing-at is = ap (λ (l : List ℕ). at + length l) (sym (same-bytes (pieceFrom 32 t at) closingWord .0 is))
 
   pub closing-inside : sameBytes (pieceFrom 32 t at) closingWord ≡ true → at + 3 < length t
   closing-inside is = word-inside t at (at + 3) f (closing-at is)
@@ -186,7 +187,7 @@ module _ (t : List ℕ) (at id from to : ℕ) (h : Headed t at id from to) where
   unfolding arrowWord
   arrow-at is =
       let two : to + 3 ≡ to + 1 + 2 = omega arith in
-      two ∙ ap (λ (l : List ℕ). to + 1 + length l) (sym (same-is (pieceFrom 32 t (to + 1)) arrowWord is))
+      two ∙ ap (λ (l : List ℕ). to + 1 + length l) (sym (same-bytes (pieceFrom 32 t (to + 1)) arrowWord .0 is))
 
   abbrev led : List (List ℕ) → List (List ℕ)
   led ws = pieceFrom 32 t at ∷ bytes t from to ∷ ws

@@ -17,7 +17,8 @@ use Rattle.tokens.proofs.Lines.{pieceEnd}
 use Rattle.tokens.proofs.Words.{IsNumber}
 use Rattle.shapes.specs.declared.Front.the-variants.{Action, Root, Other}
 use Rattle.shapes.specs.Shapes.{bytes, wordsAt, endAt, wordsAfter, Numbered, FrontIs}
-use Rattle.shapes.proofs.Words.{apart, word-inside, word-more, word-last, word-feed-or-space, words-after, words-some, plain-apart, same-is, NameAt, name-here, no-name}
+use Rattle.rules.proofs.Import.Says.{same-bytes}
+use Rattle.shapes.proofs.Words.{apart, word-inside, word-more, word-last, word-feed-or-space, words-after, words-some, plain-apart, NameAt, name-here, no-name}
 
 -- ---- By the words
 
@@ -161,7 +162,7 @@ module _ (t : List ℕ) (at id next : ℕ) (w : Numbered t at id next) where
 module _ (t : List ℕ) (at : ℕ) (f : feedFollows t at ≡ true) where
   root-at : sameBytes (pieceFrom 32 t at) rootWord ≡ true → at + 4 ≡ pieceEnd 32 t at
   unfolding rootWord
-  root-at is = ap (λ (l : List ℕ). at + length l) (sym (same-is (pieceFrom 32 t at) rootWord is))
+  root-at is = ap (λ (l : List ℕ). at + length l) (sym (same-bytes (pieceFrom 32 t at) rootWord .0 is))
 
   pub root-inside : sameBytes (pieceFrom 32 t at) rootWord ≡ true → at + 4 < length t
   root-inside is = word-inside t at (at + 4) f (root-at is)

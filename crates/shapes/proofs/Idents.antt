@@ -22,7 +22,7 @@ use Rattle.tokens.proofs.Words.{IsNumber}
 use Rattle.shapes.specs.declared.Back.the-variants.{Compound, End, Other}
 use Rattle.shapes.specs.declared.Ids.the-variants.{All, Other as OtherIds}
 use Rattle.shapes.specs.Shapes.{bytes, wordsAt, endAt, wordsAfter, endAfter, Numbered, Headed, IdsAre, BackIs}
-use Rattle.shapes.proofs.Words.{apart, word-inside, word-feeds, word-ends, word-more, word-last, words-after, words-some, plain-apart, same-is, NameAt, name-here, no-name}
+use Rattle.shapes.proofs.Words.{apart, word-inside, word-feeds, word-ends, word-more, word-last, words-after, words-some, plain-apart, NameAt, name-here, no-name}
 use Rattle.shapes.proofs.Fronts.{both-true, both-false, first-false}
 
 module _ (t : List ℕ) where

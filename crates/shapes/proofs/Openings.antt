@@ -15,7 +15,8 @@ use Rattle.rules.specs.Form.{openingWord, openingOf}
 use Rattle.tokens.specs.Pieces.{pieceFrom}
 use Rattle.tokens.proofs.Lines.{pieceEnd}
 use Rattle.shapes.specs.Shapes.{wordsAt, wordsAfter, OpeningIs}
-use Rattle.shapes.proofs.Words.{word-inside, word-more, word-last, word-feed-or-space, words-after, words-some, same-is}
+use Rattle.rules.proofs.Import.Says.{same-bytes}
+use Rattle.shapes.proofs.Words.{word-inside, word-more, word-last, word-feed-or-space, words-after, words-some}
 
 alone-is : (w : List ℕ) (x : Bool) → sameBytes w openingWord ≡ x → openingOf (w ∷ []) ≡ elim x [ true ↦ some tt | false ↦ none ]
 alone-is w x e = ap (λ (y : Bool). elim y as (λ z. Option (Unit {0})) [ true ↦ some tt | false ↦ none ]) e
@@ -44,7 +45,7 @@ module _ (t : List ℕ) where
 
     opening-at : sameBytes (pieceFrom 32 t 0) openingWord ≡ true → 3 ≡ pieceEnd 32 t 0
     unfolding openingWord
-    opening-at is = ap (λ (l : List ℕ). 0 + length l) (sym (same-is (pieceFrom 32 t 0) openingWord is))
+    opening-at is = ap (λ (l : List ℕ). 0 + length l) (sym (same-bytes (pieceFrom 32 t 0) openingWord .0 is))
 
     pub opening-inside : sameBytes (pieceFrom 32 t 0) openingWord ≡ true → 3 < length t
     opening-inside is = word-inside t 0 3 f (opening-at is)

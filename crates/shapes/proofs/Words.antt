@@ -133,14 +133,6 @@ plain-apart (c ∷ cs) b bs p d = go (eqb c b) refl
         apart (cc)
     go false e = ap (λ (y : Bool). y && sameBytes cs bs) e
 
--- The same bytes are the same word.
-pub same-is : (a b : List ℕ) → sameBytes a b ≡ true → a ≡ b
-same-is [] [] e = refl
-same-is [] (y ∷ b) e = apart (cc)
-same-is (x ∷ a) [] e = apart (cc)
-same-is (x ∷ a) (y ∷ b) e =
-    ap₂ _∷_ (eqb-true x y (and-left (eqb x y) (sameBytes a b) e)) (same-is a b (and-right (eqb x y) (sameBytes a b) e))
-
 -- ---- A name
 
 pub record NameAt (t : List ℕ) (from to : ℕ) : Type 0 where

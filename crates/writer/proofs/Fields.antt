@@ -2,28 +2,25 @@
 use mathlib.Core.Path.{_≡_, refl, sym, ap, subst, _∙_}
 use mathlib.Core.Bool.{Bool, true, false}
 use mathlib.Core.List.{List, [], _∷_}
-use Prim.Native.Nat.{ℕ, _*_, _≤_, _<_}
+use Prim.Native.Nat.{ℕ, _≤_, _<_}
 use native.Mathlib.Decide.{decLt}
 use native.Mathlib.Omega.{arith}
 use borrow.Author.Tests.{lt-ltb, le-ltb}
-use lib.ListN.{length, drop, length-append}
-use Rattle.rules.specs.Text.{decimal}
+use lib.ListN.{length, drop}
 use Rattle.rules.specs.Table.{table, rowOf}
-use Rattle.rules.specs.Case.{Case, Valued, headerIn}
-use Rattle.rules.specs.Fields.{lineFields, linesFields, headerLine, linesOf, fieldsOf}
-use Rattle.rules.specs.Print.{numbersText, lineText, linesText, printed}
+use Rattle.rules.specs.Case.{Case, headerIn}
+use Rattle.rules.specs.Fields.{lineFields, headerLine, linesOf, fieldsOf}
+use Rattle.rules.specs.Print.{linesText, printed}
 use Rattle.rules.specs.Verdict.{textMost}
 use Rattle.rules.specs.Writing.{tidied, written}
 use Rattle.rules.proofs.Judgement.Sound.{sound}
-use Rattle.rules.proofs.Printing.{canonical}
 use Rattle.rules.proofs.Writing.Lengths.{written-length}
 use Rattle.fields.specs.Standing.{Stands}
 use Rattle.fields.specs.Directory.{IsRead}
 use Rattle.fields.proofs.Standing.{stands-inside}
 use Rattle.writer.specs.Writes.{lacked}
 use Rattle.output.specs.Output.{HasLines}
-use Rattle.output.proofs.Decimals.{size-least}
-use Rattle.output.proofs.Cases.{case-has-lines}
+use Rattle.output.proofs.Cases.{case-has-lines, case-least, print-short}
 
 -- The header's numbers follow the first letter.
 pub header-here : (k : Case) (fields : List ℕ) → Stands fields 0 (fieldsOf k) → headerIn (drop 1 fields) ≡ k .head
@@ -38,28 +35,7 @@ header-fits k fields s = let inside = stands-inside fields 0 (fieldsOf k) s (ome
     eight : 8 ≤ length (fieldsOf k)
     eight = omega arith
 
--- Every field takes two bytes at least: a number its comma and a digit, the letter itself and the line feed.
-numbers-long : (ns : List ℕ) → 2 * length ns ≤ length (numbersText ns)
-unfolding decimal
-numbers-long [] = omega arith
-numbers-long (n ∷ ns) =
-    let some = size-least 9 n [] in
-    omega (arith, numbers-long ns, length-append (decimal n) (numbersText ns))
-
-line-long : (ns : List ℕ) → 2 * length ns ≤ length (lineText ns)
-unfolding lineText
-line-long [] = omega arith
-line-long (l ∷ ns) = omega (arith, numbers-long ns, length-append (numbersText ns) (10 ∷ []))
-
-lines-long : (xs : List Valued) → 2 * length (linesFields xs) ≤ length (linesText xs)
-lines-long [] = omega arith
-lines-long (x ∷ xs) =
-    omega (arith, line-long (lineFields x), lines-long xs, length-append (lineFields x) (linesFields xs), length-append (lineText (lineFields x)) (linesText xs))
-
--- A case that was read is printed as the text that came, and the tidy text is no longer.
-pub print-short : (k : Case) → IsRead k → length (printed k) ≤ textMost
-print-short k r = subst (λ (l : List ℕ). length l ≤ textMost) (canonical (r .text) k (r .reads)) (r .short)
-
+-- The tidy text is no longer than the one that came.
 pub few-bytes : (k : Case) → IsRead k → length (written k) ≤ 65535
 unfolding textMost
 few-bytes k r = let short = print-short k r in omega (arith, written-length k)
@@ -81,8 +57,8 @@ tidy-has-lines k fields end cues r h s e =
     subst (λ (n : ℕ). HasLines n fields end (linesOf (tidied k))) (sym h) (subst (λ (n : ℕ). HasLines (k .head .cues) fields n (linesOf (tidied k))) (sym e) lines)
 
 pub few-fields : (k : Case) → IsRead k → length (fieldsOf (tidied k)) ≤ 32768
-unfolding fieldsOf written printed
-few-fields k r = omega (arith, few-bytes k r, lines-long (linesOf (tidied k)))
+unfolding written
+few-fields k r = omega (arith, few-bytes k r, case-least (tidied k))
 
 -- ---- Room
 

@@ -7,7 +7,8 @@ use Rattle.rules.specs.Fields.{linesOf}
 use Rattle.rules.specs.Gaps.{caseWith}
 use Rattle.rules.specs.Verdict.{textMost}
 use Rattle.rules.specs.declared.Answer.the-variants.{LongText}
-use Rattle.finder.proofs.Prints.{is-sound, nodes-stand, few-lines, few-cues, few-empties, has-lines, print-short}
+use Rattle.output.proofs.Cases.{print-short}
+use Rattle.finder.proofs.Prints.{is-sound, nodes-stand, few-lines, few-cues, few-empties, has-lines}
 use Rattle.finder.proofs.Trying.{within-header, choice-long, choice-put, choice-size, choice-roomy, choice-answers}
 use Rattle.finder.proofs.try_choice.Statement.{statement}
 use Rattle.finder.proofs.try_choice.Tie as tie

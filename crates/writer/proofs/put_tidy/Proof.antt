@@ -11,7 +11,8 @@ use Rattle.rules.specs.Verdict.{textMost}
 use Rattle.rules.specs.Writing.{tidied, written}
 use Rattle.rules.proofs.Writing.Lengths.{written-length}
 use Rattle.writer.specs.Writes.{PutAs}
-use Rattle.writer.proofs.Fields.{header-here, header-fits, print-short, written-same}
+use Rattle.output.proofs.Cases.{print-short}
+use Rattle.writer.proofs.Fields.{header-here, header-fits, written-same}
 use Rattle.writer.proofs.put_tidy.Statement.{statement}
 use Rattle.writer.proofs.put_tidy.Tie as tie
 
