@@ -1,5 +1,5 @@
 // The lines of the competition's plan form (02, Card 6), one at a time: what each says, or that it has another shape. Each byte is looked at
-// once. `past` is the place past the text's last line feed.
+// once, but for the first word of a line that starts with no number, which is then compared with `root` or `<==`. `past` is the place past the text's last line feed.
 ghost use mathlib.Core.Path.{_≡_};
 ghost use mathlib.Core.Bool.{true};
 ghost use Prim.Native.Nat.{ℕ};
