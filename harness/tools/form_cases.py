@@ -61,6 +61,7 @@ class Planner(Writer):
         return ended([",".join(header)] + lines[1:plan] + ["P", "D,0"])
 
     def listed(self, tasks=None, methods=None):
+        """The lines of the name list; names are plain unless others are given."""
         tasks = tasks or [f"a{n}" for n in range(len(self.actions))] + [f"t{n}" for n in range(self.compound)]
         methods = methods or [f"m{n}" for n in range(len(self.methods))]
         return [f"{n},{name}" for listed in (tasks, methods) for n, name in enumerate(listed)]
@@ -96,9 +97,9 @@ class Planner(Writer):
         return [self.beside(), ended(self.listed()), ended(self.form(**more)), len(self.text()) if room is None else room]
 
 
-def row(k, e, constraints=(), **more):
+def row(k, e, constraints=()):
     """So many empty tasks, then so many cues, below one task."""
-    return Planner(D([E() for _ in range(e)] + [L(a) for a in range(k)], constraints), ladder(k), propositions=max(8, k + 1), **more)
+    return Planner(D([E() for _ in range(e)] + [L(a) for a in range(k)], constraints), ladder(k), propositions=max(8, k + 1))
 
 
 EXACT = [ASKED]
@@ -117,6 +118,7 @@ def own():
 
 
 def of_cases():
+    """Refusals of the case, those that come before others, and 14."""
     yield "2-before-names", of_panel(names=["x"], case="N" * (LIMIT + 1))
     yield "3-case-empty", of_panel(names=["x"], case="")
     yield "3-own-node-line", of_panel(["x"], ["x"], PANEL.replace("D,0", "D"))
@@ -299,51 +301,64 @@ def of_uses():
 # ---------------------------------------------------------------- ids
 
 
-def of_ids():
-    """19: a fault alone, each in several places."""
-    form = lambda name, actions, root, *compounds: (f"19-{name}", of_panel(["==>", *actions, f"root {root}", *compounds, "<=="]))
-    load, take, both = "1 load", "2 take", ["1 load", "2 take"]
-    whole, empty = "0 panel -> whole 3 1 2", "3 in-km/h -> as-is"
-    yield form("twice-two-actions", ["1 load", "2 take", "2 load"], 0, whole, empty)
-    yield form("twice-action-and-compound", [load, take, "3 load"], 0, whole, empty)
-    yield form("twice-two-compounds", both, 0, whole, empty, empty)
-    yield form("twice-root", both, 0, whole, empty, "0 in-km/h -> as-is")
-    yield form("twice-root-an-action", [load, take, "0 load"], 0, whole, empty)
+LOAD, TAKE, WHOLE, EMPTY = FORM[1], FORM[2], FORM[4], FORM[5]
+BOTH = [LOAD, TAKE]
+
+
+def wrong(name, actions, root, *compounds):
+    return f"19-{name}", of_panel(["==>", *actions, f"root {root}", *compounds, "<=="])
+
+
+def of_twice():
+    """19: an id defined twice, or twice a subtask, or the root's under a parent."""
+    yield wrong("twice-two-actions", ["1 load", "2 take", "2 load"], 0, WHOLE, EMPTY)
+    yield wrong("twice-action-and-compound", [LOAD, TAKE, "3 load"], 0, WHOLE, EMPTY)
+    yield wrong("twice-two-compounds", BOTH, 0, WHOLE, EMPTY, EMPTY)
+    yield wrong("twice-root", BOTH, 0, WHOLE, EMPTY, "0 in-km/h -> as-is")
+    yield wrong("twice-root-an-action", [LOAD, TAKE, "0 load"], 0, WHOLE, EMPTY)
     # The second line of an id leads to line 2, or makes its id a subtask once more.
-    yield form("twice-second-line-reaches", ["7 convert", load, take], 0, whole, empty, "3 in-km/h -> by-convert 7")
-    yield form("twice-subtask-once-more", ["7 convert", load, take], 0, whole, "3 in-km/h -> by-convert 7", "3 in-km/h -> by-convert 7")
-    yield form("subtask-twice-on-a-line", [load], 0, "0 panel -> whole 3 1 1", empty)
-    yield form("subtask-twice-definer-below", [take], 0, "0 panel -> whole 3 3 2", empty)
-    yield form("subtask-twice-definer-above", [take], 0, empty, "0 panel -> whole 3 3 2")
-    yield form("subtask-of-two-above-both", both, 0, whole, "3 in-km/h -> by-convert 1")
-    yield form("subtask-of-two-between", [take], 0, "0 panel -> whole 3 4 2", "4 in-km/h -> as-is", "3 in-km/h -> by-convert 4")
-    yield form("subtask-of-two-below-both", [take], 0, "0 panel -> whole 3 4 2", "3 in-km/h -> by-convert 4", "4 in-km/h -> as-is")
-    yield form("root-under-parent-above", both, 0, whole, "3 in-km/h -> by-convert 0")
-    yield form("root-under-parent-below", both, 0, "3 in-km/h -> by-convert 0", whole)
-    yield form("root-under-itself", [], 0, "0 in-km/h -> by-convert 0")
-    yield form("root-an-action-under-parent", [load], 1, "3 in-km/h -> by-convert 1")
-    yield form("root-of-a-ring-of-3", [], 4, "6 in-km/h -> by-convert 4", "5 in-km/h -> by-convert 6", "4 in-km/h -> by-convert 5")
-    yield form("not-reached-action", [load, "9 convert", take], 0, whole, empty)
-    yield form("not-reached-empty", both, 0, whole, "9 in-km/h -> as-is", empty)
-    yield form("not-reached-branch", [load, take, "8 convert"], 0, whole, empty, "9 in-km/h -> by-convert 8")
-    yield form("not-reached-by-another-root", both, 3, whole, empty)
-    yield form("ring-of-1-apart", both, 0, whole, "9 in-km/h -> by-convert 9", empty)
-    yield form("ring-of-2-apart", both, 0, whole, empty, "8 in-km/h -> by-convert 9", "9 in-km/h -> by-convert 8")
-    yield form("ring-below-the-root", both, 0, whole, "3 in-km/h -> by-convert 4", "4 in-km/h -> by-convert 3")
-    yield form("never-defined-on-the-last-line", both, 0, whole, "3 in-km/h -> by-convert 9")
-    yield form("never-defined-last-subtask", [load], 0, "0 panel -> whole 3 1 9", empty)
-    yield form("never-defined-first-subtask", both, 0, "0 panel -> whole 9 1 2")
-    yield form("never-defined-0", both, 4, "4 panel -> whole 0 1 2")
-    yield form("never-defined-4294967295", both, 0, "0 panel -> whole 4294967295 1 2")
-    yield form("never-defined-on-two-lines", [take], 0, "3 in-km/h -> by-convert 9", "0 panel -> whole 3 9 2")
-    yield form("root-never-defined", both, 9, whole, empty)
-    yield form("root-never-defined-no-action", [], 9, empty)
-    yield form("root-never-defined-no-line", [], 9)
-    yield form("digits-apart", ["1 load", "12 take"], 0, "0 panel -> whole 3 1 2", empty)
-    yield form("least-not-reached", [load, "8 load", take], 0, "0 panel -> whole 3 1 9", empty, empty)
-    yield form("least-twice", both + ["2 load"], 0, "0 panel -> whole 3 1 9", "9 in-km/h -> by-convert 0", "8 in-km/h -> as-is")
-    yield form("least-root-under-parent", both, 0, "0 panel -> whole 3 1 2", "9 in-km/h -> as-is", "3 in-km/h -> by-convert 0")
-    yield form("least-never-defined", both, 0, "4 in-km/h -> by-convert 9", "0 panel -> whole 4 1 2", "3 in-km/h -> as-is", "3 in-km/h -> as-is")
+    yield wrong("twice-second-line-reaches", ["7 convert", LOAD, TAKE], 0, WHOLE, EMPTY, "3 in-km/h -> by-convert 7")
+    yield wrong("twice-subtask-once-more", ["7 convert", LOAD, TAKE], 0, WHOLE, "3 in-km/h -> by-convert 7", "3 in-km/h -> by-convert 7")
+    yield wrong("subtask-twice-on-a-line", [LOAD], 0, "0 panel -> whole 3 1 1", EMPTY)
+    yield wrong("subtask-twice-definer-below", [TAKE], 0, "0 panel -> whole 3 3 2", EMPTY)
+    yield wrong("subtask-twice-definer-above", [TAKE], 0, EMPTY, "0 panel -> whole 3 3 2")
+    yield wrong("subtask-of-two-above-both", BOTH, 0, WHOLE, "3 in-km/h -> by-convert 1")
+    yield wrong("subtask-of-two-between", [TAKE], 0, "0 panel -> whole 3 4 2", "4 in-km/h -> as-is", "3 in-km/h -> by-convert 4")
+    yield wrong("subtask-of-two-below-both", [TAKE], 0, "0 panel -> whole 3 4 2", "3 in-km/h -> by-convert 4", "4 in-km/h -> as-is")
+    yield wrong("root-under-parent-above", BOTH, 0, WHOLE, "3 in-km/h -> by-convert 0")
+    yield wrong("root-under-parent-below", BOTH, 0, "3 in-km/h -> by-convert 0", WHOLE)
+    yield wrong("root-under-itself", [], 0, "0 in-km/h -> by-convert 0")
+    yield wrong("root-an-action-under-parent", [LOAD], 1, "3 in-km/h -> by-convert 1")
+    yield wrong("root-of-a-ring-of-3", [], 4, "6 in-km/h -> by-convert 4", "5 in-km/h -> by-convert 6", "4 in-km/h -> by-convert 5")
+
+
+def of_reach():
+    """19: an id not reached, or never defined."""
+    yield wrong("not-reached-action", [LOAD, "9 convert", TAKE], 0, WHOLE, EMPTY)
+    yield wrong("not-reached-empty", BOTH, 0, WHOLE, "9 in-km/h -> as-is", EMPTY)
+    yield wrong("not-reached-branch", [LOAD, TAKE, "8 convert"], 0, WHOLE, EMPTY, "9 in-km/h -> by-convert 8")
+    yield wrong("not-reached-by-another-root", BOTH, 3, WHOLE, EMPTY)
+    yield wrong("ring-of-1-apart", BOTH, 0, WHOLE, "9 in-km/h -> by-convert 9", EMPTY)
+    yield wrong("ring-of-2-apart", BOTH, 0, WHOLE, EMPTY, "8 in-km/h -> by-convert 9", "9 in-km/h -> by-convert 8")
+    yield wrong("ring-below-the-root", BOTH, 0, WHOLE, "3 in-km/h -> by-convert 4", "4 in-km/h -> by-convert 3")
+    yield wrong("never-defined-on-the-last-line", BOTH, 0, WHOLE, "3 in-km/h -> by-convert 9")
+    yield wrong("never-defined-last-subtask", [LOAD], 0, "0 panel -> whole 3 1 9", EMPTY)
+    yield wrong("never-defined-first-subtask", BOTH, 0, "0 panel -> whole 9 1 2")
+    yield wrong("never-defined-0", BOTH, 4, "4 panel -> whole 0 1 2")
+    yield wrong("never-defined-4294967295", BOTH, 0, "0 panel -> whole 4294967295 1 2")
+    yield wrong("never-defined-on-two-lines", [TAKE], 0, "3 in-km/h -> by-convert 9", "0 panel -> whole 3 9 2")
+    yield wrong("root-never-defined", BOTH, 9, WHOLE, EMPTY)
+    yield wrong("root-never-defined-no-action", [], 9, EMPTY)
+    yield wrong("root-never-defined-no-line", [], 9)
+    yield wrong("digits-apart", ["1 load", "12 take"], 0, "0 panel -> whole 3 1 2", EMPTY)
+
+
+def of_least():
+    """19: the least line of several faults."""
+    yield wrong("least-not-reached", [LOAD, "8 load", TAKE], 0, "0 panel -> whole 3 1 9", EMPTY, EMPTY)
+    yield wrong("least-twice", BOTH + ["2 load"], 0, "0 panel -> whole 3 1 9", "9 in-km/h -> by-convert 0", "8 in-km/h -> as-is")
+    yield wrong("least-root-under-parent", BOTH, 0, "0 panel -> whole 3 1 2", "9 in-km/h -> as-is", "3 in-km/h -> by-convert 0")
+    yield wrong("least-never-defined", BOTH, 0, "4 in-km/h -> by-convert 9", "0 panel -> whole 4 1 2", "3 in-km/h -> as-is", "3 in-km/h -> as-is")
 
 
 # ---------------------------------------------------------------- forms that make a case
@@ -412,6 +427,7 @@ def named(tasks, methods, planner=None):
 
 
 def of_names():
+    """Accepted, but for a name that is listed again or not at all."""
     yield "names-of-words", named(["root", "<==", "->", "==>"], ["->", "root"])
     yield "names-of-digits", named(["0", "1", "2", "3"], ["1", "0"])
     yield "names-of-long-digits", named(["4294967296", "00", "01", "18446744073709551616"], ["0", "00"])
@@ -466,6 +482,7 @@ def long_made(length, gap=9):
 
 
 def of_limits():
+    """Lines, actions and bytes at their limits."""
     full = empties(2999)
     assert len(full.nodes) == 3000, len(full.nodes)
     case, names, form, room = full.lent()
@@ -494,10 +511,15 @@ def of_limits():
     yield "14-item-80000", longest.lent(room=LIMIT)
 
 
-PARTS = [of_cases, of_list_shapes, of_list_names, of_form_shapes, of_root_lines, of_action_lines, of_compound_lines, of_uses, of_ids, of_trees, of_found, of_names, of_limits]
+PARTS = [of_cases, of_list_shapes, of_list_names, of_form_shapes, of_root_lines, of_action_lines, of_compound_lines, of_uses]
+PARTS += [of_twice, of_reach, of_least, of_trees, of_found, of_names, of_limits]
 
 
 # ---------------------------------------------------------------- files
+
+
+# What each file is, by the end of its name.
+KINDS = ("case", "names", "form")
 
 
 class Store:
@@ -510,7 +532,7 @@ class Store:
         """Stores the three texts of a case, and names their files."""
         assert name not in self.names, name
         self.names.add(name)
-        return [self.file(f"{name}.{kind}", text) for kind, text in zip(("case", "names", "form"), texts)]
+        return [self.file(f"{name}.{kind}", text) for kind, text in zip(KINDS, texts)]
 
     def file(self, name, text):
         key = name.rsplit(".", 1)[1], text
@@ -525,22 +547,25 @@ def main():
     folder, card = map(Path, sys.argv[1:])
     data = folder / "data"
     data.mkdir(parents=True, exist_ok=True)
-    for old in data.iterdir():
-        old.unlink()
+    for kind in KINDS:
+        for old in data.glob(f"*.{kind}"):
+            old.unlink()
     store, args = Store(data), []
     for case in sorted(card.glob("*/call")):
         words = dict(entry.split(" ", 1) for entry in case.read_text().splitlines() if entry[0] != "#")
         since, until = words["holds"].split("-")
         assert int(since) <= 6 <= int(until), case
-        texts = [case.with_name(kind).read_bytes().decode("latin-1") for kind in ("case", "names", "form")]
+        texts = [case.with_name(kind).read_bytes().decode("latin-1") for kind in KINDS]
         args += store.words(f"card06-{case.parent.name}", texts) + [words["output"]]
         args += [words.get(list_, str(asked)) for list_, asked in zip(("states", "nodes", "work"), ASKED)]
     for name, (*texts, room), lengths in own():
         files = store.words(f"own-card06-{name}", texts)
         for three in lengths:
             args += files + [str(length) for length in (room, *three)]
+    cases = [tuple(args[i : i + 7]) for i in range(0, len(args), 7)]
+    assert len(set(cases)) == len(cases), [case for case in set(cases) if cases.count(case) > 1]
     (folder / "args").write_text("".join(word + "\n" for word in args))
-    print(f"{len(store.files)} files, {len(args) // 7} cases, {sum(f.stat().st_size for f in data.iterdir())} bytes")
+    print(f"{len(store.files)} files, {len(cases)} cases, {sum(f.stat().st_size for f in data.iterdir())} bytes")
 
 
 if __name__ == "__main__":

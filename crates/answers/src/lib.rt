@@ -72,8 +72,30 @@ pub fn print_records(work: &[u32], nodes: u32) {
     print_each(work, arguments::lesser(nodes as usize, NODES));
 }
 
-// The bytes of an output up to the length answered.
+// The place of the first byte from there on that is not zero, or the length of the output.
+fn first_dirt(output: &[u8], from: usize) -> usize {
+    let mut at = from;
+    while at < output.len() {
+        if output[at] != 0 {
+            return at;
+        }
+        at += 1;
+    }
+    output.len()
+}
+
+fn print_dirt(output: &[u8], from: usize) {
+    let at = first_dirt(output, from);
+    if at < output.len() {
+        io::write_all(STDOUT_FILENO, b"dirty ");
+        io::print_decimal(STDOUT_FILENO, at as u64);
+        io::write_all(STDOUT_FILENO, b"\n");
+    }
+}
+
+// The bytes of an output up to the length answered; then, if any byte behind them is not zero, the place of the first.
 pub fn print_text(output: &[u8], length: u32) {
     let n = arguments::lesser(length as usize, output.len());
     io::write_all(STDOUT_FILENO, &output[..n]);
+    print_dirt(output, n);
 }

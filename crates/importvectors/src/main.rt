@@ -4,7 +4,6 @@
 // output behind that is not zero, the place of the first. What it prints is held against the stored expectations, which come from the papers and
 // from two renderings that search whole lists and try every choice.
 use importer::Outcome;
-use libc::STDOUT_FILENO;
 use rules::STATES;
 use rules::WORK;
 use state::WORDS;
@@ -17,28 +16,7 @@ const MOST_WORK: usize = WORK + 32;
 
 const MOST_OUTPUT: usize = 120000;
 
-// The place of the first byte from there on that is not zero, or the length of the output.
-fn first_dirt(output: &[u8], from: usize) -> usize {
-    let mut at = from;
-    while at < output.len() {
-        if output[at] != 0 {
-            return at;
-        }
-        at += 1;
-    }
-    output.len()
-}
-
-fn print_dirt(output: &[u8], from: usize) {
-    let at = first_dirt(output, from);
-    if at < output.len() {
-        io::write_all(STDOUT_FILENO, b"dirty ");
-        io::print_decimal(STDOUT_FILENO, at as u64);
-        io::write_all(STDOUT_FILENO, b"\n");
-    }
-}
-
-// The answer, the records of an acceptance, the bytes up to the length answered, and whether those behind are zero.
+// The answer, the records of an acceptance, and the bytes up to the length answered.
 fn print_all(o: Outcome, work: &[u32], output: &[u8]) {
     let answer = o.answer;
     let tried = o.tried;
@@ -47,7 +25,6 @@ fn print_all(o: Outcome, work: &[u32], output: &[u8]) {
     answers::print_answer(r, &[tried, length]);
     answers::print_records(work, r.nodes);
     answers::print_text(output, length);
-    print_dirt(output, length as usize);
 }
 
 fn import_with(

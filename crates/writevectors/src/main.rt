@@ -1,6 +1,7 @@
 // Runs the core of the write call on every case that its arguments name, in their order: five words to a case, its file, the bytes of the
-// output, and the lengths of the state list, the node list and the work space. All that is lent comes in dirty. Prints the words and the answer of each, and then
-// what was put out. What it prints is held against the stored expectations, which come from the papers and two independent renderings.
+// output, and the lengths of the state list, the node list and the work space. All that is lent comes in dirty. Prints the words and the answer of each; then
+// what was put out; and last, if any byte of the output behind that is not zero, the place of the first. What it prints is held against the stored
+// expectations, which come from the papers and two independent renderings.
 use rules::STATES;
 use rules::TEXT;
 use rules::WORK;

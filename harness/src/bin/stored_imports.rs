@@ -20,7 +20,8 @@ fn main() -> Result<()> {
     let (mut ours, mut theirs) = (Lists::with_output_of(MADE), Lists::with_output_of(MADE));
     let mut out = std::io::stdout().lock();
     for case in words.chunks(7) {
-        let [text, names, form] = [0, 1, 2].map(|at| std::fs::read(folder.join("data").join(case[at])).expect(case[at]));
+        let [text, names, form] =
+            [0, 1, 2].map(|at| std::fs::read(folder.join("data").join(case[at])).expect(case[at]));
         assert!([&text, &names, &form].iter().all(|file| file.len() <= READ), "{case:?}");
         let number = |at: usize| case[at].parse().expect("a length");
         let lengths = Lengths { states: number(4), nodes: number(5), work: number(6) };

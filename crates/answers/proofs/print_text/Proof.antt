@@ -13,8 +13,13 @@ slice-aggregate-write-all c = search (needs, length-take-le)
 write-all-requires : tie.Need-write-all-requires
 write-all-requires c κs = search needs
 
+print-dirt-requires : tie.Need-print-dirt-requires
+print-dirt-requires c κs = search needs
+
 returns : tie.Need-returns
 returns c = search needs
 
 pub print-text-spec : {M : Type 1} → statement M
-print-text-spec = tie.close (tie.spec lesser-requires slice-aggregate-write-all write-all-requires returns)
+print-text-spec =
+    tie.close
+    (tie.spec lesser-requires slice-aggregate-write-all write-all-requires print-dirt-requires returns)

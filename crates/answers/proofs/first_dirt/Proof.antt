@@ -3,8 +3,8 @@ use Prim.{Unit}
 use Prim.Native.Nat.{_-_}
 use lib.ListN.{length}
 use borrow.Author.Needs.{needs}
-use Rattle.importvectors.proofs.first_dirt.Statement.{statement}
-use Rattle.importvectors.proofs.first_dirt.Tie as tie
+use Rattle.answers.proofs.first_dirt.Statement.{statement}
+use Rattle.answers.proofs.first_dirt.Tie as tie
 
 abbrev Inv-loop : tie.InvT-loop
 Inv-loop output from at₀ at = Unit {0}
