@@ -17,7 +17,7 @@ use Rattle.rules.proofs.Judgement.Sound.{sound}
 use Rattle.rules.proofs.Gaps.Texts.{reads-with}
 use Rattle.rules.proofs.Gaps.Lengths.{surplus, length-surplus}
 use Rattle.fields.specs.Standing.{Stands}
-use Rattle.fields.specs.Directory.{IsRead, NodesLast}
+use Rattle.fields.specs.Directory.{NodesLast}
 use Rattle.fields.proofs.Standing.{stands-right, stands-as}
 use Rattle.records.specs.Records.{NodesStand}
 use Rattle.output.specs.Output.{HasLines}

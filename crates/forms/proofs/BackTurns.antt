@@ -12,9 +12,9 @@ use Rattle.rules.specs.Case.{Case, Read}
 use Rattle.rules.specs.Naming.{Names}
 use Rattle.rules.specs.Form.{FormLine, taskLine, withTask, backLines}
 use Rattle.links.specs.Links.{Lines, Spelled}
-use Rattle.forms.specs.declared.After.{After}
-use Rattle.forms.specs.declared.After.the-variants.{Taken, End, Refused}
-use Rattle.forms.specs.declared.Backs.the-variants.{Read as BacksOf, Refused as BacksRefused}
+use Rattle.forms.specs.declared.backs.After.{After}
+use Rattle.forms.specs.declared.backs.After.the-variants.{Taken, End, Refused}
+use Rattle.forms.specs.declared.backs.Backs.the-variants.{Read as BacksOf, Refused as BacksRefused}
 use Rattle.forms.specs.Held.{MethodsHere, Tasks, Methods, AfterIs, BacksAre}
 use Rattle.forms.proofs.Grown.{one-more, lines-task, spelled-task}
 

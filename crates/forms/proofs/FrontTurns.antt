@@ -12,9 +12,9 @@ use Rattle.rules.specs.Case.{Case}
 use Rattle.rules.specs.Naming.{Names}
 use Rattle.rules.specs.Form.{FormLine, cueLine, Fronts, withCue, frontLines}
 use Rattle.links.specs.Links.{Lines}
-use Rattle.forms.specs.declared.Ahead.{Ahead}
-use Rattle.forms.specs.declared.Ahead.the-variants.{Taken, Root, Refused}
-use Rattle.forms.specs.declared.Fronts.the-variants.{Read as FrontsOf, Refused as FrontsRefused}
+use Rattle.forms.specs.declared.fronts.Ahead.{Ahead}
+use Rattle.forms.specs.declared.fronts.Ahead.the-variants.{Taken, Root, Refused}
+use Rattle.forms.specs.declared.fronts.Fronts.the-variants.{Read as FrontsOf, Refused as FrontsRefused}
 use Rattle.forms.specs.Held.{Tasks, AheadIs, FrontsAre}
 use Rattle.forms.proofs.Grown.{one-more, lines-cue}
 

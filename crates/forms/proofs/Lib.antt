@@ -1,4 +1,4 @@
-pub mod Lookups
+pub mod Named
 pub mod Grown
 pub mod FrontLines
 pub mod FrontTurns

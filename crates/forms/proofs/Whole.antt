@@ -16,10 +16,10 @@ use Rattle.rules.specs.Naming.{Names}
 use Rattle.rules.specs.Form.{openingOf, FormLine, Fronts, frontLines, backLines, formLineMost, Form, formLines, readForm}
 use Rattle.shapes.specs.Shapes.{OpeningIs}
 use Rattle.links.specs.Links.{Lines, Spelled}
-use Rattle.forms.specs.declared.Fronts.{Fronts as FrontsRead}
-use Rattle.forms.specs.declared.Fronts.the-variants.{Read as FrontsOf, Refused as FrontsRefused}
-use Rattle.forms.specs.declared.Backs.{Backs}
-use Rattle.forms.specs.declared.Backs.the-variants.{Read as BacksOf, Refused as BacksRefused}
+use Rattle.forms.specs.declared.fronts.Fronts.{Fronts as FrontsRead}
+use Rattle.forms.specs.declared.fronts.Fronts.the-variants.{Read as FrontsOf, Refused as FrontsRefused}
+use Rattle.forms.specs.declared.backs.Backs.{Backs}
+use Rattle.forms.specs.declared.backs.Backs.the-variants.{Read as BacksOf, Refused as BacksRefused}
 use Rattle.forms.specs.declared.FormRead.the-variants.{Form as FormOf, Refused as FormRefused}
 use Rattle.forms.specs.Held.{FrontsAre, BacksAre, FormIs}
 

@@ -4,14 +4,12 @@ use mathlib.Core.List.{List, [], _++_}
 use Prim.Native.Nat.{ℕ, suc, _+_, _-_, _≤_, _<_}
 use lib.ListN.{length, getD, set}
 use Rattle.rules.specs.declared.Header.{Header}
-use Rattle.rules.specs.declared.Answer.{Answer}
 use Rattle.rules.specs.declared.Answer.the-variants.{WrongName}
 use Rattle.rules.specs.Result.{Result, found, refused}
-use Rattle.rules.specs.Case.{Case, methodAt, Read}
+use Rattle.rules.specs.Case.{Case, methodAt}
 use Rattle.rules.specs.Fields.{linesFields, methodLines}
-use Rattle.rules.specs.Ranges.{GoodMethod}
 use Rattle.rules.specs.Naming.{Names}
-use Rattle.rules.specs.Form.{FormLine, cueLine, taskLine, Fronts, rootOnly, withCue, frontLines, withTask, backLines, Form, formLines, readForm}
+use Rattle.rules.specs.Form.{FormLine, cueLine, taskLine, rootOnly, withCue, frontLines, withTask, backLines, Form, formLines}
 use Rattle.fields.specs.Standing.{Stands}
 use Rattle.fields.specs.Directory.{methodsFrom, directorySize}
 use Rattle.probing.specs.declared.Found.{Found}
@@ -19,14 +17,14 @@ use Rattle.probing.specs.declared.Found.the-variants.{At, Nothing}
 use Rattle.naming.specs.Listing.{Listed}
 use Rattle.tokens.specs.Pieces.{Spells}
 use Rattle.links.specs.Links.{Lines, Spelled}
-use Rattle.forms.specs.declared.Ahead.{Ahead}
-use Rattle.forms.specs.declared.Ahead.the-variants.{Taken, Root, Refused}
-use Rattle.forms.specs.declared.Fronts.{Fronts as FrontsRead}
-use Rattle.forms.specs.declared.Fronts.the-variants.{Read as FrontsOf, Refused as FrontsRefused}
-use Rattle.forms.specs.declared.After.{After}
-use Rattle.forms.specs.declared.After.the-variants.{Taken as TakenAfter, End, Refused as AfterRefused}
-use Rattle.forms.specs.declared.Backs.{Backs}
-use Rattle.forms.specs.declared.Backs.the-variants.{Read as BacksOf, Refused as BacksRefused}
+use Rattle.forms.specs.declared.fronts.Ahead.{Ahead}
+use Rattle.forms.specs.declared.fronts.Ahead.the-variants.{Taken, Root, Refused}
+use Rattle.forms.specs.declared.fronts.Fronts.{Fronts as FrontsRead}
+use Rattle.forms.specs.declared.fronts.Fronts.the-variants.{Read as FrontsOf, Refused as FrontsRefused}
+use Rattle.forms.specs.declared.backs.After.{After}
+use Rattle.forms.specs.declared.backs.After.the-variants.{Taken as TakenAfter, End, Refused as AfterRefused}
+use Rattle.forms.specs.declared.backs.Backs.{Backs}
+use Rattle.forms.specs.declared.backs.Backs.the-variants.{Read as BacksOf, Refused as BacksRefused}
 use Rattle.forms.specs.declared.FormRead.{FormRead}
 use Rattle.forms.specs.declared.FormRead.the-variants.{Form as FormOf, Refused as FormRefused}
 

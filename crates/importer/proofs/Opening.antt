@@ -1,9 +1,8 @@
 -- A text that was read, as making the case goes by it. Assumes nothing.
-use mathlib.Core.Path.{_≡_, refl, sym, ap, subst, _∙_}
+use mathlib.Core.Path.{_≡_, refl, sym, subst}
 use mathlib.Core.List.{List}
-use Prim.Native.Nat.{ℕ, _≤_, _<_}
+use Prim.Native.Nat.{ℕ}
 use native.Mathlib.Omega.{arith}
-use lib.ListN.{length}
 use Rattle.rules.specs.declared.Answer.{Answer}
 use Rattle.rules.specs.Result.{Result, found, refused, _>>=_}
 use Rattle.rules.specs.Case.{Case, noMethod, methodAt, readCase}
@@ -14,8 +13,8 @@ use Rattle.rules.proofs.Judgement.Sound.{sound}
 use Rattle.fields.specs.Directory.{directorySize}
 use Rattle.judge.specs.declared.Opened.{Opened}
 use Rattle.judge.specs.Phases.{Opens}
-use Rattle.importer.specs.declared.Made.{Made}
-use Rattle.importer.specs.declared.Made.the-variants.{Refused}
+use Rattle.importer.specs.declared.made.Made.{Made}
+use Rattle.importer.specs.declared.made.Made.the-variants.{Refused}
 use Rattle.importer.specs.Importing.{CaseHere, madeBeside, madeText, MadeIs}
 
 pub case-here : (k : Case) (fields : List ℕ) (o : Opened) (initial : ℕ) (work : List ℕ) → Opens k fields o initial work → CaseHere k (o .header) (o .nodes) fields work

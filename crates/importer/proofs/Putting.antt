@@ -23,8 +23,8 @@ use Rattle.linking.specs.Linking.{Joined}
 use Rattle.making.specs.Making.{Makes}
 use Rattle.making.proofs.Cases.{form-cued, form-tasked}
 use Rattle.output.proofs.Cases.{case-text}
-use Rattle.importer.specs.declared.Made.{Made}
-use Rattle.importer.specs.declared.Made.the-variants.{Text, Refused}
+use Rattle.importer.specs.declared.made.Made.{Made}
+use Rattle.importer.specs.declared.made.Made.the-variants.{Text, Refused}
 use Rattle.importer.specs.Importing.{FormHeld, Unlinked, madeOf, MadeIs, PutMade}
 
 -- ---- The output

@@ -28,8 +28,8 @@ use Rattle.forms.specs.declared.FormRead.the-variants.{Form as FormOf, Refused 
 use Rattle.forms.specs.Held.{MethodsHere, Tasks, Methods, FormIs}
 use Rattle.making.specs.Making.{PlanLast}
 use Rattle.importer.proofs.Putting.{zero-at}
-use Rattle.importer.specs.declared.Made.{Made}
-use Rattle.importer.specs.declared.Made.the-variants.{Refused}
+use Rattle.importer.specs.declared.made.Made.{Made}
+use Rattle.importer.specs.declared.made.Made.the-variants.{Refused}
 use Rattle.importer.specs.Importing.{ModelHere, BothAre, CaseHere, FormHeld, madeOf, madeBeside, MadeIs}
 
 apart : {A : Type 0} → _≡_ {A = ℕ} 0 1 → A

@@ -15,9 +15,9 @@ use Rattle.rules.specs.Print.{printed}
 use Rattle.rules.specs.Tree.{Tree}
 use Rattle.rules.specs.Verdict.{Lent, textMost, checkLists, listsLong, textShort, Found, answerOf, filled, statesAfter}
 use Rattle.rules.specs.Writing.{roomFor}
-use Rattle.rules.specs.Gaps.{beforeChoices, firstAccepted, findGaps, triedAfter, choiceCount, Limited}
-use Rattle.rules.specs.Naming.{Names, readNames}
-use Rattle.rules.specs.Form.{Form, readForm, idsRight}
+use Rattle.rules.specs.Gaps.{beforeChoices, findGaps, triedAfter, choiceCount, Limited}
+use Rattle.rules.specs.Naming.{readNames}
+use Rattle.rules.specs.Form.{readForm, idsRight}
 use Rattle.rules.specs.Import.{madeCase, madeFrom, importForm, foundTree, madeAfter, madeLength, LimitedMade}
 use Rattle.records.specs.Records.{RecordsHeld}
 use Rattle.finder.specs.declared.Discovery.{Discovery}
@@ -25,8 +25,7 @@ use Rattle.finder.specs.Finding.{Finds}
 use Rattle.finder.proofs.Counting.{limited-one}
 use Rattle.finder.proofs.Rows.{limits-hold}
 use Rattle.importer.specs.declared.Outcome.{Outcome}
-use Rattle.importer.specs.declared.Made.{Made}
-use Rattle.importer.specs.declared.Made.the-variants.{Text, Refused}
+use Rattle.importer.specs.declared.made.Made.the-variants.{Text, Refused}
 use Rattle.importer.specs.Importing.{madeOf, madeBeside, madeText, MadeIs, thenFind, fromMade, LimitedTo, Imports}
 
 apart : {A : Type 0} → _≡_ {A = ℕ} 0 1 → A

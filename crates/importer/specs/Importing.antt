@@ -5,7 +5,7 @@ use Prim.Native.Nat.{ℕ, _+_, _*_, _≤_, _<_}
 use lib.ListN.{length, getD}
 use Rattle.rules.specs.declared.Header.{Header}
 use Rattle.rules.specs.Result.{Result, found, refused, _>>=_, _>>_}
-use Rattle.rules.specs.Case.{Case, methodAt, readCase}
+use Rattle.rules.specs.Case.{Case, readCase}
 use Rattle.rules.specs.Fields.{fieldsOf}
 use Rattle.rules.specs.Print.{printed}
 use Rattle.rules.specs.Tree.{Tree}
@@ -14,7 +14,7 @@ use Rattle.rules.specs.Writing.{roomFor}
 use Rattle.rules.specs.Gaps.{findGaps, triedAfter, beforeChoices, Limited}
 use Rattle.rules.specs.Naming.{readNames}
 use Rattle.rules.specs.Form.{Form, formLines, readForm, idsRight}
-use Rattle.rules.specs.Import.{madeCase, madeFrom, foundTree, madeAfter, madeLength, LimitedMade}
+use Rattle.rules.specs.Import.{madeCase, foundTree, madeAfter, madeLength}
 use Rattle.fields.specs.Standing.{Stands}
 use Rattle.fields.specs.Directory.{IsRead, NodesLast}
 use Rattle.records.specs.Records.{RecordsHeld}
@@ -23,8 +23,8 @@ use Rattle.forms.specs.declared.FormRead.{FormRead}
 use Rattle.forms.specs.Held.{MethodsHere, FormIs}
 use Rattle.making.specs.Making.{PlanLast}
 use Rattle.importer.specs.declared.Outcome.{Outcome}
-use Rattle.importer.specs.declared.Made.{Made}
-use Rattle.importer.specs.declared.Made.the-variants.{Text, Refused}
+use Rattle.importer.specs.declared.made.Made.{Made}
+use Rattle.importer.specs.declared.made.Made.the-variants.{Text, Refused}
 
 -- A case that was read, with this header, and its methods among the fields.
 pub record ModelHere (k : Case) (h : Header) (fields directory : List ℕ) : Type 0 where

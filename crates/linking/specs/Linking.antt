@@ -1,7 +1,7 @@
 -- What the links of a form's lines come to. Assumes nothing.
 use mathlib.Core.Path.{_≡_}
 use mathlib.Core.List.{List}
-use Prim.Native.Nat.{ℕ, suc, _+_, _≤_}
+use Prim.Native.Nat.{ℕ, suc, _≤_}
 use lib.ListN.{length, getD}
 use Rattle.rules.specs.Form.{FormLine, Form, wrongLine}
 use Rattle.links.specs.Links.{link, Defined, Linked}

@@ -3,7 +3,7 @@ ghost use mathlib.Core.Path.{_≡_};
 ghost use mathlib.Core.List.{List};
 ghost use Prim.Native.Nat.{ℕ, _*_, _≤_, _<_};
 ghost use lib.ListN.{length, getD};
-ghost use Rattle.rules.specs.Form.{FormLine, Form};
+ghost use Rattle.rules.specs.Form.{FormLine};
 ghost use Rattle.probing.specs.Probing.{Kept};
 ghost use Rattle.ids.specs.Ids.{sameId, hashId};
 ghost use Rattle.links.specs.Links.{Lines, Spelled};

@@ -1,5 +1,4 @@
 -- The competition's plan form (02, Card 6): its lines, which ids they define and use, and the tree that hangs from the root. Assumes nothing.
-use mathlib.Core.Path.{_≡_}
 use mathlib.Core.Bool.{Bool, true, false, _&&_, _||_, not}
 use mathlib.Core.List.{List, [], _∷_, _++_, map, flatten, List·Memᴰ as Mem}
 use mathlib.Core.Option.{Option, none, some}

@@ -2,7 +2,7 @@
 -- nothing.
 use mathlib.Core.Path.{_≡_}
 use mathlib.Core.Bool.{true, false}
-use mathlib.Core.List.{List, [], _∷_, _++_, map}
+use mathlib.Core.List.{List, [], _∷_, _++_}
 use mathlib.Core.Option.{Option, none, some}
 use Prim.Native.Nat.{ℕ, zero, suc, _≤_}
 use lib.Dec.{eqb}
@@ -48,7 +48,7 @@ nodesOf (suc left) es [] = []
 nodesOf (suc left) es (id ∷ ids) =
     elim (lineDefining es id) [ none ↦ nodesOf left es ids | some e ↦ nodeFor e ∷ nodesOf left es (subtasksFirst e ids) ]
 
--- "each action line": its action.
+-- The actions of the action lines, in their order.
 abbrev pub actionsOf : List FormLine → List ℕ
 actionsOf [] = []
 actionsOf (cueLine line id a i ∷ es) = a ∷ actionsOf es

@@ -3,7 +3,7 @@ use mathlib.Core.Path.{_≡_, refl, sym, ap, ap₂, _∙_}
 use mathlib.Core.Bool.{Bool, true, false, _&&_}
 use mathlib.Core.List.{List, [], _∷_, map}
 use mathlib.Core.Option.{Option, none, some}
-use Prim.Native.Nat.{ℕ, suc, _+_, _≤_, _<_}
+use Prim.Native.Nat.{ℕ, suc, _+_, _<_}
 use native.Mathlib.Omega.{arith}
 use lib.ListN.{length, getD, drop}
 use Rattle.rules.specs.declared.Answer.the-variants.{WrongShape}
@@ -13,13 +13,13 @@ use Rattle.rules.specs.Case.{Read}
 use Rattle.rules.specs.Tokens.{lineOf, dueLine, shaped, wordsOf, isName, sameBytes, allPlain, idOf}
 use Rattle.rules.specs.Form.{arrowWord, closingWord, Back, aCompound, theEnd, backOf, backLine}
 use Rattle.text.proofs.Feeds.{feed-inside}
-use Rattle.tokens.specs.Pieces.{endsPiece, pieceFrom, nameEnd, Spells}
+use Rattle.tokens.specs.Pieces.{endsPiece, pieceFrom, nameEnd}
 use Rattle.tokens.proofs.Lines.{pieceEnd}
 use Rattle.shapes.specs.declared.Back.the-variants.{Compound, End, Other}
 use Rattle.shapes.specs.declared.Ids.the-variants.{All, Other as OtherIds}
 use Rattle.shapes.specs.Shapes.{bytes, wordsAt, endAt, wordsAfter, endAfter, Numbered, Headed, IdsAre, BackIs}
 use Rattle.rules.proofs.Import.Says.{same-bytes}
-use Rattle.shapes.proofs.Words.{apart, word-inside, word-feeds, word-ends, word-more, word-last, word-feed-or-space, words-after, words-some, plain-apart, NameAt, name-here, no-name}
+use Rattle.shapes.proofs.Words.{word-inside, word-feeds, word-ends, word-more, word-last, word-feed-or-space, words-after, words-some, plain-apart, NameAt, name-here, no-name}
 use Rattle.shapes.proofs.Fronts.{both-true, both-false, first-false}
 
 -- ---- By the words

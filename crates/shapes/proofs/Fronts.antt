@@ -8,7 +8,7 @@ use native.Mathlib.Omega.{arith}
 use lib.ListN.{length, getD, drop}
 use Rattle.rules.specs.declared.Answer.the-variants.{WrongShape}
 use Rattle.rules.specs.Text.{isDigit, isPlain, feedFollows}
-use Rattle.rules.specs.Result.{Result, found, refused, _>>=_}
+use Rattle.rules.specs.Result.{found, refused, _>>=_}
 use Rattle.rules.specs.Case.{Read}
 use Rattle.rules.specs.Tokens.{lineOf, dueLine, shaped, wordsOf, isName, sameBytes, idOf}
 use Rattle.rules.specs.Form.{rootWord, Front, anAction, theRoot, frontOf, frontLine}

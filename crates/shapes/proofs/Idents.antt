@@ -2,28 +2,21 @@
 use mathlib.Core.Path.{_≡_, refl, sym, ap, ap₂, subst, _∙_}
 use mathlib.Core.Bool.{Bool, true, false, _&&_}
 use mathlib.Core.List.{List, [], _∷_, _++_, map, append-assoc, append-nil}
-use mathlib.Core.Option.{Option, none, some}
-use Prim.Native.Nat.{ℕ, suc, _+_, _≤_, _<_}
+use Prim.Native.Nat.{ℕ, _+_, _≤_, _<_}
 use native.Mathlib.Omega.{arith}
-use lib.Dec.{eqb}
-use lib.ListN.{length, getD, drop, length-append}
+use lib.ListN.{length, getD, length-append}
 use borrow.Author.Tests.{eq-eqb, ne-eqb}
-use Rattle.rules.specs.declared.Answer.the-variants.{WrongShape}
-use Rattle.rules.specs.Text.{isDigit, isPlain, number, notPlain, numberIn, valueOf, feedFollows, Number}
-use Rattle.rules.specs.Result.{Result, found, refused, _>>=_}
-use Rattle.rules.specs.Case.{Read}
-use Rattle.rules.specs.Tokens.{lineOf, dueLine, shaped, wordsOf, isName, sameBytes, allPlain, idOf}
-use Rattle.rules.specs.Form.{arrowWord, closingWord, Back, aCompound, theEnd, backOf, backLine}
+use Rattle.rules.specs.Text.{isPlain, number, notPlain, numberIn, valueOf, feedFollows, Number}
+use Rattle.rules.specs.Tokens.{allPlain, idOf}
 use Rattle.text.proofs.Feeds.{feed-inside, feed-past}
-use Rattle.tokens.specs.Pieces.{endsPiece, pieceFrom, nameEnd, Spells}
+use Rattle.tokens.specs.Pieces.{endsPiece, pieceFrom, Spells}
 use Rattle.tokens.proofs.Pieces.{ends-by}
 use Rattle.tokens.proofs.Lines.{pieceEnd}
 use Rattle.tokens.proofs.Words.{IsNumber}
-use Rattle.shapes.specs.declared.Back.the-variants.{Compound, End, Other}
 use Rattle.shapes.specs.declared.Ids.the-variants.{All, Other as OtherIds}
-use Rattle.shapes.specs.Shapes.{bytes, wordsAt, endAt, wordsAfter, endAfter, Numbered, Headed, IdsAre, BackIs}
-use Rattle.shapes.proofs.Words.{apart, word-inside, word-feeds, word-ends, word-more, word-last, words-after, words-some, plain-apart, NameAt, name-here, no-name}
-use Rattle.shapes.proofs.Fronts.{both-true, both-false, first-false}
+use Rattle.shapes.specs.Shapes.{wordsAt, endAt, wordsAfter, endAfter, IdsAre}
+use Rattle.shapes.proofs.Words.{word-inside, word-feeds, word-ends, words-after}
+use Rattle.shapes.proofs.Fronts.{first-false}
 
 module _ (t : List ℕ) where
   after-space : (e : ℕ) → getD t e 0 ≡ 32 → (wordsAfter t e ≡ wordsAt t (e + 1)) × (endAfter t e ≡ endAt t (e + 1))

@@ -5,10 +5,10 @@ use mathlib.Core.List.{List, [], _∷_}
 use mathlib.Core.Option.{Option, none, some}
 use Prim.Native.Nat.{ℕ, suc, _+_, _<_}
 use native.Mathlib.Omega.{arith}
-use lib.ListN.{length, getD, drop}
+use lib.ListN.{length, getD}
 use Rattle.rules.specs.declared.Answer.the-variants.{WrongShape}
 use Rattle.rules.specs.Text.{feedFollows}
-use Rattle.rules.specs.Result.{Result, found, refused, _>>=_}
+use Rattle.rules.specs.Result.{found, refused, _>>=_}
 use Rattle.rules.specs.Case.{Read}
 use Rattle.rules.specs.Tokens.{lineOf, dueLine, shaped, wordsOf, sameBytes}
 use Rattle.rules.specs.Form.{openingWord, openingOf}

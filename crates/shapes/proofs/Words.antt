@@ -1,18 +1,17 @@
 -- The words of a line at the places where they start and end: a word is followed by those after its end. Assumes nothing.
-use mathlib.Core.Path.{_≡_, refl, sym, ap, ap₂, _∙_}
+use mathlib.Core.Path.{_≡_, refl, sym, ap, _∙_}
 use mathlib.Core.Bool.{Bool, true, false, _&&_, not}
 use mathlib.Core.List.{List, [], _∷_}
-use Prim.Native.Nat.{ℕ, suc, _+_, _-_, _≤_, _<_}
+use Prim.Native.Nat.{ℕ, _+_, _-_, _≤_, _<_}
 use native.Mathlib.Decide.{decLt}
 use native.Mathlib.Omega.{arith}
 use lib.Dec.{eqb, ltb}
-use lib.ListN.{length, getD, take, drop}
-use borrow.Author.Tests.{eq-eqb, ne-eqb, eqb-true, eqb-false, lt-ltb}
-use Rattle.rules.specs.Text.{isFeed, isDigit, allDigits, digitsOnly, isPlain, valueOf, number, numberIn, feedFollows}
+use lib.ListN.{length, getD, drop}
+use borrow.Author.Tests.{eqb-true, eqb-false, lt-ltb}
+use Rattle.rules.specs.Text.{isFeed, isDigit, digitsOnly, isPlain, feedFollows}
 use Rattle.rules.specs.Faults.{onto, pieces}
-use Rattle.rules.specs.Tokens.{lineOf, isSpace, inName, wordsOf, allInName, isName, sameBytes, idOf}
-use Rattle.text.proofs.Scan.{and-left, and-right}
-use Rattle.text.proofs.Feeds.{feed-inside}
+use Rattle.rules.specs.Tokens.{lineOf, isSpace, wordsOf, allInName, isName, sameBytes, idOf}
+use Rattle.text.proofs.Scan.{and-left}
 use Rattle.tokens.specs.Pieces.{endsPiece, pieceFrom, nameEnd}
 use Rattle.tokens.proofs.Pieces.{ends-by}
 use Rattle.tokens.proofs.Lines.{pieceEnd, end-feeds, end-stops, end-inside, line-last, line-more}

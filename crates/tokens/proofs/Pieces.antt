@@ -5,17 +5,17 @@ use mathlib.Core.List.{List, [], _∷_}
 use Prim.Native.Nat.{ℕ, zero, suc, _+_, _-_, _*_, _≤_, _<_}
 use native.Mathlib.Numerals.{add-one}
 use native.Mathlib.Omega.{arith}
-use lib.Dec.{eqb, leb}
+use lib.Dec.{eqb}
 use lib.ListN.{length, getD, drop, drop-of-length-le}
 use lib.Seq.{drop-cons}
-use borrow.Author.Tests.{eq-eqb, ne-eqb, eqb-true, leb-true}
-use Rattle.rules.specs.Text.{isFeed, isComma, isDigit, number, notPlain, numberIn, feedFollows}
+use borrow.Author.Tests.{eq-eqb, ne-eqb, eqb-true}
+use Rattle.rules.specs.Text.{isFeed, isDigit, number, notPlain, numberIn, feedFollows}
 use Rattle.rules.specs.Tokens.{inName, allInName, sameBytes}
 use Rattle.text.specs.Scan.{closed, continued}
-use Rattle.text.proofs.Scan.{and-left, and-right, digit-range, continued-over, continued-digit, continued-other, first-none, first-wrong, first-zero, first-digit}
+use Rattle.text.proofs.Scan.{continued-over, continued-digit, continued-other, first-none, first-wrong, first-zero, first-digit}
 use Rattle.text.proofs.Places.{drop-in}
 use Rattle.text.proofs.Feeds.{feed-inside, feed-past}
-use Rattle.tokens.specs.Pieces.{endsPiece, upTo, pieceFrom, NoneEnds, nameEnd}
+use Rattle.tokens.specs.Pieces.{endsPiece, upTo, pieceFrom, NoneEnds}
 
 -- Two constructors are never equal: `cc` finds the 0 ≡ 1.
 apart : {A : Type 0} → _≡_ {A = ℕ} 0 1 → A

@@ -1,17 +1,16 @@
 -- What the answers of this crate say of a piece: which number it is, whether it is a name and where it ends, and the bytes it has. Assumes
 -- nothing.
-use mathlib.Core.Path.{_≡_, refl, sym, ap, ap₂, _∙_}
-use mathlib.Core.Bool.{Bool, true, false, _&&_}
+use mathlib.Core.Path.{_≡_, refl, ap, _∙_}
+use mathlib.Core.Bool.{Bool, true, false}
 use mathlib.Core.List.{List, [], _∷_}
-use Prim.Native.Nat.{ℕ, suc, _+_, _-_, _≤_, _<_}
+use Prim.Native.Nat.{ℕ, _+_, _-_, _≤_, _<_}
 use native.Mathlib.Omega.{arith}
 use lib.ListN.{length, take, drop}
 use borrow.Author.Tests.{leb-true}
 use lib.Dec.{leb}
-use Rattle.rules.specs.Text.{digitsOnly, valueOf, isPlain, Number, number, notPlain, missing, numberIn}
+use Rattle.rules.specs.Text.{digitsOnly, valueOf, isPlain, Number, number, notPlain, numberIn}
 use Rattle.rules.specs.Tokens.{allInName, isName}
 use Rattle.text.proofs.Scan.{and-right}
-use Rattle.tokens.specs.declared.Plain.{Plain}
 use Rattle.tokens.specs.declared.Plain.the-variants.{Number as PlainNumber, Other}
 use Rattle.tokens.specs.Pieces.{endsPiece, upTo, pieceFrom, asPlain, nameEnd}
 

@@ -4,7 +4,6 @@
 ghost use mathlib.Core.Path.{_≡_};
 ghost use mathlib.Core.Bool.{true, false};
 ghost use Prim.Native.Nat.{_+_, _<_};
-ghost use lib.ListN.{length};
 ghost use Rattle.rules.specs.Text.{isDigit, numberIn, feedFollows};
 ghost use Rattle.rules.specs.Tokens.{inName, sameBytes};
 ghost use Rattle.text.specs.Scan.{closed, continued};

@@ -1,14 +1,12 @@
 -- The text is made, and goes on to the find-the-gaps call; or nothing is made. Assumes nothing.
-use mathlib.Core.Path.{_≡_, refl, sym, ap, subst, _∙_}
-use mathlib.Core.List.{List}
-use Prim.Native.Nat.{ℕ, _≤_}
+use mathlib.Core.Path.{_≡_, sym, ap, subst, _∙_}
+use Prim.Native.Nat.{ℕ}
 use native.Mathlib.Omega.{arith}
 use borrow.Author.Needs.{needs}
 use lib.ListN.{length, replicate}
-use Rattle.rules.specs.Result.{Result, refused}
 use Rattle.rules.specs.Verdict.{checkLists, filled}
-use Rattle.importer.specs.declared.Made.{Made}
-use Rattle.importer.specs.Importing.{madeText, MadeIs, fromMade, LimitedTo}
+use Rattle.importer.specs.declared.made.Made.{Made}
+use Rattle.importer.specs.Importing.{madeText, MadeIs}
 use Rattle.importer.proofs.Rows.{made-text, made-refused, lent-found, lent-refused}
 use Rattle.importer.proofs.import_lent.Statement.{statement}
 use Rattle.importer.proofs.import_lent.Tie as tie

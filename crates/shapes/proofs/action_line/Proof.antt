@@ -1,5 +1,4 @@
 -- By the byte that ends the id, the name after it, and the byte that ends that. Assumes nothing.
-use Prim.Native.Nat.{_+_, _<_}
 use native.Mathlib.Omega.{arith}
 use mathlib.Core.Path.{refl}
 use Rattle.rules.specs.Tokens.{inName}

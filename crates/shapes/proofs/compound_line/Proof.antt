@@ -1,6 +1,5 @@
 -- By the byte that ends the id, the name after it, and the byte that ends that. Assumes nothing.
 use mathlib.Core.Path.{refl}
-use Prim.Native.Nat.{_+_, _<_}
 use native.Mathlib.Omega.{arith}
 use Rattle.rules.specs.Text.{isComma}
 use Rattle.rules.specs.Tokens.{inName}

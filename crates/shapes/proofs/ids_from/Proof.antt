@@ -1,13 +1,13 @@
 -- The ids up to `at` are passed; each turn passes one more, or finds a word that is none. Assumes nothing.
 use mathlib.Core.Path.{refl, sym, _∙_}
-use Prim.Native.Nat.{_+_, _-_, _≤_, _<_}
+use Prim.Native.Nat.{_+_, _-_}
 use native.Mathlib.Omega.{arith}
 use borrow.Author.Needs.{needs}
 use lib.ListN.{length}
 use Rattle.rules.specs.Text.{isDigit}
 use Rattle.tokens.specs.Pieces.{pieceFrom}
 use Rattle.tokens.proofs.Words.{number-told, other-told}
-use Rattle.shapes.proofs.Idents.{Passed, passed-none, passed-inside, id-feeds, passed-other, next-inside, next-further, passed-one, passed-all}
+use Rattle.shapes.proofs.Idents.{Passed, passed-none, passed-inside, id-feeds, passed-other, next-further, passed-one, passed-all}
 use Rattle.shapes.proofs.ids_from.Statement.{statement}
 use Rattle.shapes.proofs.ids_from.Tie as tie
 

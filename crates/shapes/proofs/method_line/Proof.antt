@@ -1,6 +1,6 @@
 -- By the arrow and the byte that ends it, the method's name, and the ids after that. Assumes nothing.
-use mathlib.Core.Path.{refl, sym, ap, subst, _∙_}
-use Prim.Native.Nat.{_+_, _<_}
+use mathlib.Core.Path.{refl, sym, subst, _∙_}
+use Prim.Native.Nat.{_+_}
 use native.Mathlib.Omega.{arith}
 use borrow.Author.Needs.{needs}
 use Rattle.rules.specs.Text.{isFeed, isComma}
@@ -9,8 +9,8 @@ use Rattle.rules.specs.Form.{arrowWord}
 use Rattle.text.proofs.Feeds.{feed-inside}
 use Rattle.tokens.specs.Pieces.{endsPiece}
 use Rattle.shapes.specs.Shapes.{IdsAre}
-use Rattle.shapes.proofs.Words.{is-not, is-so, word-ends}
-use Rattle.shapes.proofs.Backs.{no-arrow-word, arrow-inside, arrow-last, method-feeds, no-method-name, method-is, ids-feed, ids-end, other-ids, all-ids}
+use Rattle.shapes.proofs.Words.{is-not, is-so}
+use Rattle.shapes.proofs.Backs.{no-arrow-word, arrow-inside, arrow-last, method-feeds, no-method-name, ids-feed, ids-end, other-ids, all-ids}
 use Rattle.shapes.proofs.method_line.Statement.{statement}
 use Rattle.shapes.proofs.method_line.Tie as tie
 

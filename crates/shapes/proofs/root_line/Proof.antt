@@ -1,14 +1,13 @@
 -- By the word, the byte that ends it, the id after it, and the byte that ends that. Assumes nothing.
-use mathlib.Core.Path.{_≡_, refl, sym, _∙_}
-use mathlib.Core.Bool.{true}
-use Prim.Native.Nat.{_+_, _<_}
+use mathlib.Core.Path.{refl, sym, _∙_}
+use Prim.Native.Nat.{_+_}
 use native.Mathlib.Omega.{arith}
 use borrow.Author.Needs.{needs}
 use Rattle.rules.specs.Text.{isDigit, isFeed}
 use Rattle.rules.specs.Form.{rootWord}
 use Rattle.tokens.specs.Pieces.{endsPiece, pieceFrom}
 use Rattle.tokens.proofs.Words.{number-told, other-told}
-use Rattle.shapes.proofs.Words.{is-not, is-so, word-inside}
+use Rattle.shapes.proofs.Words.{is-not, is-so}
 use Rattle.shapes.proofs.Fronts.{no-root-word, root-inside, root-alone, id-feeds, no-id, id-inside, more-words, root-there}
 use Rattle.shapes.proofs.root_line.Statement.{statement}
 use Rattle.shapes.proofs.root_line.Tie as tie

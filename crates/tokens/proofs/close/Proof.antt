@@ -1,7 +1,5 @@
 -- The byte here, if it ends the piece, decides between the two answers. Assumes nothing.
 use mathlib.Core.Path.{sym, ap, _∙_}
-use Prim.Native.Nat.{_≤_}
-use native.Mathlib.Omega.{arith}
 use borrow.Author.Needs.{needs}
 use Rattle.text.proofs.Feeds.{feed-inside}
 use Rattle.tokens.specs.Pieces.{asPlain}

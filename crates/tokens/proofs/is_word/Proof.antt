@@ -1,14 +1,14 @@
 -- The bytes passed are the word's, so the piece is the word exactly if from here on it is what is left of the word. Assumes nothing.
-use mathlib.Core.Path.{_≡_, refl, sym, ap, _∙_}
+use mathlib.Core.Path.{_≡_, sym, ap, _∙_}
 use mathlib.Core.Bool.{true}
-use Prim.Native.Nat.{ℕ, _+_, _-_, _≤_, _<_}
+use Prim.Native.Nat.{ℕ, _+_, _-_, _≤_}
 use native.Mathlib.Omega.{arith}
 use borrow.Author.Needs.{needs}
-use lib.ListN.{length, getD, drop}
+use lib.ListN.{length, drop}
 use Rattle.rules.specs.Text.{feedFollows}
 use Rattle.rules.specs.Tokens.{sameBytes}
 use Rattle.text.proofs.Feeds.{feed-inside}
-use Rattle.tokens.specs.Pieces.{NoneEnds, pieceFrom}
+use Rattle.tokens.specs.Pieces.{pieceFrom}
 use Rattle.tokens.proofs.Pieces.{word-next, word-stops, word-done, word-feeds}
 use Rattle.tokens.proofs.is_word.Statement.{statement}
 use Rattle.tokens.proofs.is_word.Tie as tie

@@ -1,6 +1,5 @@
 -- By the first byte: none, a zero, which is the whole number, or any other. Assumes nothing.
 use mathlib.Core.Path.{sym, ap, _∙_}
-use Prim.Native.Nat.{_+_, _<_}
 use native.Mathlib.Omega.{arith}
 use borrow.Author.Needs.{needs}
 use Rattle.text.proofs.Feeds.{feed-inside}
