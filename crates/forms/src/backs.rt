@@ -1,4 +1,4 @@
-// The lines after the root line, compound lines and the last: "17 before 18 on a line".
+// The lines after the root line, compound lines and the last: 17, "first on each line", then 18.
 ghost use mathlib.Core.Path.{_≡_};
 ghost use mathlib.Core.List.{List};
 ghost use Prim.Native.Nat.{ℕ, _≤_};

@@ -1,4 +1,4 @@
-// The lines up to the root line, the action lines first: "17 before 18 on a line".
+// The lines up to the root line, the action lines first: 17, "first on each line", then 18.
 ghost use mathlib.Core.Path.{_≡_};
 ghost use Prim.Native.Nat.{ℕ, _≤_};
 ghost use lib.Dec.{ltb};

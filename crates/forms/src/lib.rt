@@ -1,4 +1,4 @@
-// Reading the competition's plan form (02, Card 6), line by line: "17 before 18 on a line". What each line defines goes to lists: its id, its
+// Reading the competition's plan form (02, Card 6), line by line: 17, "first on each line", then 18, "next on the line". What each line defines goes to lists: its id, its
 // action or method, and of a compound line where its subtask ids stand.
 ghost use mathlib.Core.Path.{_≡_};
 ghost use Prim.Native.Nat.{_<_};
