@@ -11,7 +11,7 @@ use lib.ListN.{length, getD, length-map, List·getD-map}
 use borrow.Author.Tests.{eqb-true, eq-eqb, ne-eqb, lt-ltb, le-ltb}
 use Rattle.rules.specs.Tree.{isIn}
 use Rattle.rules.specs.Form.{FormLine, defines, times, allDefined, allUsed}
-use Rattle.links.specs.Links.{noLine, lineAt, link, Twins}
+use Rattle.links.specs.Links.{noLine, lineAt, link, Twins, Counted}
 use Rattle.wrongs.proofs.Firsts.{same-or-not, less-or-not, link-first, First, first-least, has-twin}
 
 -- ---- Tests
