@@ -86,7 +86,7 @@ cuecheck_written cuecheck_write(const uint8_t *text, size_t text_len,
                                 uint32_t *work, size_t work_len,
                                 uint8_t *output, size_t output_len);
 
-/* Looks for the gaps of the empty tasks. Those that the text claims must be readable and in range, and are set aside. Numbers 1 to 9 are refused as by
+/* Looks for the gaps of the empty tasks. Those that the text claims must be readable and in range, and are set aside. Numbers 1 to 9 and 20 to 22 are refused as by
    cuecheck_check; then, with e empty tasks, number 15 if (k + 1) to the power e is over 1,000,000, item e. Else the choices of a gap (0 to k) for each
    empty task are tried in dictionary order, gaps compared as numbers, the first task in the tree's order slowest, and the first choice is taken with
    which the text would be accepted; a text that its gaps would make longer than CUECHECK_TEXT is not. The lists as by the check of that text: each gap is

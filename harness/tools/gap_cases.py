@@ -1,8 +1,8 @@
 #!/usr/bin/env python3
-"""Writes the stored cases of the call that finds the gaps: FOLDER/data and FOLDER/args. CARD is the folder of Card 4's worked cases.
-What is due is printed by the program stored_gaps and goes to FOLDER/stdout.
+"""Writes the stored cases of the call that finds the gaps: FOLDER/data and FOLDER/args. Each CARD is the folder of a card's worked cases, of which
+those of this call are taken: Card 4's, then Card 7's. What is due is printed by the program stored_gaps and goes to FOLDER/stdout.
 
-    gap_cases.py FOLDER CARD
+    gap_cases.py FOLDER CARD...
 """
 
 import sys
@@ -187,11 +187,12 @@ def own():
     yield "5-cue-1", Writer(D([E(), L()]), never).text(), exact
     yield "5-before-15", Writer(D([E()] * 20 + [L()]), never).text(), exact
     yield "5-before-16", Writer(D([E(), L()], ["B,0,1"]), never).text(), exact
-    yield "6-surplus-node", late.replace(",6\n", ",7\n", 1) + "E,0,0\n", exact
-    yield "6-surplus-nodes-before-15", row(9, 6).replace(",16\n", ",17\n", 1) + "E,0,0\n", exact
-    yield "6-over-too-soon", late.replace(",6\n", ",5\n", 1)[: late.rindex("L")], exact
-    yield "6-d-for-an-empty-method", late.replace("E,0,0\n", "D,0\n", 1), exact
-    yield "6-e-for-another-method", late.replace("D,1\n", "E,1,0\n", 1), exact
+    yield "6-leaf-for-an-empty-task", late.replace("E,0,0\n", "L,0,1\n", 1), exact
+    yield "21-surplus-node", late.replace(",6\n", ",7\n", 1) + "E,0,0\n", exact
+    yield "21-surplus-nodes-before-15", row(9, 6).replace(",16\n", ",17\n", 1) + "E,0,0\n", exact
+    yield "22-over-too-soon", late.replace(",6\n", ",5\n", 1)[: late.rindex("L")], exact
+    yield "20-d-for-an-empty-method", late.replace("E,0,0\n", "D,0\n", 1), exact
+    yield "20-e-for-another-method", late.replace("D,1\n", "E,1,0\n", 1), exact
     yield "64-levels", Writer(nested(63, E()), ladder(1)).text(), exact
     yield "64-levels-late", Writer(D([nested(62, E()), L()], ["O,1,0"]), ladder(1)).text(), exact
     yield "7-level-65", Writer(nested(64, E()), ladder(1)).text(), exact
@@ -306,15 +307,18 @@ def nested(levels, node):
 
 
 def main():
-    folder, card = map(Path, sys.argv[1:])
+    folder, *cards = map(Path, sys.argv[1:])
     data = folder / "data"
     data.mkdir(parents=True, exist_ok=True)
     for old in data.glob("*.case"):
         old.unlink()
     args = []
-    for case in sorted(card.glob("*/call")):
+    for case in [case for card in cards for case in sorted(card.glob("*/call"))]:
         words = dict(entry.split(" ", 1) for entry in case.read_text().splitlines() if entry[0] != "#")
-        name = f"card04-{case.parent.name}.case"
+        if words["call"] != "gaps":
+            continue
+        # The folder of a card begins with its number.
+        name = f"card{case.parent.parent.name[:2]}-{case.parent.name}.case"
         (data / name).write_bytes(case.with_name("case").read_bytes())
         args += [name] + [words.get(list_, str(asked)) for list_, asked in zip(("states", "nodes", "work"), ASKED)]
     seen = set()

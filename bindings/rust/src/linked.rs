@@ -116,7 +116,7 @@ pub fn write(text: &[u8], states: &mut [u64], nodes: &mut [Node], work: &mut [u3
     }
 }
 
-/// Looks for gaps: the ones that the text claims must be readable and in range, and are set aside. Numbers 1 to 9 as for `check`, then 15 if there are
+/// Looks for gaps: the ones that the text claims must be readable and in range, and are set aside. Numbers 1 to 9 and 20 to 22 as for `check`, then 15 if there are
 /// over 1,000,000 choices (item the number of empty tasks). Else the choices are tried in dictionary order, the first empty task slowest, and the first
 /// with which the text would be accepted is answered: the lists as by the check of that text, each gap in its node's record. 16 if there is none, item
 /// the number of choices.

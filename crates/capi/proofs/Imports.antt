@@ -17,7 +17,7 @@ use Rattle.rules.specs.Case.{Constraint, O, B, F, W, Case}
 use Rattle.rules.specs.Print.{printed}
 use Rattle.rules.specs.Tree.{Tree}
 use Rattle.rules.specs.Verdict.{Found, Lent, checkLists, reported, answerOf, filled, noNode, nodesAfter}
-use Rattle.rules.specs.Refusals.{brokenNumber, Shows, short, long, unread, outside, cue, lacking, over, misfit, deep, claim, unclaimed, broken}
+use Rattle.rules.specs.Refusals.{brokenNumber, Shows, short, long, unread, outside, cue, other, letter, deep, claim, lacking, over, unclaimed, broken}
 use Rattle.rules.specs.Writing.{roomFor}
 use Rattle.rules.specs.Gaps.{findGaps}
 use Rattle.rules.specs.Naming.{Names}
@@ -37,11 +37,12 @@ shown-some (long l h) = omega arith
 shown-some (unread a u) = omega arith
 shown-some (outside a o) = omega arith
 shown-some (cue r h b n) = omega arith
-shown-some (lacking w) = omega arith
-shown-some (over w) = omega arith
-shown-some (misfit w n) = omega arith
+shown-some (other w n) = omega arith
+shown-some (letter w o n) = omega arith
 shown-some (deep w h) = omega arith
 shown-some (claim w f l n) = omega arith
+shown-some (lacking w) = omega arith
+shown-some (over w) = omega arith
 shown-some (unclaimed g l h e b) = omega arith
 shown-some (broken c x) = go (x .bad .it)
   where
@@ -115,12 +116,12 @@ module _ (s n w number size : ℕ) (text names form : List ℕ) where
 
   pub import-fits : Fits n w (reported (answerOf outcome) .nodes)
   import-fits =
-      let (other, comes) = import-comes in
-      subst (λ (a : Answer). Fits n w (reported a .nodes)) (answer-same outcome) (records-fit s n w other (foundTree outcome) comes)
+      let (made, comes) = import-comes in
+      subst (λ (a : Answer). Fits n w (reported a .nodes)) (answer-same outcome) (records-fit s n w made (foundTree outcome) comes)
 
   pub import-filled : (work : List ℕ) → RecordsHeld (foundTree outcome) work
       → filled n noNode (upTo (recordAt work) (reported (answerOf outcome) .nodes)) ≡ nodesAfter n (foundTree outcome)
   import-filled work held =
-      let (other, comes) = import-comes in
+      let (made, comes) = import-comes in
       subst (λ (a : Answer). filled n noNode (upTo (recordAt work) (reported a .nodes)) ≡ nodesAfter n (foundTree outcome)) (answer-same outcome)
-      (records-filled s n w other work (foundTree outcome) comes held)
+      (records-filled s n w made work (foundTree outcome) comes held)

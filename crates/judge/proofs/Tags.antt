@@ -17,7 +17,7 @@ not-zero k (j ∷ ks) (inr h) = not-zero j ks h
 
 -- The tags of the refusals, less one.
 abbrev later : List ℕ
-later = 1 ∷ 2 ∷ 3 ∷ 4 ∷ 5 ∷ 6 ∷ 7 ∷ 8 ∷ 9 ∷ 10 ∷ 11 ∷ 12 ∷ 13 ∷ 14 ∷ 15 ∷ 16 ∷ 17 ∷ 18 ∷ []
+later = 1 ∷ 2 ∷ 3 ∷ 4 ∷ 5 ∷ 6 ∷ 7 ∷ 8 ∷ 9 ∷ 10 ∷ 11 ∷ 12 ∷ 13 ∷ 14 ∷ 15 ∷ 16 ∷ 17 ∷ 18 ∷ 19 ∷ 20 ∷ 21 ∷ []
 
 -- An answer with one of them is no acceptance.
 pub not-accepted : (a : Answer) → OneOf (map suc (0 ∷ later)) (tagOf S.the-type a) → (cues nodes : ℕ) → a ≡ Accepted cues nodes → ⊥

@@ -24,7 +24,7 @@ use Rattle.judge.specs.declared.Admission.the-variants.{Passed, Refused}
 use Rattle.judge.specs.Phases.{rowsAhead, FieldsHeld, Admits, fromClaimed}
 use Rattle.rules.proofs.Judgement.Rows.{fromConstraints, fromTree, fromRun, fromText}
 
--- ---- Rows 6 to 9
+-- ---- Rows 6 to 9 and 20 to 22
 
 module _ (rest : Case → Tree → Found Tree) (k : Case) where
   abbrev onTree : Result (Tree × List ℕ) → Found Tree

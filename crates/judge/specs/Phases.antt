@@ -74,7 +74,7 @@ pub record Ran (k : Case) (fields : List ℕ) (o : Opened) (states work : List �
   pub opens : Opens k fields o initial work
   pub run : HasRun k states
 
--- Rows 6 to 8 too: the walk found a tree, whose rows and claims the work space holds.
+-- Rows 6 to 8 and 20 to 22 too: the walk found a tree, whose rows and claims the work space holds.
 pub record Walked (k : Case) (fields : List ℕ) (o : Opened) (states work : List ℕ) : Type 0 where
   pub initial : ℕ
   pub opens : Opens k fields o initial work
@@ -92,7 +92,7 @@ pub record Claimed (k : Case) (fields : List ℕ) (o : Opened) (states work : Li
 
 -- ---- The rows from reading to 9, ahead of any that follow
 
--- Rows 6 to 9, then the rest.
+-- Rows 6 to 9 and 20 to 22, then the rest.
 abbrev pub fromClaimed : {A : Type 0} → (Case → Tree → Found A) → Case → Found A
 fromClaimed rest k = walkTree k (mayClaim (k .plan)) >>= λ (t, claimed). allClaimed k claimed >> rest k t
 

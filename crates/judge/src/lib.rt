@@ -147,7 +147,7 @@ fn open_claims(o: Opened, states: &mut [u64], work: &[u32]) -> Opening
     }
 }
 
-// Rows 6 to 8, of a plan that runs; then row 9. The walk starts from marks that are zero.
+// Rows 6 to 8 and 20 to 22, of a plan that runs; then row 9. The walk starts from marks that are zero.
 fn open_nodes(fields: &[u32], o: Opened, states: &mut [u64], work: &mut [u32]) -> Opening
     requires { ⌜ ((k : Case) × HasRun k (now fields) o (now states) (now work)) ⌝ }
     ensures { λ r. ⌜ ((k : Case) → HasRun k (now (fields .entry)) o (now (states .entry)) (now (work .entry)) → RowsPass (λ rest. fromClaimed rest k) k (now (fields .entry)) (length (now (states .entry))) r (now (states .exit)) (now (work .exit))) ⌝ }
@@ -162,7 +162,7 @@ fn open_nodes(fields: &[u32], o: Opened, states: &mut [u64], work: &mut [u32]) -
     }
 }
 
-// Row 5, of a case that was read; then rows 6 to 9.
+// Row 5, of a case that was read; then rows 6 to 9 and 20 to 22.
 fn open_run(
     fields: &[u32],
     o: Opened,

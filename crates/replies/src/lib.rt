@@ -46,7 +46,7 @@ pub fn as_reply(answer: Answer) -> Reply
         Answer::Unreadable { line, field } => refusal(3, line, field),
         Answer::OutOfRange { line, field } => refusal(4, line, field),
         Answer::Inapplicable { line, cue } => refusal(5, line, cue),
-        Answer::WrongNode { line } => refusal(6, line, 0),
+        Answer::WrongTask { line } => refusal(6, line, 0),
         Answer::TooDeep { line } => refusal(7, line, 0),
         Answer::WrongClaim { line, position } => refusal(8, line, position),
         Answer::Unclaimed { line, position } => refusal(9, line, position),
@@ -60,6 +60,9 @@ pub fn as_reply(answer: Answer) -> Reply
         Answer::WrongShape { line, item } => refusal(17, line, item),
         Answer::WrongName { line, item } => refusal(18, line, item),
         Answer::WrongId { line } => refusal(19, line, 0),
+        Answer::WrongLetter { line } => refusal(20, line, 0),
+        Answer::SurplusNode { line } => refusal(21, line, 0),
+        Answer::MissingNode { line } => refusal(22, line, 0),
     }
 }
 

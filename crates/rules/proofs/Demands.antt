@@ -9,7 +9,7 @@ use native.Mathlib.Decide.{decLe}
 use native.Mathlib.Nat.{lt-of-not-le}
 use lib.ListN.{length}
 use Rattle.rules.specs.declared.Answer.{Answer}
-use Rattle.rules.specs.declared.Answer.the-variants.{Accepted, ShortList, LongText, Unreadable, OutOfRange, Inapplicable, WrongNode, TooDeep, WrongClaim, Unclaimed, OrderBroken, BeforeBroken, AfterBroken, BetweenBroken, ShortOutput, TooManyChoices, NoChoice, WrongShape, WrongName, WrongId}
+use Rattle.rules.specs.declared.Answer.the-variants.{Accepted, ShortList, LongText, Unreadable, OutOfRange, Inapplicable, WrongTask, TooDeep, WrongClaim, Unclaimed, OrderBroken, BeforeBroken, AfterBroken, BetweenBroken, ShortOutput, TooManyChoices, NoChoice, WrongShape, WrongName, WrongId, WrongLetter, SurplusNode, MissingNode}
 use Rattle.rules.specs.Result.{Result, found, refused, _>>=_, _>>_}
 use Rattle.rules.specs.Case.{L, Case, readCase}
 use Rattle.rules.specs.Tree.{Tree, isIn, mayClaim, levelCount}
@@ -64,7 +64,7 @@ Settles LongText = ⊥
 Settles (Unreadable l i) = ⊥
 Settles (OutOfRange l i) = ⊥
 Settles (Inapplicable l i) = Unit {0}
-Settles (WrongNode l) = Unit {0}
+Settles (WrongTask l) = Unit {0}
 Settles (TooDeep l) = ⊥
 Settles (WrongClaim l i) = Unit {0}
 Settles (Unclaimed l i) = Unit {0}
@@ -78,6 +78,9 @@ Settles (NoChoice i) = Unit {0}
 Settles (WrongShape l i) = Unit {0}
 Settles (WrongName l i) = Unit {0}
 Settles (WrongId l) = Unit {0}
+Settles (WrongLetter l) = Unit {0}
+Settles (SurplusNode l) = Unit {0}
+Settles (MissingNode l) = Unit {0}
 
 -- A settled answer has passed rows 1 and 2.
 settled-admits : (lists : List Lent) (text : List ℕ) → Settles (answerOf (check lists text)) → Each LongEnough lists × (length text ≤ textMost)

@@ -8,7 +8,7 @@ use lib.ListN.{length, replicate}
 use borrow.Author.Tests.{ltb-true}
 use Rattle.rules.specs.declared.Header.{Header}
 use Rattle.rules.specs.declared.Answer.{Answer}
-use Rattle.rules.specs.declared.Answer.the-variants.{Accepted, ShortList, LongText, Unreadable, OutOfRange, Inapplicable, WrongNode, TooDeep, WrongClaim, Unclaimed, OrderBroken, BeforeBroken, AfterBroken, BetweenBroken, ShortOutput, TooManyChoices, NoChoice, WrongShape, WrongName, WrongId}
+use Rattle.rules.specs.declared.Answer.the-variants.{Accepted, ShortList, LongText, Unreadable, OutOfRange, Inapplicable, WrongTask, TooDeep, WrongClaim, Unclaimed, OrderBroken, BeforeBroken, AfterBroken, BetweenBroken, ShortOutput, TooManyChoices, NoChoice, WrongShape, WrongName, WrongId, WrongLetter, SurplusNode, MissingNode}
 use Rattle.rules.specs.Table.{Role, header, initial, action, method, constraint, plan, node, Value, LineRead, line, readLine}
 use Rattle.rules.specs.Result.{Result, found, refused, _>>=_, _>>_}
 use Rattle.rules.specs.Case.{Case, Valued, scalarAt, headerOf, initialOf, actionOf, asConstraint, planOf, asNode, Read, readAs, oneLine, many, oneMethod, readBody, noHeader, readFrom, noSurplus, readCase}
@@ -28,7 +28,7 @@ FaultSays text LongText = ⊥
 FaultSays text (Unreadable l i) = Unread text l i
 FaultSays text (OutOfRange l i) = Outside text l i
 FaultSays text (Inapplicable l c) = ⊥
-FaultSays text (WrongNode l) = ⊥
+FaultSays text (WrongTask l) = ⊥
 FaultSays text (TooDeep l) = ⊥
 FaultSays text (WrongClaim l p) = ⊥
 FaultSays text (Unclaimed l p) = ⊥
@@ -42,6 +42,9 @@ FaultSays text (NoChoice i) = ⊥
 FaultSays text (WrongShape l i) = ⊥
 FaultSays text (WrongName l i) = ⊥
 FaultSays text (WrongId l) = ⊥
+FaultSays text (WrongLetter l) = ⊥
+FaultSays text (SurplusNode l) = ⊥
+FaultSays text (MissingNode l) = ⊥
 
 abbrev pub CaseSays : List ℕ → Result Case → Type 0
 CaseSays text (found k) = Unit {0}

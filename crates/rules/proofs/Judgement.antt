@@ -2,6 +2,7 @@
 pub mod Each
 pub mod Reading
 pub mod Sound
+pub mod Nodes
 pub mod Back
 pub mod Preorder
 pub mod Waiting

@@ -6,7 +6,7 @@ use mathlib.Core.List.{List, [], _∷_}
 use Prim.Native.Nat.{ℕ}
 use lib.Dec.{eqb}
 use Rattle.rules.specs.declared.Answer.{Answer}
-use Rattle.rules.specs.declared.Answer.the-variants.{Accepted, ShortList, LongText, Unreadable, OutOfRange, Inapplicable, WrongNode, TooDeep, WrongClaim, Unclaimed, OrderBroken, BeforeBroken, AfterBroken, BetweenBroken, ShortOutput, TooManyChoices, NoChoice, WrongShape, WrongName, WrongId}
+use Rattle.rules.specs.declared.Answer.the-variants.{Accepted, ShortList, LongText, Unreadable, OutOfRange, Inapplicable, WrongTask, TooDeep, WrongClaim, Unclaimed, OrderBroken, BeforeBroken, AfterBroken, BetweenBroken, ShortOutput, TooManyChoices, NoChoice, WrongShape, WrongName, WrongId, WrongLetter, SurplusNode, MissingNode}
 use Rattle.rules.specs.Verdict.{Report, reported}
 
 -- "No.", and the answer that has it.
@@ -18,7 +18,7 @@ numbers r =
     ∷ (3, Unreadable (r .line) (r .item))
     ∷ (4, OutOfRange (r .line) (r .item))
     ∷ (5, Inapplicable (r .line) (r .item))
-    ∷ (6, WrongNode (r .line))
+    ∷ (6, WrongTask (r .line))
     ∷ (7, TooDeep (r .line))
     ∷ (8, WrongClaim (r .line) (r .item))
     ∷ (9, Unclaimed (r .line) (r .item))
@@ -32,6 +32,9 @@ numbers r =
     ∷ (17, WrongShape (r .line) (r .item))
     ∷ (18, WrongName (r .line) (r .item))
     ∷ (19, WrongId (r .line))
+    ∷ (20, WrongLetter (r .line))
+    ∷ (21, SurplusNode (r .line))
+    ∷ (22, MissingNode (r .line))
     ∷ []
 
 abbrev numbered : ℕ → List (ℕ × Answer) → Answer
@@ -49,7 +52,7 @@ answered-reported LongText = refl
 answered-reported (Unreadable l i) = refl
 answered-reported (OutOfRange l i) = refl
 answered-reported (Inapplicable l i) = refl
-answered-reported (WrongNode l) = refl
+answered-reported (WrongTask l) = refl
 answered-reported (TooDeep l) = refl
 answered-reported (WrongClaim l i) = refl
 answered-reported (Unclaimed l i) = refl
@@ -63,6 +66,9 @@ answered-reported (NoChoice i) = refl
 answered-reported (WrongShape l i) = refl
 answered-reported (WrongName l i) = refl
 answered-reported (WrongId l) = refl
+answered-reported (WrongLetter l) = refl
+answered-reported (SurplusNode l) = refl
+answered-reported (MissingNode l) = refl
 
 pub reported-one : (a b : Answer) → reported a ≡ reported b → a ≡ b
 reported-one a b e = sym (answered-reported a) ∙ ap answered e ∙ answered-reported b

@@ -16,7 +16,7 @@ use Rattle.rules.specs.declared.Sign.the-variants.{Positive, Negative}
 use Rattle.rules.specs.State.{State, Action, member, actionAt, next, states, stateAt, noPropositions}
 use Rattle.rules.specs.Index.{Span, Part, partOf, only, c, f, isBefore}
 use Rattle.rules.specs.Case.{Constraint, O, B, F, W, Method, methodAt, NodeLine, D, E, L, Case}
-use Rattle.rules.specs.Tree.{noSubtasks, isMethodOf, fits}
+use Rattle.rules.specs.Tree.{noSubtasks, isMethodOf, ofTask, rightLetter}
 use Rattle.rules.specs.Constraint.{signed, holdsIn, holdsFrom, keeps}
 use Rattle.rules.specs.Verdict.{statesOf}
 use Rattle.rules.specs.Rules.{cueAction, AreStates, MethodOf, Fits, InState, HoldsIn, Keeps}
@@ -107,12 +107,18 @@ some-iff m = (
 both-iff : {A B : Type 0} (a b : Bool) → (a ≡ true) ↔ A → (b ≡ true) ↔ B → ((a && b) ≡ true) ↔ (A × B)
 both-iff a b x y = (λ e. (x .0 (and-left a b e), y .0 (and-right a b e)), λ h. and-both (x .1 (h .0)) (y .1 (h .1)))
 
+-- Both tests of a node: it is of the task, and its letter is right.
+abbrev pub fits : Case → NodeLine → ℕ → Bool
+fits k x t = ofTask k x t && rightLetter k x
+
 pub fits-iff : (k : Case) (x : NodeLine) (t : ℕ) → (fits k x t ≡ true) ↔ Fits k x t
-unfolding fits Fits
+unfolding ofTask rightLetter Fits
 fits-iff k (D m) t = both-iff (isMethodOf k m t) (not (noSubtasks (methodAt (k .methods) m))) (method-iff k m t) (some-iff (methodAt (k .methods) m))
 fits-iff k (E m g) t = both-iff (isMethodOf k m t) (noSubtasks (methodAt (k .methods) m)) (method-iff k m t) (none-iff (methodAt (k .methods) m))
 fits-iff k (L a i) t =
-    both-iff (ltb t (k .head .actions)) (eqb a t) (ltb-true t (k .head .actions), lt-ltb t (k .head .actions)) (eqb-true a t, eq-eqb a t)
+    let b = ltb t (k .head .actions) && eqb a t in
+    let w = both-iff (ltb t (k .head .actions)) (eqb a t) (ltb-true t (k .head .actions), lt-ltb t (k .head .actions)) (eqb-true a t, eq-eqb a t) in
+    (λ e. w .0 (and-left b true e), λ h. and-both (w .1 h) refl)
 
 -- ---- States
 

@@ -1,5 +1,5 @@
 -- The ten panel cases (01, "Panel cases"): text and answer of each, in one table under one lemma; and beside them cases of Cards 1
--- to 6 of 02.
+-- to 7 of 02.
 -- Assumes nothing.
 use mathlib.Core.Path.{_≡_, refl}
 use mathlib.Core.Bool.{Bool, true, false}
@@ -70,10 +70,26 @@ table =
     ∷ panel "N,3,3,2,3,3,2,4" "I,0" "P,1,2" ("D,0" ∷ "E,2,0" ∷ "L,1,1" ∷ "L,2,2" ∷ []) "R,13,14,2"
     ∷ panel "N,3,3,2,3,3,2,4" "I,1,0" "P,2,1" ("D,0" ∷ "E,2,0" ∷ "L,1,1" ∷ "L,2,2" ∷ []) "R,5,13,1"
     ∷ panel "N,3,3,2,3,3,2,4" "I,1,0" "P,1,2" ("D,0" ∷ "E,2,0" ∷ "L,1,1" ∷ "L,2,1" ∷ []) "R,8,17,1"
-    ∷ panel "N,3,3,2,3,3,2,3" "I,1,0" "P,1,2" ("D,0" ∷ "E,2,0" ∷ "L,1,1" ∷ []) "R,6,17,0"
+    ∷ panel "N,3,3,2,3,3,2,3" "I,1,0" "P,1,2" ("D,0" ∷ "E,2,0" ∷ "L,1,1" ∷ []) "R,22,17,0"
     ∷ panel "N,3,3,2,3,3,2,4" "I,1,0" "P,1,2" ("D,0" ∷ "E,2,3" ∷ "L,1,1" ∷ "L,2,2" ∷ []) "R,4,15,3"
     ∷ panel "N,3,3,2,3,4,0,1" "I,1,0" "P" ("E,2,0" ∷ []) "Y,0,1"
     ∷ panel "N,3,3,2,3,4,0,1" "I,0" "P" ("E,2,0" ∷ []) "R,11,14,0"
+    ∷ []
+
+-- Card 7: panel cases with another node, or one more. A surplus leaf, and a surplus D line with an empty method; a D line with an empty method of the
+-- task expected, an E line with one that isn't empty; an empty method of another task on a D line; a leaf for a compound task, a method for an action;
+-- a surplus node ahead of an unclaimed position, and after another's claim.
+abbrev badTrees : List Panel
+badTrees =
+    panel "N,3,3,2,3,3,2,5" "I,1,0" "P,1,2" ("D,0" ∷ "E,2,0" ∷ "L,1,1" ∷ "L,2,2" ∷ "L,2,2" ∷ []) "R,21,18,0"
+    ∷ panel "N,3,3,2,3,3,2,5" "I,1,0" "P,1,2" ("D,0" ∷ "E,2,0" ∷ "L,1,1" ∷ "L,2,2" ∷ "D,2" ∷ []) "R,21,18,0"
+    ∷ panel "N,3,3,2,3,3,2,4" "I,1,0" "P,1,2" ("D,0" ∷ "D,2" ∷ "L,1,1" ∷ "L,2,2" ∷ []) "R,20,15,0"
+    ∷ panel "N,3,3,2,3,3,2,4" "I,1,0" "P,1,2" ("D,0" ∷ "E,1,0" ∷ "L,1,1" ∷ "L,2,2" ∷ []) "R,20,15,0"
+    ∷ panel "N,3,3,2,3,3,2,4" "I,1,0" "P,1,2" ("D,2" ∷ "E,2,0" ∷ "L,1,1" ∷ "L,2,2" ∷ []) "R,6,14,0"
+    ∷ panel "N,3,3,2,3,3,2,4" "I,1,0" "P,1,2" ("D,0" ∷ "L,1,1" ∷ "L,1,1" ∷ "L,2,2" ∷ []) "R,6,15,0"
+    ∷ panel "N,3,3,2,3,3,2,4" "I,1,0" "P,1,2" ("D,0" ∷ "E,2,0" ∷ "D,1" ∷ "L,2,2" ∷ []) "R,6,16,0"
+    ∷ panel "N,3,3,2,3,3,3,5" "I,1,0" "P,1,2,1" ("D,0" ∷ "E,2,0" ∷ "L,1,1" ∷ "L,2,2" ∷ "L,1,3" ∷ []) "R,21,18,0"
+    ∷ panel "N,3,3,2,3,3,2,5" "I,1,0" "P,1,2" ("D,0" ∷ "E,2,0" ∷ "L,1,1" ∷ "L,2,1" ∷ "L,2,2" ∷ []) "R,8,17,1"
     ∷ []
 
 -- Card 1: panel case a with one more condition, or two, in the panel's method.
@@ -371,7 +387,7 @@ withStates n p = printedAnswer (answerOf (check (checkLists n nodeNeed workNeed)
 abbrev NeedsStates : Type 0
 NeedsStates = (stateNeed ≡ 8008) × (withStates 8007 caseA ≡ textOf ("R,1,0,1" ∷ [])) × (withStates 8008 caseA ≡ textOf ("Y,2,4" ∷ []))
 
--- Each case is answered as 01 prints it; "a. [..] doubled spans 1-4, 1-1, 2-2, 4-4"; and as Cards 1 to 6 have it.
-pub answers : Answered table × (spansOf (checked caseA) ≡ doubled 1 4 ∷ doubled 1 1 ∷ doubled 2 2 ∷ doubled 4 4 ∷ []) × Answered signedTable × Puts writtenTable × Answered wideTable × NeedsStates × Seeks soughtTable × AtMostMillion × Steps steppedTable × Imports importedTable
-unfolding St.wordCount St.propositionMost St.bit St.member St.noPropositions St.insert St.without St.appliesWord St.applies St.nextWord St.next St.step St.quiet St.touched St.computed St.noAction St.actionAt St.states St.stateAt St.firstStop Ix.ofCue Ix.ofGap Ix.at Ix.least Ix.greatest Ix.hull Ix.partOf Ix.only Ix.pick Ix.spanOfPart Ix.roundedUp Ix.roundedDown Ix.c Ix.f Ix.isBefore Tx.isFeed Tx.isComma Tx.isDigit Tx.endsField Tx.isPlain Tx.numberAt Tx.letterAt Tx.endingAt Tx.feedFollows Tb.table Tb.rowOf Tb.roleNumber Tb.isCompound Tb.inRange Tb.readList Tb.readItem Tb.readLine Ca.noMethod Ca.methodAt Ca.scalarAt Ca.membersAt Ca.setAt Ca.headerOf Ca.initialOf Ca.actionOf Ca.signOf Ca.constraintOf Ca.asConstraint Ca.planOf Ca.nodeOf Ca.asNode Ca.oneLine Ca.oneMethod Ca.noSurplus Ca.readBody Ca.noHeader Ca.readFrom Ca.readCase Tr.preorder Tr.preorders Tr.rootLine Tr.span Tr.spans Tr.subtaskSpans Tr.noSubtasks Tr.isMethodOf Tr.fits Tr.isIn Tr.mayClaim Tr.walkNode Tr.levelCount Tr.walkTree Co.signed Co.holdsIn Co.holdsFrom Co.keeps Co.constraintsOf Co.partsOf Co.brokenAt Co.firstBroken Ve.reported De.asAsked Ve.stateNeed Ve.nodeNeed Ve.workNeed Ve.checkLists Ve.statesOf Ve.planRuns Ve.allClaimed Ve.noneBroken Ve.textMost Ve.check Tx.decimal Li.printedAnswer Fi.lineFields Fi.propositionsOf Fi.headerLine Fi.initialLine Fi.actionLine Fi.constraintLine Fi.methodLines Fi.cuesLine Fi.nodeLine Fi.linesOf Fi.planLineOf Pr.lineText Pr.printed Wr.rank Wr.sortKey Wr.precedes Wr.sorted Wr.tidiedMethod Wr.tidied Wr.written Wr.outputLong Wr.write Ga.power Ga.caseWith Ga.textWith Ga.choiceCount Ga.choiceMost Ga.fewChoices Ga.beforeChoices Ga.findGaps To.dueLine To.noMore To.isSpace To.wordsOf To.inName To.idOf Na.listedAt Na.notAgain Na.readNames Fo.openingWord Fo.rootWord Fo.arrowWord Fo.closingWord Fo.actionNamed Fo.compoundNamed Fo.suits Fo.methodNamed Fo.formLineMost Fo.frontLine Fo.backLine Fo.bothNamed Fo.readForm Fo.formLines Fo.allDefined Fo.allUsed Fo.isReached Fo.isWrong Fo.wrongLine Fo.idsRight Im.madeNodes Im.madeHeader Im.madeCase Im.madeFrom Im.importForm flatten
-answers = (refl, refl, refl, (refl, refl), refl, (refl, refl, refl), (refl, refl), (refl, refl), (refl, refl), refl)
+-- Each case is answered as 01 prints it; "a. [..] doubled spans 1-4, 1-1, 2-2, 4-4"; and as Cards 1 to 7 have it.
+pub answers : Answered table × (spansOf (checked caseA) ≡ doubled 1 4 ∷ doubled 1 1 ∷ doubled 2 2 ∷ doubled 4 4 ∷ []) × Answered signedTable × Puts writtenTable × Answered wideTable × NeedsStates × Seeks soughtTable × AtMostMillion × Steps steppedTable × Imports importedTable × Answered badTrees
+unfolding St.wordCount St.propositionMost St.bit St.member St.noPropositions St.insert St.without St.appliesWord St.applies St.nextWord St.next St.step St.quiet St.touched St.computed St.noAction St.actionAt St.states St.stateAt St.firstStop Ix.ofCue Ix.ofGap Ix.at Ix.least Ix.greatest Ix.hull Ix.partOf Ix.only Ix.pick Ix.spanOfPart Ix.roundedUp Ix.roundedDown Ix.c Ix.f Ix.isBefore Tx.isFeed Tx.isComma Tx.isDigit Tx.endsField Tx.isPlain Tx.numberAt Tx.letterAt Tx.endingAt Tx.feedFollows Tb.table Tb.rowOf Tb.roleNumber Tb.isCompound Tb.inRange Tb.readList Tb.readItem Tb.readLine Ca.noMethod Ca.methodAt Ca.scalarAt Ca.membersAt Ca.setAt Ca.headerOf Ca.initialOf Ca.actionOf Ca.signOf Ca.constraintOf Ca.asConstraint Ca.planOf Ca.nodeOf Ca.asNode Ca.oneLine Ca.oneMethod Ca.noSurplus Ca.readBody Ca.noHeader Ca.readFrom Ca.readCase Tr.preorder Tr.preorders Tr.rootLine Tr.span Tr.spans Tr.subtaskSpans Tr.noSubtasks Tr.isMethodOf Tr.ofTask Tr.rightLetter Tr.isIn Tr.mayClaim Tr.walkNode Tr.levelCount Tr.walkTree Co.signed Co.holdsIn Co.holdsFrom Co.keeps Co.constraintsOf Co.partsOf Co.brokenAt Co.firstBroken Ve.reported De.asAsked Ve.stateNeed Ve.nodeNeed Ve.workNeed Ve.checkLists Ve.statesOf Ve.planRuns Ve.allClaimed Ve.noneBroken Ve.textMost Ve.check Tx.decimal Li.printedAnswer Fi.lineFields Fi.propositionsOf Fi.headerLine Fi.initialLine Fi.actionLine Fi.constraintLine Fi.methodLines Fi.cuesLine Fi.nodeLine Fi.linesOf Fi.planLineOf Pr.lineText Pr.printed Wr.rank Wr.sortKey Wr.precedes Wr.sorted Wr.tidiedMethod Wr.tidied Wr.written Wr.outputLong Wr.write Ga.power Ga.caseWith Ga.textWith Ga.choiceCount Ga.choiceMost Ga.fewChoices Ga.beforeChoices Ga.findGaps To.dueLine To.noMore To.isSpace To.wordsOf To.inName To.idOf Na.listedAt Na.notAgain Na.readNames Fo.openingWord Fo.rootWord Fo.arrowWord Fo.closingWord Fo.actionNamed Fo.compoundNamed Fo.suits Fo.methodNamed Fo.formLineMost Fo.frontLine Fo.backLine Fo.bothNamed Fo.readForm Fo.formLines Fo.allDefined Fo.allUsed Fo.isReached Fo.isWrong Fo.wrongLine Fo.idsRight Im.madeNodes Im.madeHeader Im.madeCase Im.madeFrom Im.importForm flatten
+answers = (refl, refl, refl, (refl, refl), refl, (refl, refl, refl), (refl, refl), (refl, refl), (refl, refl), refl, refl)

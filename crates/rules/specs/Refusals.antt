@@ -1,7 +1,8 @@
--- What a refusal shows: the first rule broken, row by row of 01's table. Every row before it is passed and this one is not, at this line
--- and item. Assumes nothing.
+-- What a refusal shows: the first rule broken, row by row of 01's table as 02's Card 7 parts it. Every row before it is passed and this one is
+-- not, at this line and item. Assumes nothing.
 use mathlib.Core.Path.{_≡_}
 use mathlib.Core.List.{List, [], _∷_, _++_, map, List·Memᴰ as Mem}
+use mathlib.Core.Logic.{_≢_}
 use Prim.Native.Nat.{ℕ, _+_, _-_, _≤_, _<_}
 use lib.ListN.{length, getD}
 use Rattle.rules.specs.State.{State}
@@ -70,6 +71,18 @@ waiting k [] st = st
 waiting k (x ∷ xs) [] = []
 waiting k (x ∷ xs) (e ∷ st) = waiting k xs (below k (e .1) x ++ st)
 
+-- A node's own task: its action, or the task of its method.
+abbrev pub ownTask : Case → NodeLine → ℕ
+ownTask k (D m) = methodAt (k .methods) m .task
+ownTask k (E m g) = methodAt (k .methods) m .task
+ownTask k (L a i) = a
+
+-- "a D line with an empty method or an E line with one that isn't" (02, Card 7)
+abbrev pub LetterWrong : Case → NodeLine → Type 0
+LetterWrong k (D m) = methodAt (k .methods) m .subtasks ≡ []
+LetterWrong k (E m g) = methodAt (k .methods) m .subtasks ≢ []
+LetterWrong k (L a i) = ⊥
+
 -- A leaf's position has its action, and no leaf before it claims that.
 abbrev pub MayClaim : Case → List NodeLine → NodeLine → Type 0
 MayClaim k before (D m) = Unit {0}
@@ -86,7 +99,7 @@ RightNodes k before (x ∷ xs) (e ∷ st) =
 abbrev pub root : Case → List Expected
 root k = (k .head .goal, 1) ∷ []
 
--- Rows 1 to 8, up to these node lines: they are right, and these lines and expected tasks come next.
+-- Rows 1 to 8, 20 among them, up to these node lines: they are right, and these lines and expected tasks come next.
 pub record Walks (lists : List Lent) (text : List ℕ) (k : Case) (before rest : List NodeLine) (st : List Expected) : Type 0 where
   pub states : List State
   pub runs : Runs lists text k states
@@ -139,15 +152,12 @@ module _ (lists : List Lent) (text : List ℕ) where
     -- "running: first cue that doesn't apply"
     cue : {k : Case} {states : List State} {i : ℕ} → Reads lists text k states → i < length (k .plan)
         → ((j : ℕ) → j < i → CueApplies k states j) → (CueApplies k states i → ⊥) → Shows 5 (k .planLine) (i + 1)
-    -- "nodes over too soon"
-    lacking : {k : Case} {before : List NodeLine} {e : Expected} {st : List Expected} → Walks lists text k before [] (e ∷ st)
-        → Shows 6 (k .planLine + 1 + length before) 0
-    -- "surplus node"
-    over : {k : Case} {before : List NodeLine} {x : NodeLine} {xs : List NodeLine} → Walks lists text k before (x ∷ xs) []
-        → Shows 6 (k .planLine + 1 + length before) 0
-    -- "wrong kind or task"
-    misfit : {k : Case} {before : List NodeLine} {x : NodeLine} {xs : List NodeLine} {t level : ℕ} {st : List Expected}
-        → Walks lists text k before (x ∷ xs) ((t, level) ∷ st) → (Fits k x t → ⊥) → Shows 6 (k .planLine + 1 + length before) 0
+    -- "a node of another task than expected" (02, Card 7)
+    other : {k : Case} {before : List NodeLine} {x : NodeLine} {xs : List NodeLine} {t level : ℕ} {st : List Expected}
+        → Walks lists text k before (x ∷ xs) ((t, level) ∷ st) → ownTask k x ≢ t → Shows 6 (k .planLine + 1 + length before) 0
+    -- "20, a D line with an empty method or an E line with one that isn't", of the task expected
+    letter : {k : Case} {before : List NodeLine} {x : NodeLine} {xs : List NodeLine} {t level : ℕ} {st : List Expected}
+        → Walks lists text k before (x ∷ xs) ((t, level) ∷ st) → ownTask k x ≡ t → LetterWrong k x → Shows 20 (k .planLine + 1 + length before) 0
     -- "same node: level 65"
     deep : {k : Case} {before : List NodeLine} {x : NodeLine} {xs : List NodeLine} {t : ℕ} {st : List Expected}
         → Walks lists text k before (x ∷ xs) ((t, 65) ∷ st) → Fits k x t → Shows 7 (k .planLine + 1 + length before) 0
@@ -155,6 +165,12 @@ module _ (lists : List Lent) (text : List ℕ) where
     claim : {k : Case} {before : List NodeLine} {a i : ℕ} {xs : List NodeLine} {t level : ℕ} {st : List Expected}
         → Walks lists text k before (L a i ∷ xs) ((t, level) ∷ st) → Fits k (L a i) t → level ≤ 64 → (MayClaim k before (L a i) → ⊥)
         → Shows 8 (k .planLine + 1 + length before) i
+    -- "22, nodes over too soon"
+    lacking : {k : Case} {before : List NodeLine} {e : Expected} {st : List Expected} → Walks lists text k before [] (e ∷ st)
+        → Shows 22 (k .planLine + 1 + length before) 0
+    -- "21, a surplus node, whatever its line holds"
+    over : {k : Case} {before : List NodeLine} {x : NodeLine} {xs : List NodeLine} → Walks lists text k before (x ∷ xs) []
+        → Shows 21 (k .planLine + 1 + length before) 0
     -- "after the walk: least position unclaimed"
     unclaimed : {k : Case} {states : List State} {t : Tree} {i : ℕ} → Grows lists text k states t → 1 ≤ i → i ≤ k .head .cues
         → claimants i (k .nodes) ≡ [] → ((j : ℕ) → 1 ≤ j → j < i → Claimed k j) → Shows 9 (k .planLine) i

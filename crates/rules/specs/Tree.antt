@@ -1,11 +1,12 @@
--- The claimed tree: its walk, its spans and its claims (01, "The tree" and rows 6 to 9 of its table). Assumes nothing.
+-- The claimed tree: its walk, its spans and its claims (01, "The tree" and rows 6 to 9 of its table; 02, Card 7). Assumes nothing.
 use mathlib.Core.Bool.{Bool, true, false, _&&_, _||_, not}
 use mathlib.Core.List.{List, [], _∷_, _++_}
 use mathlib.Core.Option.{Option, none, some}
 use Prim.Native.Nat.{ℕ, zero, suc, _+_, _-_}
 use lib.Dec.{eqb, leb, ltb}
 use lib.ListN.{length, getD}
-use Rattle.rules.specs.declared.Answer.the-variants.{WrongNode, TooDeep, WrongClaim}
+use Rattle.rules.specs.declared.Answer.{Answer}
+use Rattle.rules.specs.declared.Answer.the-variants.{WrongTask, TooDeep, WrongClaim, WrongLetter, SurplusNode, MissingNode}
 use Rattle.rules.specs.Index.{Span, at, ofCue, ofGap, hull}
 use Rattle.rules.specs.Result.{Result, found, refused, _>>=_, _>>_}
 use Rattle.rules.specs.Case.{Method, methodAt, NodeLine, D, E, L, Case}
@@ -63,12 +64,17 @@ noSubtasks m = eqb (length (m .subtasks)) 0
 unfoldable pub isMethodOf : Case → ℕ → ℕ → Bool
 isMethodOf k m t = ltb m (length (k .methods)) && (leb (k .head .actions) t && eqb (methodAt (k .methods) m .task) t)
 
--- "each node fits the task expected there (an action leaf for an action; for a compound task one of its own methods)": D,m with a method
--- that is not empty, E,m,g with one that is
-unfoldable pub fits : Case → NodeLine → ℕ → Bool
-fits k (D m) t = isMethodOf k m t && not (noSubtasks (methodAt (k .methods) m))
-fits k (E m g) t = isMethodOf k m t && noSubtasks (methodAt (k .methods) m)
-fits k (L a i) t = ltb t (k .head .actions) && eqb a t
+-- "each node fits the task expected there (an action leaf for an action; for a compound task one of its own methods)": it is of that task,
+unfoldable pub ofTask : Case → NodeLine → ℕ → Bool
+ofTask k (D m) t = isMethodOf k m t
+ofTask k (E m g) t = isMethodOf k m t
+ofTask k (L a i) t = ltb t (k .head .actions) && eqb a t
+
+-- and its letter is right: D,m with a method that is not empty, E,m,g with one that is.
+unfoldable pub rightLetter : Case → NodeLine → Bool
+rightLetter k (D m) = not (noSubtasks (methodAt (k .methods) m))
+rightLetter k (E m g) = noSubtasks (methodAt (k .methods) m)
+rightLetter k (L a i) = true
 
 -- What a walk finds, with the line and the nodes after it and the positions claimed so far.
 abbrev pub Walk : Type 0 → Type 0
@@ -107,21 +113,31 @@ walkFitting k ok walk (E m g) line nodes claimed = found (empty m g, line + 1, n
 walkFitting k ok walk (L a i) line nodes claimed =
     elim (ok a i claimed) [ true ↦ found (leaf a i, line + 1, nodes, i ∷ claimed) | false ↦ refused (WrongClaim line i) ]
 
--- A node where so many levels are left: 6 if none is there or it doesn't fit, then 7 if no level is left, then 8.
-unfoldable pub walkNode : ℕ → Case → ClaimTest → Walker
-walkNode zero k ok t line [] claimed = refused (WrongNode line)
-walkNode zero k ok t line (x ∷ nodes) claimed = elim (fits k x t) [ true ↦ refused (TooDeep line) | false ↦ refused (WrongNode line) ]
-walkNode (suc levels) k ok t line [] claimed = refused (WrongNode line)
-walkNode (suc levels) k ok t line (x ∷ nodes) claimed =
-    elim (fits k x t) [
-      | true ↦ walkFitting k ok (λ t′ line′ nodes′ claimed′. walkNode levels k ok t′ line′ nodes′ claimed′) x line nodes claimed
-      | false ↦ refused (WrongNode line)
-    ]
+-- A test that is passed, or the answer that refuses.
+abbrev pub passes : Bool → Answer → Result (Unit {0})
+passes true wrong = found tt
+passes false wrong = refused wrong
 
--- "surplus node"
+-- A node that is or isn't of the task expected, with a letter that is or isn't right: "a node of another task than expected", then "a D line with an
+-- empty method or an E line with one that isn't" (02, Card 7).
+abbrev pub nodeFits : Bool → Bool → ℕ → Result (Unit {0})
+nodeFits own letter line = do
+  passes own (WrongTask line)  -- 6
+  passes letter (WrongLetter line)  -- 20
+
+-- A node where so many levels are left: "nodes over too soon" (22) if none is there; 6 and 20; 7 if no level is left; 8.
+unfoldable pub walkNode : ℕ → Case → ClaimTest → Walker
+walkNode zero k ok t line [] claimed = refused (MissingNode line)
+walkNode zero k ok t line (x ∷ nodes) claimed = nodeFits (ofTask k x t) (rightLetter k x) line >> refused (TooDeep line)
+walkNode (suc levels) k ok t line [] claimed = refused (MissingNode line)
+walkNode (suc levels) k ok t line (x ∷ nodes) claimed =
+    nodeFits (ofTask k x t) (rightLetter k x) line
+    >> walkFitting k ok (λ t′ line′ nodes′ claimed′. walkNode levels k ok t′ line′ nodes′ claimed′) x line nodes claimed
+
+-- "a surplus node, whatever its line holds" (02, Card 7)
 abbrev pub noneOver : ℕ → List NodeLine → Result (Unit {0})
 noneOver line [] = found tt
-noneOver line (x ∷ nodes) = refused (WrongNode line)
+noneOver line (x ∷ nodes) = refused (SurplusNode line)
 
 -- "The root is level 1, its subtasks level 2, and so on to 64."
 unfoldable pub levelCount : ℕ

@@ -7,7 +7,7 @@ use Prim.Native.Nat.{ℕ, _+_, _-_, _*_, _/_, _%_, _<_}
 use lib.Dec.{eqb, ltb}
 use lib.ListN.{length, getD, replicate}
 use Rattle.rules.specs.declared.Answer.{Answer}
-use Rattle.rules.specs.declared.Answer.the-variants.{Accepted, ShortList, LongText, Unreadable, OutOfRange, Inapplicable, WrongNode, TooDeep, WrongClaim, Unclaimed, OrderBroken, BeforeBroken, AfterBroken, BetweenBroken, ShortOutput, TooManyChoices, NoChoice, WrongShape, WrongName, WrongId}
+use Rattle.rules.specs.declared.Answer.the-variants.{Accepted, ShortList, LongText, Unreadable, OutOfRange, Inapplicable, WrongTask, TooDeep, WrongClaim, Unclaimed, OrderBroken, BeforeBroken, AfterBroken, BetweenBroken, ShortOutput, TooManyChoices, NoChoice, WrongShape, WrongName, WrongId, WrongLetter, SurplusNode, MissingNode}
 use Rattle.rules.specs.declared.Node.{Node}
 use Rattle.rules.specs.State.{State, wordCount, bit, member, states, stateAt, firstStop}
 use Rattle.rules.specs.Index.{Span}
@@ -36,7 +36,7 @@ reported LongText = refusal 2 0 0
 reported (Unreadable line field) = refusal 3 line field
 reported (OutOfRange line field) = refusal 4 line field
 reported (Inapplicable line cue) = refusal 5 line cue
-reported (WrongNode line) = refusal 6 line 0
+reported (WrongTask line) = refusal 6 line 0
 reported (TooDeep line) = refusal 7 line 0
 reported (WrongClaim line position) = refusal 8 line position
 reported (Unclaimed line position) = refusal 9 line position
@@ -54,6 +54,11 @@ reported (NoChoice tried) = refusal 16 0 tried
 reported (WrongShape line item) = refusal 17 line item
 reported (WrongName line item) = refusal 18 line item
 reported (WrongId line) = refusal 19 line 0
+-- "20, a D line with an empty method or an E line with one that isn't; 21, a surplus node [..]; 22, nodes over too soon; line and item as 6 had"
+-- (02, Card 7)
+reported (WrongLetter line) = refusal 20 line 0
+reported (SurplusNode line) = refusal 21 line 0
+reported (MissingNode line) = refusal 22 line 0
 
 -- ---- Row by row
 
@@ -131,7 +136,7 @@ check lists text = do
   textShort text  -- 2
   k ← readCase text  -- 3, 4
   planRuns k  -- 5
-  (t, claimed) ← walkTree k (mayClaim (k .plan))  -- 6, 7, 8
+  (t, claimed) ← walkTree k (mayClaim (k .plan))  -- 6, 20, 7, 8; 22; 21
   allClaimed k claimed  -- 9
   noneBroken k t  -- 10, 11, 12, 13
   found (k, t)
@@ -193,7 +198,7 @@ refusedNotBy n (refused r) = not (eqb (reported r .number) n)
 unfoldable pub readable : List ℕ → Bool
 readable text = refusedNotBy 3 (readCase text)
 
--- Rows 6 and 7 alone, with every claim let pass, don't say 7.
+-- Rows 6, 20, 7, 22 and 21 alone, with every claim let pass, don't say 7.
 abbrev pub levelsFit : Result Case → Bool
 levelsFit (found k) = refusedNotBy 7 (walkTree k (λ a i claimed. true))
 levelsFit (refused r) = true

@@ -32,7 +32,7 @@ pub enum Answer {
     Unreadable { line: u32, field: u32 },
     OutOfRange { line: u32, field: u32 },
     Inapplicable { line: u32, cue: u32 },
-    WrongNode { line: u32 },
+    WrongTask { line: u32 },
     TooDeep { line: u32 },
     WrongClaim { line: u32, position: u32 },
     Unclaimed { line: u32, position: u32 },
@@ -46,6 +46,9 @@ pub enum Answer {
     WrongShape { line: u32, item: u32 },
     WrongName { line: u32, item: u32 },
     WrongId { line: u32 },
+    WrongLetter { line: u32 },
+    SurplusNode { line: u32 },
+    MissingNode { line: u32 },
 }
 
 // What a condition asks of a proposition in a state: that it be true, or that it be false (02, Card 1).

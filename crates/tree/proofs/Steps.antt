@@ -1,6 +1,6 @@
 -- What the functions outside the cycle answer, from what their calls and tests say. Assumes nothing.
 use mathlib.Core.Path.{_≡_, refl, sym, ap, subst, _∙_}
-use mathlib.Core.Bool.{Bool, _&&_, not}
+use mathlib.Core.Bool.{Bool, true, not}
 use mathlib.Core.List.{List}
 use Prim.Native.Nat.{ℕ, _+_, _-_, _≤_, _<_}
 use native.Mathlib.Omega.{arith}
@@ -8,7 +8,7 @@ use borrow.Author.Tests.{lt-ltb, le-ltb}
 use lib.Dec.{eqb}
 use lib.ListN.{length, getD, drop}
 use Rattle.rules.specs.declared.Answer.{Answer}
-use Rattle.rules.specs.declared.Answer.the-variants.{WrongNode, TooDeep, WrongClaim}
+use Rattle.rules.specs.declared.Answer.the-variants.{TooDeep, WrongClaim, MissingNode}
 use Rattle.rules.specs.Case.{NodeLine, D, E, L, Case}
 use Rattle.rules.proofs.Judgement.Sound.{Sound, GoodNode, sound}
 use Rattle.fields.specs.Directory.{nodeSize}
@@ -20,7 +20,7 @@ use Rattle.tree.specs.declared.fit.MethodHead.{MethodHead}
 use Rattle.tree.specs.declared.fit.Fit.{Fit}
 use Rattle.tree.specs.declared.fit.Fit.the-variants.{Refused, Open, Empty as EmptyFit, Leaf as LeafFit}
 use Rattle.tree.specs.declared.rows.Walked.{Walked}
-use Rattle.tree.specs.Fits.{lineAt, Follows, asEntry, entryAt, HeadWithin, MethodWithin, headIn, pickFit, fitOf, deepFit, atLevel}
+use Rattle.tree.specs.Fits.{lineAt, Follows, asEntry, entryAt, HeadWithin, MethodWithin, headIn, pickFit, fitIf, fitOf, deepFit, atLevel}
 use Rattle.tree.specs.Standing.{Steady, ClaimWithin, Beyond, Judged}
 use Rattle.tree.proofs.Entries.{EntryHere, entry-here, plan-at, plan-inside}
 use Rattle.tree.proofs.Judging.{good-node, head-here, judged-lacking, judged}
@@ -28,28 +28,24 @@ use Rattle.tree.proofs.Within.{plan-line-few}
 
 -- ---- How a line fits
 
-module _ (fields w : List ℕ) (entry : Entry) (next : Place) (task : ℕ) (wrong : Answer) where
-  pub fit-task : (m : ℕ) (h : MethodHead) → entry ≡ Task m → h ≡ headIn fields w m → (b c : Bool) → eqb (h .task) task ≡ b → eqb (h .subtasks .count) 0 ≡ c
-      → pickFit (b && not c) (Open (h .subtasks) next) (Refused wrong) ≡ fitOf fields w entry next task wrong
+module _ (fields w : List ℕ) (entry : Entry) (next : Place) (task line : ℕ) where
+  pub fit-task : (m : ℕ) (h : MethodHead) → entry ≡ Task m → h ≡ headIn fields w m
+      → fitIf (eqb (h .task) task) (not (eqb (h .subtasks .count) 0)) (Open (h .subtasks) next) line ≡ fitOf fields w entry next task line
   unfolding fitOf
-  fit-task m h e z b c p q =
-      (λ j. pickFit (sym p j && not (sym q j)) (Open (h .subtasks) next) (Refused wrong))
-      ∙ ap (λ (x : MethodHead). pickFit (eqb (x .task) task && not (eqb (x .subtasks .count) 0)) (Open (x .subtasks) next) (Refused wrong)) z
-      ∙ ap (λ (x : Entry). fitOf fields w x next task wrong) (sym e)
+  fit-task m h e z =
+      ap (λ (x : MethodHead). fitIf (eqb (x .task) task) (not (eqb (x .subtasks .count) 0)) (Open (x .subtasks) next) line) z
+      ∙ ap (λ (x : Entry). fitOf fields w x next task line) (sym e)
 
-  pub fit-empty : (m g : ℕ) (h : MethodHead) → entry ≡ Empty m g → h ≡ headIn fields w m → (b c : Bool) → eqb (h .task) task ≡ b
-      → eqb (h .subtasks .count) 0 ≡ c → pickFit (b && c) (EmptyFit g next) (Refused wrong) ≡ fitOf fields w entry next task wrong
+  pub fit-empty : (m g : ℕ) (h : MethodHead) → entry ≡ Empty m g → h ≡ headIn fields w m
+      → fitIf (eqb (h .task) task) (eqb (h .subtasks .count) 0) (EmptyFit g next) line ≡ fitOf fields w entry next task line
   unfolding fitOf
-  fit-empty m g h e z b c p q =
-      (λ j. pickFit (sym p j && sym q j) (EmptyFit g next) (Refused wrong))
-      ∙ ap (λ (x : MethodHead). pickFit (eqb (x .task) task && eqb (x .subtasks .count) 0) (EmptyFit g next) (Refused wrong)) z
-      ∙ ap (λ (x : Entry). fitOf fields w x next task wrong) (sym e)
+  fit-empty m g h e z =
+      ap (λ (x : MethodHead). fitIf (eqb (x .task) task) (eqb (x .subtasks .count) 0) (EmptyFit g next) line) z
+      ∙ ap (λ (x : Entry). fitOf fields w x next task line) (sym e)
 
-  pub fit-leaf : (a i : ℕ) → entry ≡ Leaf a i → (b : Bool) → eqb a task ≡ b
-      → pickFit b (LeafFit a i next) (Refused wrong) ≡ fitOf fields w entry next task wrong
+  pub fit-leaf : (a i : ℕ) → entry ≡ Leaf a i → fitIf (eqb a task) true (LeafFit a i next) line ≡ fitOf fields w entry next task line
   unfolding fitOf
-  fit-leaf a i e b p =
-      (λ j. pickFit (sym p j) (LeafFit a i next) (Refused wrong)) ∙ ap (λ (x : Entry). fitOf fields w x next task wrong) (sym e)
+  fit-leaf a i e = ap (λ (x : Entry). fitOf fields w x next task line) (sym e)
 
 -- ---- The level
 
@@ -92,9 +88,9 @@ module _ (k : Case) (fields : List ℕ) (g : Given) (w : List ℕ) (st : Steady 
   claim-node n i e = e ∙ ap (λ (x : ℕ). Walked.Refused (WrongClaim (lineAt x n) i)) (st .planned)
 
   module _ (p : Place) (f : Follows k fields p) where
-    pub judge-lacking : (t level l : ℕ) → l ≡ lineAt (g .line) (p .node) → g .nodes ≤ p .node → Judged k fields p t level (Refused (WrongNode l))
+    pub judge-lacking : (t level l : ℕ) → l ≡ lineAt (g .line) (p .node) → g .nodes ≤ p .node → Judged k fields p t level (Refused (MissingNode l))
     judge-lacking t level l e h =
-        subst (λ (x : ℕ). Judged k fields p t level (Refused (WrongNode x))) (sym (line-is (p .node) l e))
+        subst (λ (x : ℕ). Judged k fields p t level (Refused (MissingNode x))) (sym (line-is (p .node) l e))
         (judged-lacking k fields p t level (let q = st .count in omega arith) case-sound)
 
     module _ (inside : p .node < g .nodes) where
@@ -127,7 +123,7 @@ module _ (k : Case) (fields : List ℕ) (g : Given) (w : List ℕ) (st : Steady 
 
       pub judge-fit : (t level l size : ℕ) (entry : Entry) (fit res : Fit) → l ≡ lineAt (g .line) (p .node) → entry ≡ entryAt fields (p .at)
           → size ≡ nodeSize (getD fields (p .at) 0)
-          → fit ≡ fitOf fields w entry (record { node = p .node + 1; at = p .at + size }) t (WrongNode l) → res ≡ atLevel level fit (TooDeep l)
+          → fit ≡ fitOf fields w entry (record { node = p .node + 1; at = p .at + size }) t l → res ≡ atLevel level fit (TooDeep l)
           → Judged k fields p t level res
       judge-fit t level l size entry fit res e ee es ef er =
           let li = line-is (p .node) l e in
@@ -137,5 +133,5 @@ module _ (k : Case) (fields : List ℕ) (g : Given) (w : List ℕ) (st : Steady 
           let en = ee ∙ stands-here .entry in
           subst (Judged k fields p t level)
           (sym (er ∙ ap (λ (x : Fit). atLevel level x (TooDeep l)) ef
-          ∙ λ j. atLevel level (fitOf fields w (en j) (record { node = p .node + 1; at = p .at + es j }) t (WrongNode (li j))) (TooDeep (li j))))
+          ∙ λ j. atLevel level (fitOf fields w (en j) (record { node = p .node + 1; at = p .at + es j }) t (li j)) (TooDeep (li j))))
           (judged k fields p t level w case-sound (st .methods) (stands-here .line) next (stands-here .here) entry-good b)

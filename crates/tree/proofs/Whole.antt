@@ -6,7 +6,7 @@ use native.Mathlib.Omega.{arith}
 use lib.ListN.{take, drop, length-drop, drop-of-length-le}
 use lib.Seq.{sets, take-take, drop-cons, getD-take}
 use Rattle.rules.specs.declared.Answer.{Answer}
-use Rattle.rules.specs.declared.Answer.the-variants.{WrongNode}
+use Rattle.rules.specs.declared.Answer.the-variants.{SurplusNode}
 use Rattle.rules.specs.declared.Header.{Header}
 use Rattle.rules.specs.Result.{Result, found, refused, _>>=_, _>>_}
 use Rattle.rules.specs.Case.{NodeLine, D, Case, methodAt}
@@ -116,14 +116,14 @@ module _ (k : Case) (fields : List ℕ) (header : Header) (planLine plan nodes :
   takes-all (refused a) next s v f h = absurd (refused-next f)
 
   leaves-some : (x : Walk Tree) (next : Place) (s : Span) (v : List ℕ) (l : ℕ) → Told k fields 0 w x (Next next s) v → next .node < k .head .nodes
-      → l ≡ lineAt (k .planLine) (next .node) → TreeTold k w (noneLeft x) (TreeRefused (WrongNode l)) v
+      → l ≡ lineAt (k .planLine) (next .node) → TreeTold k w (noneLeft x) (TreeRefused (SurplusNode l)) v
   leaves-some (found (t, line, left, claimed)) next s v l f h e =
       let same : next ≡ f .next = cc (f .answer) in
       let there : next .node ≡ f .next .node = ap (λ (p : Place). p .node) same in
       let all = root-sound .nodes-length in
       let some = f .lefts ∙ drop-cons (k .nodes) (f .next .node) (D 0) (omega arith) in
-      subst (λ (y : List NodeLine). TreeTold k w (noneLeft (found (t, line, y, claimed))) (TreeRefused (WrongNode l)) v) (sym some)
-      (ap (λ (y : ℕ). TreeRefused (WrongNode y)) (e ∙ ap (lineAt (k .planLine)) there ∙ sym (f .lines)))
+      subst (λ (y : List NodeLine). TreeTold k w (noneLeft (found (t, line, y, claimed))) (TreeRefused (SurplusNode l)) v) (sym some)
+      (ap (λ (y : ℕ). TreeRefused (SurplusNode y)) (e ∙ ap (lineAt (k .planLine)) there ∙ sym (f .lines)))
   leaves-some (refused a) next s v l f h e = absurd (refused-next f)
 
   is-refused : (x : Walk Tree) (a : Answer) (v : List ℕ) → Told k fields 0 w x (Refused a) v → TreeTold k w (noneLeft x) (TreeRefused a) v
@@ -146,9 +146,9 @@ module _ (k : Case) (fields : List ℕ) (header : Header) (planLine plan nodes :
         (takes-all root next s v (root-told (Next next s) e) (let q = ap (λ (y : Header). y .nodes) (rd .head) in omega arith))
 
     pub over : (next : Place) (s : Span) (l : ℕ) → r ≡ Next next s → next .node < header .nodes → l ≡ lineAt planLine (next .node)
-        → Whole (TreeRefused (WrongNode l))
+        → Whole (TreeRefused (SurplusNode l))
     over next s l e h z =
-        subst (λ (x : Result (Tree × List ℕ)). TreeTold k w x (TreeRefused (WrongNode l)) v) (sym whole-is)
+        subst (λ (x : Result (Tree × List ℕ)). TreeTold k w x (TreeRefused (SurplusNode l)) v) (sym whole-is)
         (leaves-some root next s v l (root-told (Next next s) e) (let q = ap (λ (y : Header). y .nodes) (rd .head) in omega arith)
         (z ∙ ap (λ (y : ℕ). lineAt y (next .node)) (rd .planned)))
 

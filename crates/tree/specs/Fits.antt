@@ -1,10 +1,11 @@
 -- A node's line, a method's line, and how the one fits the task expected there, as the code takes them from the fields. Assumes nothing.
-use mathlib.Core.Bool.{Bool, true, false, _&&_, not}
+use mathlib.Core.Bool.{Bool, true, false, not}
 use mathlib.Core.List.{List}
 use Prim.Native.Nat.{ℕ, _+_, _≤_, _<_}
 use lib.Dec.{eqb, ltb}
 use lib.ListN.{length, getD, take, drop}
 use Rattle.rules.specs.declared.Answer.{Answer}
+use Rattle.rules.specs.declared.Answer.the-variants.{WrongTask, WrongLetter}
 use Rattle.rules.specs.Case.{NodeLine, D, E, L, nodeOf, Case}
 use Rattle.fields.specs.Directory.{methodsFrom}
 use Rattle.tree.specs.declared.fit.Place.{Place}
@@ -56,14 +57,18 @@ abbrev pub pickFit : Bool → Fit → Fit → Fit
 pickFit true f g = f
 pickFit false f g = g
 
+-- A fit, if the node is of the task and its letter is right: 6, then 20.
+abbrev pub fitIf : Bool → Bool → Fit → ℕ → Fit
+fitIf own letter fit line = pickFit own (pickFit letter fit (Refused (WrongLetter line))) (Refused (WrongTask line))
+
 -- "an action leaf for an action; for a compound task one of its own methods", not empty for D and empty for E
-unfoldable pub fitOf : List ℕ → List ℕ → Entry → Place → ℕ → Answer → Fit
-fitOf fields directory (Task m) next task wrong =
-    pickFit (eqb (headIn fields directory m .task) task && not (eqb (headIn fields directory m .subtasks .count) 0))
-    (Open (headIn fields directory m .subtasks) next) (Refused wrong)
-fitOf fields directory (Empty m g) next task wrong =
-    pickFit (eqb (headIn fields directory m .task) task && eqb (headIn fields directory m .subtasks .count) 0) (EmptyFit g next) (Refused wrong)
-fitOf fields directory (Leaf a i) next task wrong = pickFit (eqb a task) (LeafFit a i next) (Refused wrong)
+unfoldable pub fitOf : List ℕ → List ℕ → Entry → Place → ℕ → ℕ → Fit
+fitOf fields directory (Task m) next task line =
+    fitIf (eqb (headIn fields directory m .task) task) (not (eqb (headIn fields directory m .subtasks .count) 0))
+    (Open (headIn fields directory m .subtasks) next) line
+fitOf fields directory (Empty m g) next task line =
+    fitIf (eqb (headIn fields directory m .task) task) (eqb (headIn fields directory m .subtasks .count) 0) (EmptyFit g next) line
+fitOf fields directory (Leaf a i) next task line = fitIf (eqb a task) true (LeafFit a i next) line
 
 -- At level 65 nothing fits.
 abbrev pub deepFit : Fit → Answer → Fit

@@ -5,7 +5,7 @@ ghost use Prim.Native.Nat.{_+_, _≤_, _<_};
 ghost use lib.ListN.{length, getD};
 ghost use Rattle.rules.specs.Case.{Case};
 ghost use Rattle.fields.specs.Directory.{methodsFrom, nodeSize};
-ghost use Rattle.tree.specs.Fits.{entryAt, methodHead, fitOf, HeadWithin, MethodWithin, atLevel, Follows, lineAt};
+ghost use Rattle.tree.specs.Fits.{entryAt, methodHead, fitIf, fitOf, HeadWithin, MethodWithin, atLevel, Follows, lineAt};
 ghost use Rattle.tree.specs.Standing.{Steady, Judged};
 use fields::METHODS_FROM;
 use fields::node_size;
@@ -108,42 +108,49 @@ fn method_head(fields: &[u32], work: &[u32], m: u32) -> MethodHead
     }
 }
 
-// How a line fits the task, where `wrong` answers that it doesn't.
-fn fit_of(fields: &[u32], work: &[u32], entry: Entry, next: Place, task: u32, wrong: Answer) -> Fit
+// A fit, if the node is of the task expected and its letter is right: "6 tried ahead", then "20, a D line with an empty method or an E line with
+// one that isn't" (02, Card 7).
+fn fit_if(own: bool, letter: bool, fit: Fit, line: u32) -> Fit
+    ensures { λ r. ⌜ r ≡ fitIf own letter fit line ⌝ }
+{
+    if !own {
+        return Fit::Refused {
+            answer: Answer::WrongTask { line },
+        };
+    }
+    if !letter {
+        return Fit::Refused {
+            answer: Answer::WrongLetter { line },
+        };
+    }
+    fit
+}
+
+// How a node fits the task.
+fn fit_of(fields: &[u32], work: &[u32], entry: Entry, next: Place, task: u32, line: u32) -> Fit
     requires { ⌜ MethodWithin (now fields) (now work) entry ⌝ }
-    ensures { λ r. ⌜ r ≡ fitOf (now (fields .entry)) (now (work .entry)) entry next task wrong ⌝ }
+    ensures { λ r. ⌜ r ≡ fitOf (now (fields .entry)) (now (work .entry)) entry next task line ⌝ }
 {
     match entry {
         Entry::Task { method } => {
             let head = method_head(fields, work, method);
             let subtasks = head.subtasks;
-            if head.task == task {
-                if subtasks.count != 0 {
-                    return Fit::Open { subtasks, next };
-                }
-            }
-            Fit::Refused { answer: wrong }
+            let fit = Fit::Open { subtasks, next };
+            fit_if(head.task == task, subtasks.count != 0, fit, line)
         }
         Entry::Empty { method, gap } => {
             let head = method_head(fields, work, method);
             let subtasks = head.subtasks;
-            if head.task == task {
-                if subtasks.count == 0 {
-                    return Fit::Empty { gap, next };
-                }
-            }
-            Fit::Refused { answer: wrong }
+            let fit = Fit::Empty { gap, next };
+            fit_if(head.task == task, subtasks.count == 0, fit, line)
         }
         Entry::Leaf { action, position } => {
-            if action == task {
-                Fit::Leaf {
-                    action,
-                    position,
-                    next,
-                }
-            } else {
-                Fit::Refused { answer: wrong }
-            }
+            let fit = Fit::Leaf {
+                action,
+                position,
+                next,
+            };
+            fit_if(action == task, true, fit, line)
         }
     }
 }
@@ -178,15 +185,16 @@ pub fn line_at(g: Given, node: u32) -> u32
     g.line + 1 + node
 }
 
-// The node here, where `task` is expected at `level`: 6, then 7.
+// The node here, where `task` is expected at `level`: 22 if there is none; 6, 20, 7.
 pub fn judge(fields: &[u32], g: Given, work: &[u32], p: Place, task: u32, level: u32) -> Fit
     requires { ⌜ ((k : Case) × Steady k (now fields) g (now work) × Follows k (now fields) p) ⌝ }
     ensures { λ r. ⌜ ((k : Case) → Steady k (now (fields .entry)) g (now (work .entry)) → Follows k (now (fields .entry)) p → Judged k (now (fields .entry)) p task level r) ⌝ }
 {
     let line = line_at(g, p.node);
-    let wrong = Answer::WrongNode { line };
     if g.nodes <= p.node {
-        return Fit::Refused { answer: wrong };
+        return Fit::Refused {
+            answer: Answer::MissingNode { line },
+        };
     }
     let at = p.at;
     let entry = entry_at(fields, at);
@@ -194,6 +202,6 @@ pub fn judge(fields: &[u32], g: Given, work: &[u32], p: Place, task: u32, level:
         node: p.node + 1,
         at: at + node_size(fields[at]),
     };
-    let fit = fit_of(fields, work, entry, next, task, wrong);
+    let fit = fit_of(fields, work, entry, next, task, line);
     at_level(level, fit, Answer::TooDeep { line })
 }

@@ -109,7 +109,7 @@ pub fn walk_tree(
         Walked::Next { next, span: _ } => {
             if next.node < header.nodes {
                 TreeWalk::Refused {
-                    answer: Answer::WrongNode {
+                    answer: Answer::SurplusNode {
                         line: fit::line_at(g, next.node),
                     },
                 }

@@ -12,7 +12,7 @@ use Prim.Native.Nat.{ℕ, _+_, _-_, _≤_, _<_}
 use native.Mathlib.Omega.{arith}
 use lib.ListN.{replicate}
 use Rattle.rules.specs.declared.Answer.{Answer}
-use Rattle.rules.specs.declared.Answer.the-variants.{Accepted, ShortList, LongText, Unreadable, OutOfRange, Inapplicable, WrongNode, TooDeep, WrongClaim, Unclaimed, OrderBroken, BeforeBroken, AfterBroken, BetweenBroken, ShortOutput, TooManyChoices, NoChoice, WrongShape, WrongName, WrongId}
+use Rattle.rules.specs.declared.Answer.the-variants.{Accepted, ShortList, LongText, Unreadable, OutOfRange, Inapplicable, WrongTask, TooDeep, WrongClaim, Unclaimed, OrderBroken, BeforeBroken, AfterBroken, BetweenBroken, ShortOutput, TooManyChoices, NoChoice, WrongShape, WrongName, WrongId, WrongLetter, SurplusNode, MissingNode}
 use Rattle.rules.specs.Result.{found, refused}
 use Rattle.rules.specs.Case.{Case}
 use Rattle.rules.specs.Tree.{Tree}
@@ -32,7 +32,7 @@ no-records LongText h = refl
 no-records (Unreadable l i) h = refl
 no-records (OutOfRange l i) h = refl
 no-records (Inapplicable l i) h = refl
-no-records (WrongNode l) h = refl
+no-records (WrongTask l) h = refl
 no-records (TooDeep l) h = refl
 no-records (WrongClaim l i) h = refl
 no-records (Unclaimed l i) h = refl
@@ -46,6 +46,9 @@ no-records (NoChoice i) h = refl
 no-records (WrongShape l i) h = refl
 no-records (WrongName l i) h = refl
 no-records (WrongId l) h = refl
+no-records (WrongLetter l) h = refl
+no-records (SurplusNode l) h = refl
+no-records (MissingNode l) h = refl
 
 refused-none : (s n w : ℕ) (text : List ℕ) (r : Answer) → CheckSays (checkLists s n w) text (refused r) → reported r .nodes ≡ 0
 unfolding reported

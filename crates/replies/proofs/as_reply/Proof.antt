@@ -130,6 +130,24 @@ enum-known-answer-19 c = search needs
 refusal-requires-19 : tie.Need-refusal-requires-19
 refusal-requires-19 c κs = search needs
 
+enum-known-answer-20 : tie.Need-enum-known-answer-20
+enum-known-answer-20 c = search needs
+
+refusal-requires-20 : tie.Need-refusal-requires-20
+refusal-requires-20 c κs = search needs
+
+enum-known-answer-21 : tie.Need-enum-known-answer-21
+enum-known-answer-21 c = search needs
+
+refusal-requires-21 : tie.Need-refusal-requires-21
+refusal-requires-21 c κs = search needs
+
+enum-known-answer-22 : tie.Need-enum-known-answer-22
+enum-known-answer-22 c = search needs
+
+refusal-requires-22 : tie.Need-refusal-requires-22
+refusal-requires-22 c κs = search needs
+
 returns : tie.Need-returns
 unfolding reported
 returns c = sym (ap reported (c .before .answer .given .1))
@@ -210,6 +228,18 @@ returns-20 : tie.Need-returns-20
 unfolding reported
 returns-20 c = told _ _ _ (c .before .before .answer19 .given .1) (c .refusal19 .ensures)
 
+returns-21 : tie.Need-returns-21
+unfolding reported
+returns-21 c = told _ _ _ (c .before .before .answer20 .given .1) (c .refusal20 .ensures)
+
+returns-22 : tie.Need-returns-22
+unfolding reported
+returns-22 c = told _ _ _ (c .before .before .answer21 .given .1) (c .refusal21 .ensures)
+
+returns-23 : tie.Need-returns-23
+unfolding reported
+returns-23 c = told _ _ _ (c .before .before .answer22 .given .1) (c .refusal22 .ensures)
+
 pub as-reply-spec : {M : Type 1} → statement M
 as-reply-spec =
     tie.close
@@ -253,6 +283,12 @@ as-reply-spec =
     refusal-requires-18
     enum-known-answer-19
     refusal-requires-19
+    enum-known-answer-20
+    refusal-requires-20
+    enum-known-answer-21
+    refusal-requires-21
+    enum-known-answer-22
+    refusal-requires-22
     returns
     returns-2
     returns-3
@@ -272,4 +308,7 @@ as-reply-spec =
     returns-17
     returns-18
     returns-19
-    returns-20)
+    returns-20
+    returns-21
+    returns-22
+    returns-23)

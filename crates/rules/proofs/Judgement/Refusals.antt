@@ -3,26 +3,28 @@
 use mathlib.Core.Path.{_≡_, refl, sym, _∙_, subst}
 use mathlib.Core.Bool.{Bool, true, false, false≢true}
 use mathlib.Core.List.{List, [], _∷_, _++_}
-use mathlib.Core.List.{List·Memᴰ as Mem}
+use mathlib.Core.List.{List·Memᴰ as Mem, List·Memᴰ·head as here, Memᴰ·append-right as in-right}
 use mathlib.Core.Logic.{⊎-elim}
 use mathlib.Core.Option.{Option, none, some}
 use Prim.Native.Nat.{ℕ, _+_, _≤_, _<_}
 use native.Mathlib.Omega.{arith}
-use lib.Dec.{ltb}
+use lib.Dec.{eqb, ltb}
 use lib.ListN.{length}
-use borrow.Author.Tests.{ltb-true, ltb-false}
+use borrow.Author.Tests.{ltb-true, ltb-false, eqb-true, eqb-false}
 use Rattle.rules.specs.declared.Answer.{Answer}
 use Rattle.rules.specs.declared.Answer.the-variants.{LongText, ShortList}
 use Rattle.rules.specs.State.{firstStop}
 use Rattle.rules.specs.Result.{Result, found, refused, _>>=_, _>>_}
 use Rattle.rules.specs.Case.{Constraint, O, B, F, W, NodeLine, D, E, L, Case, readCase}
-use Rattle.rules.specs.Tree.{Tree, preorder, isIn, fits, mayClaim, walkTree, leastUnclaimed, levelCount}
+use Rattle.rules.specs.Tree.{Tree, preorder, isIn, ofTask, mayClaim, walkTree, leastUnclaimed, levelCount}
 use Rattle.rules.specs.Constraint.{holdsIn, brokenAt, firstBroken}
 use Rattle.rules.specs.Verdict.{Found, Lent, reported, listsLong, textMost, textShort, unless, statesOf, planRuns, allClaimed, noneBroken, check}
-use Rattle.rules.specs.Rules.{cueAction, Fits}
-use Rattle.rules.specs.Refusals.{Each, First, LongEnough, Short, Admits, Reads, Runs, Expected, below, waiting, MayClaim, RightNodes, root, Walks, Claimed, KeepsAll, Grows, brokenNumber, Covers, Shows, short, long, unread, outside, cue, lacking, over, misfit, deep, claim, unclaimed, broken}
+use Rattle.rules.specs.Rules.{cueAction}
+use Rattle.rules.specs.Refusals.{Each, First, LongEnough, Short, Admits, Reads, Runs, Expected, below, waiting, ownTask, MayClaim, RightNodes, root, Walks, Claimed, KeepsAll, Grows, brokenNumber, Covers, Shows, short, long, unread, outside, cue, other, letter, deep, claim, lacking, over, unclaimed, broken}
 use Rattle.rules.proofs.Statements.{fits-iff, are-states}
 use Rattle.rules.proofs.Faults.{FaultSays, CaseSays, reading-shows}
+use Rattle.rules.proofs.Judgement.Sound.{sound}
+use Rattle.rules.proofs.Judgement.Nodes.{of-task, letter-wrong}
 use Rattle.rules.proofs.Judgement.Each.{each-nil, each-cons, first-here, first-later}
 use Rattle.rules.proofs.Judgement.Preorder.{height, claim as claimBy, Passes, claimedBy, ClaimsPass, TreeOf, linesOf}
 use Rattle.rules.proofs.Judgement.Waiting as Wa
@@ -75,9 +77,6 @@ module _ (k : Case) where
     right-nodes (before ++ x ∷ []) xs (below k (e .1) x ++ st)
         (subst (λ (c : List ℕ). Reached k (mayClaim (k .plan)) xs (below k (e .1) x ++ st) c) (sym (claimed-snoc before x)) (r .3)),
   )
-
-  misfits : (x : NodeLine) (t : ℕ) → fits k x t ≡ false → Fits k x t → ⊥
-  misfits x t e f = false≢true (sym e ∙ fits-iff k x t .1 f)
 
   unclaims : (before : List NodeLine) (a i : ℕ) → mayClaim (k .plan) a i (claimedBy before []) ≡ false → MayClaim k before (L a i) → ⊥
   unfolding isIn
@@ -133,7 +132,7 @@ module _ (lists : List Lent) (text : List ℕ) where
       go none f = constraints-say k t (record { grown = w; claimed = λ j lo hi. claimed j (f j lo (omega arith)) }) (tree .shallow)
       go (some i) f = unclaimed w (f .0) (omega arith) (claimants-none i (k .nodes) [] (f .2)) (λ j lo hi. claimed j (f .3 j lo hi))
 
-  -- ---- Rows 6 to 8
+  -- ---- Rows 6 to 8 and 20 to 22
 
   stop-shows : (k : Case) → Runs lists text k (statesOf k) → (before rest : List NodeLine) (st : List Expected) → k .nodes ≡ before ++ rest
       → Reached k (mayClaim (k .plan)) before (root k) [] → waiting k before (root k) ≡ st → {r : Answer}
@@ -144,12 +143,18 @@ module _ (lists : List Lent) (text : List ℕ) where
       walks : Walks lists text k before rest st
       walks = record { states = statesOf k; runs = run; split = e; right = right-nodes k [] before (root k) reached; expected = q }
 
+      own : (x : NodeLine) (t : ℕ) {xs : List NodeLine} {st : List Expected} → Walks lists text k before (x ∷ xs) st → ofTask k x t ≡ eqb (ownTask k x) t
+      own x t w =
+          let good = sound text k (run .reads .reading) in
+          of-task k good x t (good .nodes-good x (subst (λ (l : List NodeLine). Mem x l) (sym (w .split)) (in-right before (here refl))))
+
       go : {rest : List NodeLine} {st : List Expected} {r : Answer}
           → Stop k (mayClaim (k .plan)) (k .planLine + 1 + length before) (claimedBy before []) rest st r → Walks lists text k before rest st
           → AnswerShows lists text r
       go Wa.lacking w = lacking w
       go Wa.over w = over w
-      go (Wa.misfit {x = x} {t = t} f) w = misfit w (misfits k x t f)
+      go (Wa.other {x = x} {t = t} f) w = other w (eqb-false (ownTask k x) t (sym (own x t w) ∙ f))
+      go (Wa.letter {x = x} {t = t} f n) w = letter w (eqb-true (ownTask k x) t (sym (own x t w) ∙ f)) (letter-wrong k x n)
       go (Wa.deep {x = x} {t = t} f) w = deep w (fits-iff k x t .0 f)
       go (Wa.unclaimable {a = a} {i = i} {t = t} f h n) w = claim w (fits-iff k (L a i) t .0 f) h (unclaims k before a i n)
 
@@ -194,7 +199,7 @@ module _ (lists : List Lent) (text : List ℕ) where
   unread-shows a (Answer.ShortList i) f = absurd f
   unread-shows a Answer.LongText f = absurd f
   unread-shows a (Answer.Inapplicable line i) f = absurd f
-  unread-shows a (Answer.WrongNode line) f = absurd f
+  unread-shows a (Answer.WrongTask line) f = absurd f
   unread-shows a (Answer.TooDeep line) f = absurd f
   unread-shows a (Answer.WrongClaim line i) f = absurd f
   unread-shows a (Answer.Unclaimed line i) f = absurd f
@@ -208,6 +213,9 @@ module _ (lists : List Lent) (text : List ℕ) where
   unread-shows a (Answer.WrongShape line i) f = absurd f
   unread-shows a (Answer.WrongName line i) f = absurd f
   unread-shows a (Answer.WrongId line) f = absurd f
+  unread-shows a (Answer.WrongLetter line) f = absurd f
+  unread-shows a (Answer.SurplusNode line) f = absurd f
+  unread-shows a (Answer.MissingNode line) f = absurd f
 
   text-says : Each LongEnough lists → CheckSays lists text (fromText fromTree text)
   unfolding fromText reported

@@ -14,7 +14,7 @@ fromConstraints k t = noneBroken k t >> found (k, t)
 abbrev pub fromClaims : Case → Tree → List ℕ → Found Tree
 fromClaims k t claimed = allClaimed k claimed >> fromConstraints k t
 
--- Rows 6 to 8, then the rest.
+-- Rows 6 to 8 and 20 to 22, then the rest.
 unfoldable pub fromTree : Case → Found Tree
 fromTree k = walkTree k (mayClaim (k .plan)) >>= λ (t, claimed). fromClaims k t claimed
 

@@ -16,7 +16,7 @@ use Rattle.rules.specs.Case.{Constraint, O, B, F, W, Case, readCase}
 use Rattle.rules.specs.Tree.{Tree, preorder, isIn, mayClaim, levelCount, walkTree}
 use Rattle.rules.specs.Verdict.{Found, Lent, reported, listsLong, textMost, textShort, unless, statesOf, planRuns, allClaimed, noneBroken, check, answerOf, refusedNotBy, readable, levelsFit, insideLimits}
 use Rattle.rules.specs.Rules.{cueAction, CueApplies, claimants, Rules}
-use Rattle.rules.specs.Refusals.{Each, LongEnough, Claimed, KeepsAll, brokenNumber, Shows, short, long, unread, outside, cue, lacking, over, misfit, deep, claim, unclaimed, broken}
+use Rattle.rules.specs.Refusals.{Each, LongEnough, Claimed, KeepsAll, brokenNumber, Shows, short, long, unread, outside, cue, other, letter, deep, claim, lacking, over, unclaimed, broken}
 use Rattle.rules.specs.Demands.{IsAccepted, OfRead}
 use Rattle.rules.proofs.Statements.{states-unique, are-states}
 use Rattle.rules.proofs.Judgement.Each.{both-true, first-in}
@@ -121,7 +121,7 @@ rows-pass lists text k l h reading =
 
 -- ---- The limits
 
--- Of a text that reads as a case: inside the limits is that it is not too long, and that rows 6 and 7 alone don't say 7.
+-- Of a text that reads as a case: inside the limits is that it is not too long, and that the tree's rows alone don't say 7.
 limits-read : (text : List ℕ) (k : Case) → readCase text ≡ found k
     → insideLimits text ≡ (refusedNotBy 2 (textShort text) && refusedNotBy 7 (walkTree k anyClaim))
 unfolding insideLimits
@@ -150,11 +150,12 @@ shows-not-zero (long l h) e = omega arith
 shows-not-zero (unread w f) e = omega arith
 shows-not-zero (outside w f) e = omega arith
 shows-not-zero (cue w h f n) e = omega arith
-shows-not-zero (lacking w) e = omega arith
-shows-not-zero (over w) e = omega arith
-shows-not-zero (misfit w n) e = omega arith
+shows-not-zero (other w n) e = omega arith
+shows-not-zero (letter w o n) e = omega arith
 shows-not-zero (deep w f) e = omega arith
 shows-not-zero (claim w f h n) e = omega arith
+shows-not-zero (lacking w) e = omega arith
+shows-not-zero (over w) e = omega arith
 shows-not-zero (unclaimed w l h n f) e = omega arith
 shows-not-zero (broken c x) e = no-order (x .bad .it) e
 

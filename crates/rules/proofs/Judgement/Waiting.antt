@@ -7,12 +7,12 @@ use Prim.Native.Nat.{ℕ, _+_, _≤_}
 use native.Mathlib.Omega.{arith}
 use lib.ListN.{length, length-append}
 use Rattle.rules.specs.declared.Answer.{Answer}
-use Rattle.rules.specs.declared.Answer.the-variants.{WrongNode, TooDeep, WrongClaim}
+use Rattle.rules.specs.declared.Answer.the-variants.{WrongTask, TooDeep, WrongClaim, WrongLetter, SurplusNode, MissingNode}
 use Rattle.rules.specs.Case.{methodAt, NodeLine, D, E, L, Case}
-use Rattle.rules.specs.Tree.{Tree, leaf, empty, task, Trees, noTree, more, preorder, rootLine, fits, ClaimTest}
+use Rattle.rules.specs.Tree.{Tree, leaf, empty, task, Trees, noTree, more, preorder, rootLine, ofTask, rightLetter, ClaimTest}
 use Rattle.rules.specs.Rules.{FitsTask, FitsTasks}
 use Rattle.rules.specs.Refusals.{Expected, expectedAt, below, waiting}
-use Rattle.rules.proofs.Statements.{fits-iff}
+use Rattle.rules.proofs.Statements.{fits, fits-iff}
 use Rattle.rules.proofs.Judgement.Preorder.{linesOf, linesOfAll, lines-more, height, heights, claim, Passes, claimedBy, ClaimsPass, claimed-append, claims-left, claims-right}
 
 -- Each line fits the task that is expected there, stands at most at level 64, and may claim its position.
@@ -21,12 +21,15 @@ Reached k ok [] st c = Unit {0}
 Reached k ok (x ∷ xs) [] c = ⊥
 Reached k ok (x ∷ xs) (e ∷ st) c = (fits k x (e .0) ≡ true) × (e .1 ≤ 64) × Passes ok x c × Reached k ok xs (below k (e .1) x ++ st) (claim x c)
 
--- Why the walk stops at a line: no node where one is expected; a node over; one that doesn't fit; level 65; a claim that doesn't pass.
+-- Why the walk stops at a line: no node where one is expected; a node over; one of another task; a wrong letter; level 65; a claim that
+-- doesn't pass.
 pub data Stop (k : Case) (ok : ClaimTest) (line : ℕ) (c : List ℕ) : List NodeLine → List Expected → Answer → Type 0 where
-  lacking : {e : Expected} {st : List Expected} → Stop k ok line c [] (e ∷ st) (WrongNode line)
-  over : {x : NodeLine} {xs : List NodeLine} → Stop k ok line c (x ∷ xs) [] (WrongNode line)
-  misfit : {x : NodeLine} {xs : List NodeLine} {t level : ℕ} {st : List Expected} → fits k x t ≡ false
-      → Stop k ok line c (x ∷ xs) ((t, level) ∷ st) (WrongNode line)
+  lacking : {e : Expected} {st : List Expected} → Stop k ok line c [] (e ∷ st) (MissingNode line)
+  over : {x : NodeLine} {xs : List NodeLine} → Stop k ok line c (x ∷ xs) [] (SurplusNode line)
+  other : {x : NodeLine} {xs : List NodeLine} {t level : ℕ} {st : List Expected} → ofTask k x t ≡ false
+      → Stop k ok line c (x ∷ xs) ((t, level) ∷ st) (WrongTask line)
+  letter : {x : NodeLine} {xs : List NodeLine} {t level : ℕ} {st : List Expected} → ofTask k x t ≡ true → rightLetter k x ≡ false
+      → Stop k ok line c (x ∷ xs) ((t, level) ∷ st) (WrongLetter line)
   deep : {x : NodeLine} {xs : List NodeLine} {t : ℕ} {st : List Expected} → fits k x t ≡ true
       → Stop k ok line c (x ∷ xs) ((t, 65) ∷ st) (TooDeep line)
   unclaimable : {a i : ℕ} {xs : List NodeLine} {t level : ℕ} {st : List Expected} → fits k (L a i) t ≡ true → level ≤ 64 → ok a i c ≡ false

@@ -7,15 +7,16 @@ use Prim.Native.Nat.{ℕ, zero, suc, _+_, _≤_, max}
 use native.Mathlib.Omega.{arith}
 use lib.ListN.{length, length-append}
 use Rattle.rules.specs.declared.Answer.{Answer}
-use Rattle.rules.specs.declared.Answer.the-variants.{WrongNode, TooDeep, WrongClaim}
+use Rattle.rules.specs.declared.Answer.the-variants.{TooDeep, WrongClaim}
 use Rattle.rules.specs.Case.{methodAt, NodeLine, D, E, L, Case}
-use Rattle.rules.specs.Tree.{Tree, leaf, more, preorder, rootLine, Trees, fits, task, Walk, Walker, walkSubtasks, ClaimTest, walkFitting, walkNode, noneOver, levelCount, walkTree}
+use Rattle.rules.specs.Tree.{Tree, leaf, more, preorder, rootLine, Trees, ofTask, rightLetter, task, Walk, Walker, walkSubtasks, ClaimTest, walkFitting, nodeFits, walkNode, noneOver, levelCount, walkTree}
 use Rattle.rules.specs.Result.{Result, found, refused, _>>=_, _>>_}
 use Rattle.rules.specs.Rules.{FitsTask, FitsTasks}
 use Rattle.rules.specs.Refusals.{Expected, expectedAt, below, root}
-use Rattle.rules.proofs.Statements.{fits-iff}
+use Rattle.rules.proofs.Statements.{fits, fits-iff}
+use Rattle.rules.proofs.Tables.{and-both}
 use Rattle.rules.proofs.Judgement.Preorder.{linesOf, linesOfAll, lines-more, height, heights, claim, Passes, claimedBy, ClaimsPass, claimed-append, claims-join, TreeOf}
-use Rattle.rules.proofs.Judgement.Waiting.{Stop, lacking, over, misfit, deep, unclaimable, Point, point, Stopped, tree-waiting, tree-reached, stopped-after, stopped-here}
+use Rattle.rules.proofs.Judgement.Waiting.{Stop, lacking, over, other, letter, deep, unclaimable, Point, point, Stopped, tree-waiting, tree-reached, stopped-after, stopped-here}
 
 -- From one point to another something has been walked: it fits, is no higher than the levels left, and has taken its lines, the first of
 -- those that were there, with their claims.
@@ -134,11 +135,16 @@ module _ (k : Case) (ok : ClaimTest) where
       go false p = λ level st q. stopped-here k ok (unclaimable e (omega arith) p)
 
   -- A node that is there: it doesn't fit, or what becomes of it if it does.
-  node-there : (levels t line : ℕ) (x : NodeLine) (left : List NodeLine) (c : List ℕ) (w : Walk Tree) (b : Bool) → fits k x t ≡ b
+  node-there : (levels t line : ℕ) (x : NodeLine) (left : List NodeLine) (c : List ℕ) (w : Walk Tree)
       → (fits k x t ≡ true → WalkSays levels t (point line (x ∷ left) c) w)
-      → WalkSays levels t (point line (x ∷ left) c) (elim b [ true ↦ w | false ↦ refused (WrongNode line) ])
-  node-there levels t line x left c w true e f = f e
-  node-there levels t line x left c w false e f = λ level st q. stopped-here k ok (misfit e)
+      → WalkSays levels t (point line (x ∷ left) c) (nodeFits (ofTask k x t) (rightLetter k x) line >> w)
+  node-there levels t line x left c w f = go (ofTask k x t) refl (rightLetter k x) refl
+    where
+      go : (a : Bool) → ofTask k x t ≡ a → (b : Bool) → rightLetter k x ≡ b
+          → WalkSays levels t (point line (x ∷ left) c) (nodeFits a b line >> w)
+      go true p true q = f (and-both p q)
+      go true p false q = λ level st z. stopped-here k ok (letter p q)
+      go false p b q = λ level st z. stopped-here k ok (other p)
 
   node-deep : (t line : ℕ) (x : NodeLine) (left : List NodeLine) (c : List ℕ) → fits k x t ≡ true
       → WalkSays zero t (point line (x ∷ left) c) (refused (TooDeep line))
@@ -149,11 +155,11 @@ module _ (k : Case) (ok : ClaimTest) where
   node-says : (levels t line : ℕ) (left : List NodeLine) (c : List ℕ) → WalkSays levels t (point line left c) (walkNode levels k ok t line left c)
   unfolding walkNode
   node-says zero t line [] c = λ level st q. stopped-here k ok lacking
-  node-says zero t line (x ∷ left) c = node-there zero t line x left c (refused (TooDeep line)) (fits k x t) refl (node-deep t line x left c)
+  node-says zero t line (x ∷ left) c = node-there zero t line x left c (refused (TooDeep line)) (node-deep t line x left c)
   node-says (suc levels) t line [] c = λ level st q. stopped-here k ok lacking
   node-says (suc levels) t line (x ∷ left) c =
       let walk : Walker = λ t′ line′ left′ c′. walkNode levels k ok t′ line′ left′ c′ in
-      node-there (suc levels) t line x left c (walkFitting k ok walk x line left c) (fits k x t) refl
+      node-there (suc levels) t line x left c (walkFitting k ok walk x line left c)
       (fitting-says levels walk (λ t′ q. node-says levels t′ (q .line) (q .left) (q .claimed)) x t line left c)
 
   -- The root's tree, with the claims of all lines; or where the walk of the root stops.

@@ -10,11 +10,12 @@ use lib.ListN.{length, length-append}
 use borrow.Author.Tests.{leb-true, leb-false}
 use Rattle.rules.specs.declared.Answer.the-variants.{TooDeep}
 use Rattle.rules.specs.Case.{methodAt, NodeLine, D, E, L, Case}
-use Rattle.rules.specs.Tree.{Tree, leaf, empty, task, Trees, noTree, more, preorder, rootLine, fits, Walk, Walker, walkSubtasks, ClaimTest, walkFitting, walkNode, noneOver, levelCount, walkTree}
+use Rattle.rules.specs.Tree.{Tree, leaf, empty, task, Trees, noTree, more, preorder, rootLine, ofTask, rightLetter, Walk, Walker, walkSubtasks, ClaimTest, walkFitting, nodeFits, walkNode, noneOver, levelCount, walkTree}
 use Rattle.rules.specs.Result.{Result, found, refused, _>>=_, _>>_}
 use Rattle.rules.specs.Rules.{FitsTask, FitsTasks}
 use Rattle.rules.specs.Verdict.{reported, refusedNotBy}
-use Rattle.rules.proofs.Statements.{fits-iff}
+use Rattle.rules.proofs.Statements.{fits, fits-iff}
+use Rattle.rules.proofs.Tables.{and-left, and-right}
 use Rattle.rules.proofs.Judgement.Preorder.{linesOf, linesOfAll, lines-more, height, heights, claimedBy, ClaimsPass, claimed-append, claims-left, claims-right, TreeOf}
 
 -- The walk at so many levels, for the subtasks.
@@ -41,17 +42,23 @@ followTree w rest = w >>= λ (x, line, nodes, claimed). withTree x (rest line no
 abbrev noneLeft : Walk Tree → Result (Tree × List ℕ)
 noneLeft w = w >>= λ (t, line, nodes, claimed). noneOver line nodes >> found (t, claimed)
 
+-- A node that fits passes both tests.
+node-passes : (k : Case) (x : NodeLine) (t line : ℕ) → fits k x t ≡ true → nodeFits (ofTask k x t) (rightLetter k x) line ≡ found tt
+node-passes k x t line e =
+    λ j. nodeFits (and-left (ofTask k x t) (rightLetter k x) e j) (and-right (ofTask k x t) (rightLetter k x) e j) line
+
 module _ (k : Case) (ok : ClaimTest) where
   -- A node that fits, where a level is left and where none is.
-  node-fits : (levels t line : ℕ) (x : NodeLine) (left : List NodeLine) (c : List ℕ) → fits k x t ≡ true
+  pub node-fits : (levels t line : ℕ) (x : NodeLine) (left : List NodeLine) (c : List ℕ) → fits k x t ≡ true
       → walkNode (suc levels) k ok t line (x ∷ left) c ≡ walkFitting k ok (walker levels k ok) x line left c
   unfolding walkNode
-  node-fits levels t line x left c e = rw (walkNode, e)
+  node-fits levels t line x left c e =
+      ap (λ (r : Result (Unit {0})). r >> walkFitting k ok (walker levels k ok) x line left c) (node-passes k x t line e)
 
-  node-deep : (t line : ℕ) (x : NodeLine) (left : List NodeLine) (c : List ℕ) → fits k x t ≡ true
+  pub node-deep : (t line : ℕ) (x : NodeLine) (left : List NodeLine) (c : List ℕ) → fits k x t ≡ true
       → walkNode zero k ok t line (x ∷ left) c ≡ refused (TooDeep line)
   unfolding walkNode
-  node-deep t line x left c e = rw (walkNode, e)
+  node-deep t line x left c e = ap (λ (r : Result (Unit {0})). r >> refused (TooDeep line)) (node-passes k x t line e)
 
   leaf-passes : (a i line : ℕ) (left : List NodeLine) (c : List ℕ) (walk : Walker) → ok a i c ≡ true
       → walkFitting k ok walk (L a i) line left c ≡ found (leaf a i, line + 1, left, i ∷ c)
@@ -189,7 +196,7 @@ any-passes (D m ∷ xs) c = (tt, any-passes xs c)
 any-passes (E m g ∷ xs) c = (tt, any-passes xs c)
 any-passes (L a i ∷ xs) c = (refl, any-passes xs (i ∷ c))
 
--- The levels of a tree that fits are within the limit exactly if rows 6 and 7 alone don't say 7.
+-- The levels of a tree that fits are within the limit exactly if its rows alone, with every claim let pass, don't say 7.
 pub levels-within : (k : Case) (x : Tree) → linesOf x ≡ k .nodes → FitsTask k x (k .head .goal) → refusedNotBy 7 (walkTree k anyClaim) ≡ true
     → height x ≤ levelCount
 unfolding reported
@@ -207,7 +214,7 @@ within-levels k x e f h =
     let t : TreeOf k anyClaim x = record { preordered = e; fitting = f; shallow = h; passing = any-passes (k .nodes) [] } in
     ap (λ (z : Result (Tree × List ℕ)). refusedNotBy 7 z) (walk-finds k anyClaim x t)
 
--- A tree that fits is found, unless rows 6 and 7 alone say 7 or a claim doesn't pass.
+-- A tree that fits is found, unless those rows say 7 or a claim doesn't pass.
 pub walk-finds-within : (k : Case) (ok : ClaimTest) (x : Tree) → linesOf x ≡ k .nodes → FitsTask k x (k .head .goal)
     → refusedNotBy 7 (walkTree k anyClaim) ≡ true → ClaimsPass ok (k .nodes) []
     → walkTree k ok ≡ found (x, claimedBy (k .nodes) [])

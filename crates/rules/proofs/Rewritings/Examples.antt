@@ -18,11 +18,11 @@ use Rattle.rules.specs.Rules as Ru
 use Rattle.rules.specs.Rewriting as Re
 use Rattle.rules.specs.State.{State, Action, member, applies, actionAt, stateAt}
 use Rattle.rules.specs.Case.{Constraint, O, B, W, Method, methodAt, NodeLine, D, E, L, Case}
-use Rattle.rules.specs.Tree.{Tree, leaf, empty, task, noTree, more, preorder, rootLine, isMethodOf, fits}
+use Rattle.rules.specs.Tree.{Tree, leaf, empty, task, noTree, more, preorder, rootLine, isMethodOf}
 use Rattle.rules.specs.Constraint.{holdsIn, keeps, constraintsOf, partsOf}
 use Rattle.rules.specs.Verdict.{statesOf}
 use Rattle.rules.specs.Rules.{MethodOf, Fits, FitsTask, claimants, Keeps, Rules}
-use Rattle.rules.proofs.Statements.{keeps-iff, fits-iff, method-iff, are-states}
+use Rattle.rules.proofs.Statements.{keeps-iff, fits, fits-iff, method-iff, are-states}
 use Rattle.rules.specs.Rewriting.{Occurrence, Step, samePath, CompleteRewriting, used, recordOf, SameSet, claimedRecord, result, placesOf, spanIn, AgreeingRewriting}
 use Rattle.rules.proofs.Rewritings.Statement as Sta
 use Rattle.rules.proofs.Rewritings.Statement.{Placed, claimedNames, named-exact}
@@ -94,7 +94,7 @@ module _ (k : Case) where
 
 -- What the cases compute with.
 opened : Unit {0}
-unfolding St.wordCount St.bit St.member St.noPropositions St.without St.appliesWord St.applies St.nextWord St.next St.noAction St.actionAt St.states St.stateAt Ix.ofCue Ix.ofGap Ix.at Ix.least Ix.greatest Ix.hull Ix.partOf Ix.only Ix.pick Ix.spanOfPart Ix.roundedUp Ix.roundedDown Ix.c Ix.f Ix.isBefore Ca.noMethod Ca.methodAt Tr.preorder Tr.rootLine Tr.span Tr.subtaskSpans Tr.noSubtasks Tr.isMethodOf Tr.fits Co.signed Co.holdsIn Co.holdsFrom Co.keeps Co.constraintsOf Co.partsOf Ve.statesOf Ru.FitsTask Ru.HoldsIn Ru.Keeps Ru.claimOf Ru.claimants Re.samePath Re.subtasksOf Re.CanTake Re.replace Re.rewritten Re.Steps Re.rewrittenBy Re.goalAlone Re.result Re.recordOf Re.subtasksAfter Re.rightKind Re.claimedLines Sta.lineNames Sta.claimedNames Re.entryOf Re.claimedRecord Re.placeOf Re.placesOf Re.indexOf Re.isInPart Re.indexesIn Re.spanIn
+unfolding St.wordCount St.bit St.member St.noPropositions St.without St.appliesWord St.applies St.nextWord St.next St.noAction St.actionAt St.states St.stateAt Ix.ofCue Ix.ofGap Ix.at Ix.least Ix.greatest Ix.hull Ix.partOf Ix.only Ix.pick Ix.spanOfPart Ix.roundedUp Ix.roundedDown Ix.c Ix.f Ix.isBefore Ca.noMethod Ca.methodAt Tr.preorder Tr.rootLine Tr.span Tr.subtaskSpans Tr.noSubtasks Tr.isMethodOf Tr.ofTask Tr.rightLetter Co.signed Co.holdsIn Co.holdsFrom Co.keeps Co.constraintsOf Co.partsOf Ve.statesOf Ru.FitsTask Ru.HoldsIn Ru.Keeps Ru.claimOf Ru.claimants Re.samePath Re.subtasksOf Re.CanTake Re.replace Re.rewritten Re.Steps Re.rewrittenBy Re.goalAlone Re.result Re.recordOf Re.subtasksAfter Re.rightKind Re.claimedLines Sta.lineNames Sta.claimedNames Re.entryOf Re.claimedRecord Re.placeOf Re.placesOf Re.indexOf Re.isInPart Re.indexesIn Re.spanIn
 opened = tt
 
 -- A rewriting that agrees with a claimed tree keeps the constraints of the method that the tree has for the goal.
