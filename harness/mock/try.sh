@@ -20,7 +20,7 @@ compare() {
         --target-dir target/linked --features linked
     for call in replay check write gaps import step; do
         printf '%s: ' "$call"
-        target/linked/release/compare_$call "$count" "$seed" | cut -c1-200 || true
+        target/linked/release/compare_$call "$count" "$seed" | cut -c1-300 || true
     done
 }
 

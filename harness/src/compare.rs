@@ -59,16 +59,28 @@ pub const PLAIN_STEP: StepCall = |state, &[needed, forbidden, added, deleted]| {
 pub const LINKED_STEP: StepCall =
     |state, [needed, forbidden, added, deleted]| cuecheck::step(state, needed, forbidden, added, deleted);
 
-/// How many inputs were accepted with lists as long as asked; and of them all, and of those accepted, how many have
-/// more propositions than four words hold.
+/// How often each answer came up, by number; how many inputs were accepted with lists as long as asked; and of them all, and of those
+/// accepted, how many have more propositions than four words hold.
 #[derive(Default)]
 struct Tally {
+    answers: BTreeMap<u32, u64>,
     accepted: u64,
     wide: u64,
     wide_accepted: u64,
 }
 
 impl Tally {
+    /// Counts an answer, whatever the lengths of the lists.
+    fn answered(&mut self, number: u32) {
+        *self.answers.entry(number).or_default() += 1;
+    }
+
+    /// How often this answer came up.
+    fn times(&self, number: u32) -> u64 {
+        self.answers.get(&number).copied().unwrap_or(0)
+    }
+
+    /// Counts an input by its answer with lists as long as asked.
     fn count(&mut self, text: &[u8], number: u32) {
         let wide = propositions(text).is_some_and(|count| (FORMER + 1..=PROPOSITIONS).contains(&count));
         self.accepted += u64::from(number == 0);
@@ -78,7 +90,9 @@ impl Tally {
 
     /// Ends a comparison without a difference.
     fn show(&self, asked: &Asked) {
-        let Tally { accepted, wide, wide_accepted } = self;
+        let Tally { answers, accepted, wide, wide_accepted } = self;
+        let times: Vec<String> = answers.iter().map(|(number, times)| format!("{number}: {times}")).collect();
+        println!("how often each answer came up: {}", times.join(", "));
         println!(
             "{accepted} inputs accepted; {wide} inputs with {} to {PROPOSITIONS} propositions, {wide_accepted} of them accepted",
             FORMER + 1
@@ -134,12 +148,11 @@ fn end(asked: &Asked, number: u64, text: &[u8], lent: String, name: &str, differ
 }
 
 /// Runs the comparison that the arguments ask for. Ends the program with 1 at the first
-/// difference; else gives back how often each answer came up, by number.
-pub fn run(plain: Call, other: Call, name: &str) -> BTreeMap<u32, u64> {
+/// difference; else shows how often each answer came up.
+pub fn run(plain: Call, other: Call, name: &str) {
     let asked = Asked::by_arguments();
     let inputs = Inputs::new(asked.seed);
     let mut sides = (Lists::default(), Lists::default());
-    let mut answers = BTreeMap::new();
     let mut tally = Tally::default();
     for number in asked.numbers() {
         let mut rng = inputs.rng(number);
@@ -150,7 +163,7 @@ pub fn run(plain: Call, other: Call, name: &str) -> BTreeMap<u32, u64> {
             match compare(|lists| plain(&text, lists, lengths), |lists| other(&text, lists, lengths), dirt, &mut sides)
             {
                 Ok(answer) => {
-                    *answers.entry(answer.number).or_default() += 1;
+                    tally.answered(answer.number);
                     if turn == 0 {
                         tally.count(&text, answer.number);
                     }
@@ -163,16 +176,14 @@ pub fn run(plain: Call, other: Call, name: &str) -> BTreeMap<u32, u64> {
         }
     }
     tally.show(&asked);
-    answers
 }
 
 /// The same for the write call: once with room for all, once with an output about as long as the
 /// text put out, once with lists and an output of any length.
-pub fn run_write(plain: WriteCall, other: WriteCall, name: &str) -> BTreeMap<u32, u64> {
+pub fn run_write(plain: WriteCall, other: WriteCall, name: &str) {
     let asked = Asked::by_arguments();
     let inputs = Inputs::new(asked.seed);
     let mut sides = (Lists::with_output(), Lists::with_output());
-    let mut answers = BTreeMap::new();
     let (mut tally, mut tidy) = (Tally::default(), 0);
     for number in asked.numbers() {
         let mut rng = inputs.rng(number);
@@ -186,7 +197,7 @@ pub fn run_write(plain: WriteCall, other: WriteCall, name: &str) -> BTreeMap<u32
             let other = |lists: &mut Lists| other(&text, lists, lengths, output);
             match compare(plain, other, dirt, &mut sides) {
                 Ok(answer) => {
-                    *answers.entry(answer.number).or_default() += 1;
+                    tally.answered(answer.number);
                     if turn == 0 {
                         tally.count(&text, answer.number);
                     }
@@ -202,18 +213,16 @@ pub fn run_write(plain: WriteCall, other: WriteCall, name: &str) -> BTreeMap<u32
             }
         }
     }
-    let short = answers.get(&14).copied().unwrap_or(0);
+    let short = tally.times(14);
     println!("{tidy} accepted inputs tidy already; {short} of {} outputs too short", 3 * asked.count);
     tally.show(&asked);
-    answers
 }
 
 /// The same for the call that finds the gaps: once with lists of the length asked for, once with any.
-pub fn run_find(plain: FindCall, other: FindCall, name: &str) -> BTreeMap<u32, u64> {
+pub fn run_find(plain: FindCall, other: FindCall, name: &str) {
     let asked = Asked::by_arguments();
     let inputs = Inputs::new(asked.seed);
     let mut sides = (Lists::default(), Lists::default());
-    let mut answers = BTreeMap::new();
     let (mut tally, mut later, mut tried) = (Tally::default(), 0, 0);
     for number in asked.numbers() {
         let mut rng = inputs.rng(number);
@@ -223,7 +232,7 @@ pub fn run_find(plain: FindCall, other: FindCall, name: &str) -> BTreeMap<u32, u
             match compare(|lists| plain(&text, lists, lengths), |lists| other(&text, lists, lengths), dirt, &mut sides)
             {
                 Ok(answer) => {
-                    *answers.entry(answer.number).or_default() += 1;
+                    tally.answered(answer.number);
                     if turn == 0 {
                         tally.count(&text, answer.number);
                         later += u64::from(answer.tried > 1);
@@ -237,19 +246,17 @@ pub fn run_find(plain: FindCall, other: FindCall, name: &str) -> BTreeMap<u32, u
             }
         }
     }
-    let none = answers.get(&16).copied().unwrap_or(0);
+    let none = tally.times(16);
     println!("{later} inputs accepted not with the first choice; {tried} choices tried of those accepted; 16 answered {none} times");
     tally.show(&asked);
-    answers
 }
 
 /// The same for the import call: once with room for all, once with no output, which tells how long the case made is, once with an output
 /// of about that length, once with lists and an output of any length.
-pub fn run_import(plain: ImportCall, other: ImportCall, name: &str) -> BTreeMap<u32, u64> {
+pub fn run_import(plain: ImportCall, other: ImportCall, name: &str) {
     let asked = Asked::by_arguments();
     let inputs = Inputs::new(asked.seed);
     let mut sides = (Lists::with_output_of(MADE), Lists::with_output_of(MADE));
-    let mut answers = BTreeMap::new();
     let (mut tally, mut later, mut listed) = (Tally::default(), 0, BTreeMap::new());
     for number in asked.numbers() {
         let mut rng = inputs.rng(number);
@@ -265,7 +272,7 @@ pub fn run_import(plain: ImportCall, other: ImportCall, name: &str) -> BTreeMap<
                 let lent = format!("{lengths:?}, {output} bytes of output, lists full of {dirt:?}");
                 end(&asked, number, &texts.shown(), lent, name, difference)
             });
-            *answers.entry(answer.number).or_default() += 1;
+            tally.answered(answer.number);
             if turn == 0 {
                 tally.count(&texts.case, answer.number);
                 later += u64::from(answer.tried > 1);
@@ -282,7 +289,6 @@ pub fn run_import(plain: ImportCall, other: ImportCall, name: &str) -> BTreeMap<
         in_names(18)
     );
     tally.show(&asked);
-    answers
 }
 
 /// The same for the step call: the answer, the words computed, the state, and that the other sets stay, and what lies around them.

@@ -1,4 +1,4 @@
-//! Document 01, with Cards 1 to 6 of document 02, once more, written for speed: the step, replay, check and write calls,
+//! Document 01, with Cards 1 to 7 of document 02, once more, written for speed: the step, replay, check and write calls,
 //! the one that finds the gaps, and the import call.
 //!
 //! One pass over the text fills tables on the stack and, for the check call, the lent records (`reading`); the plan is
@@ -131,7 +131,7 @@ pub fn write(text: &[u8], states: &mut [u64], nodes: &mut [Node], work: &mut [u3
     }
 }
 
-/// The call that finds the gaps: the check call's part up to number 9, then numbers 15 and 16.
+/// The call that finds the gaps: the check call's part but for the constraints, then numbers 15 and 16.
 pub fn find_gaps(text: &[u8], states: &mut [u64], nodes: &mut [Node], work: &mut [u32]) -> Found {
     let short = [states.len() < STATES, nodes.len() < NODES, work.len() < WORK];
     let found = within_limits(text, short).and_then(|()| {

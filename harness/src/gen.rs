@@ -4,7 +4,7 @@
 //! a tree grown from them, positions and gaps woven into it, effects, the states they give,
 //! preconditions true in those states, and last the constraints that hold (or, now and then,
 //! one that doesn't), above all those that a slightly wrong reading of 01 would take otherwise.
-//! Then the draft or its text may be damaged (`damage`). Long stretches for betweens (`dents`) and
+//! Then the draft or its text may be damaged (`damage`), or its tree spoiled (`trees`). Long stretches for betweens (`dents`) and
 //! texts at the size limits (`extremes`) are built by hand. For the write call constraints are put
 //! out of order and repeated (`tangles`). For the call that finds the gaps constraints tell choices of them
 //! apart (`gaps`). The import call has a name list and a plan form beside the case (`forms`). The step call has inputs of its own
@@ -17,6 +17,7 @@ pub mod forms;
 pub mod gaps;
 pub mod steps;
 pub mod tangles;
+pub mod trees;
 
 use std::io::Write;
 
@@ -777,13 +778,14 @@ impl Inputs {
                 damage::text(rng, &mut text);
                 text
             }
-            15..=39 => deep(rng).text(),
-            40..=89 => dents::dented(rng).text(),
-            90..=399 => sound(rng).text(),
-            400..=599 => damaged(rng, 1).text(),
-            600..=699 => damaged(rng, 2).text(),
+            15..=54 => trees::deep(rng).text(),
+            55..=104 => dents::dented(rng).text(),
+            105..=204 => trees::spoiled(rng).text(),
+            205..=474 => sound(rng).text(),
+            475..=654 => damaged(rng, 1).text(),
+            655..=744 => damaged(rng, 2).text(),
             // Faults of both sorts: which one is named depends on the order of the tests.
-            700..=759 => {
+            745..=799 => {
                 let mut text = damaged(rng, 1).text();
                 damage::text(rng, &mut text);
                 text
@@ -807,9 +809,14 @@ impl Inputs {
             6..=249 => self.text(rng),
             250..=599 => tangles::tangled(rng).text(),
             600..=899 => tangles::piled(rng).text(),
-            900..=949 => {
+            900..=929 => {
                 let mut draft = tangles::tangled(rng);
                 damage::draft(rng, &mut draft);
+                draft.text()
+            }
+            930..=959 => {
+                let mut draft = tangles::tangled(rng);
+                trees::spoil(rng, &mut draft);
                 draft.text()
             }
             _ => {
@@ -827,16 +834,29 @@ impl Inputs {
     pub fn text_to_find(&self, rng: &mut Rng) -> Vec<u8> {
         match rng.below(1_000) {
             0..=11 => return gaps::long(rng),
-            12..=31 => return gaps::around(rng).text(),
+            12..=31 => {
+                let mut draft = gaps::around(rng);
+                // What is wrong with a tree comes ahead of the number of choices.
+                if rng.percent(20) {
+                    trees::spoil_once(rng, &mut draft);
+                }
+                return draft.text();
+            }
             _ => {}
         }
         loop {
             let text = match rng.below(1_000) {
                 0..=49 => self.text(rng),
-                50..=819 => gaps::sought(rng).text(),
-                820..=899 => {
+                50..=64 => trees::deep(rng).text(),
+                65..=819 => gaps::sought(rng).text(),
+                820..=879 => {
                     let mut draft = gaps::sought(rng);
                     damage::draft(rng, &mut draft);
+                    draft.text()
+                }
+                880..=919 => {
+                    let mut draft = gaps::sought(rng);
+                    trees::spoil(rng, &mut draft);
                     draft.text()
                 }
                 _ => {
@@ -867,18 +887,6 @@ fn damaged(rng: &mut Rng, ways: usize) -> Draft {
     let mut draft = sound(rng);
     for _ in 0..ways {
         damage::draft(rng, &mut draft);
-    }
-    draft
-}
-
-/// A chain about as deep as it may be, often with a fault at its deepest node.
-fn deep(rng: &mut Rng) -> Draft {
-    let levels = *rng.pick(&[60, 63, 64, 64, 65, 65, 65, 66]);
-    let (mut draft, deepest) = extremes::chain(rng, levels);
-    match rng.below(4) {
-        0 => damage::draft(rng, &mut draft),
-        1 => damage::node(rng, &mut draft, deepest),
-        _ => {}
     }
     draft
 }

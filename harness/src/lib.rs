@@ -1,4 +1,4 @@
-//! Two plain renderings of document 01 and Cards 1 to 6 of document 02, a clear one and a fast one, and the tools that compare a
+//! Two plain renderings of document 01 and Cards 1 to 7 of document 02, a clear one and a fast one, and the tools that compare a
 //! linked library with them.
 
 pub mod compare;

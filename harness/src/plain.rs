@@ -1,4 +1,4 @@
-//! Document 01, with Cards 1 to 6 of document 02, as a plain Rust program: the step, replay, check and write calls, the
+//! Document 01, with Cards 1 to 7 of document 02, as a plain Rust program: the step, replay, check and write calls, the
 //! one that finds the gaps, and the import call, which has a file of its own.
 //!
 //! The text is read once into vectors (`read`), the plan is run into the lent state list
@@ -107,8 +107,8 @@ pub fn write(text: &[u8], states: &mut [u64], nodes: &mut [Node], work: &mut [u3
     Written { number: 0, line: 0, item: 0, cues, nodes: count, length }
 }
 
-/// The call that finds the gaps: numbers 1 to 9 of the text as it came, then 15, then the check of the text with each
-/// choice of gaps in turn, and 16 if none is accepted.
+/// The call that finds the gaps: numbers 1 to 9 and 20 to 22 of the text as it came, then 15, then the check of the text
+/// with each choice of gaps in turn, and 16 if none is accepted.
 pub fn find_gaps(text: &[u8], states: &mut [u64], nodes: &mut [Node], work: &mut [u32]) -> Found {
     let asked = [(states.len() < STATES_ASKED, 1), (nodes.len() < NODES_ASKED, 2), (work.len() < WORK_ASKED, 3)];
     match first_accepted(text, &asked, states, nodes) {
@@ -143,7 +143,7 @@ fn replay_with(text: &[u8], asked: &[(bool, u32)], states: &mut [u64]) -> Checke
     Ok(case)
 }
 
-/// Everything of the check call but the zeroing: the replay call's part, then numbers 6 to 13.
+/// Everything of the check call but the zeroing: the replay call's part, then numbers 6 to 13 and 20 to 22.
 fn check_with(text: &[u8], asked: &[(bool, u32)], states: &mut [u64], nodes: &mut [Node]) -> Checked<Case> {
     let case = replay_with(text, asked, states)?;
     let subtask_spans = walk(&case, nodes)?;
@@ -246,14 +246,20 @@ impl Case {
         &self.constraints[self.methods[method as usize].constraints.clone()]
     }
 
-    /// Whether a claim may stand where this task is expected: a leaf of the very action, or
-    /// one of the compound task's own methods, D if it has subtasks and E if it has none.
-    fn fits(&self, claim: Claim, task: u32) -> bool {
-        let own = |method: u32| self.methods[method as usize].task == task;
+    /// The task that a node is of: a leaf's action, or the task of its method, whether that is empty or not.
+    fn own_task(&self, claim: Claim) -> u32 {
         match claim {
-            Claim::Leaf { action, .. } => action == task,
-            Claim::Decomposed { method } => own(method) && !self.subtasks_of(method).is_empty(),
-            Claim::Empty { method, .. } => own(method) && self.subtasks_of(method).is_empty(),
+            Claim::Leaf { action, .. } => action,
+            Claim::Decomposed { method } | Claim::Empty { method, .. } => self.methods[method as usize].task,
+        }
+    }
+
+    /// Whether this is "a D line with an empty method or an E line with one that isn't".
+    fn has_wrong_letter(&self, claim: Claim) -> bool {
+        match claim {
+            Claim::Leaf { .. } => false,
+            Claim::Decomposed { method } => self.subtasks_of(method).is_empty(),
+            Claim::Empty { method, .. } => !self.subtasks_of(method).is_empty(),
         }
     }
 }
@@ -588,7 +594,7 @@ struct Walk<'a> {
     subtask_spans: SubtaskSpans,
 }
 
-/// Walks the whole tree and fills the node records: numbers 6 to 9.
+/// Walks the whole tree and fills the node records: numbers 6 to 9 and 20 to 22.
 fn walk(case: &Case, nodes: &mut [Node]) -> Checked<SubtaskSpans> {
     let count = case.claims.len();
     let mut walk = Walk {
@@ -599,8 +605,9 @@ fn walk(case: &Case, nodes: &mut [Node]) -> Checked<SubtaskSpans> {
         subtask_spans: SubtaskSpans { spans: Vec::with_capacity(count), begin: Vec::with_capacity(count) },
     };
     walk.node(case.goal, 1)?;
+    // 21, "a surplus node, whatever its line holds": the first line after the whole tree.
     if walk.next < count {
-        return refuse(6, case.node_line(walk.next), 0);
+        return refuse(21, case.node_line(walk.next), 0);
     }
     if let Some(before) = walk.claimed.iter().position(|claimed| !claimed) {
         return refuse(9, case.plan_line, before as u32 + 1);
@@ -613,13 +620,11 @@ impl Walk<'_> {
     fn node(&mut self, task: u32, level: u32) -> Checked<Span> {
         let at = self.next;
         let line = self.case.node_line(at);
-        let claim = match self.case.claims.get(at) {
-            Some(&claim) if self.case.fits(claim, task) => claim,
-            _ => return refuse(6, line, 0),
+        // 22, "nodes over too soon", on whichever level the next one is due: one past the last line.
+        let Some(&claim) = self.case.claims.get(at) else {
+            return refuse(22, line, 0);
         };
-        if level > LEVELS {
-            return refuse(7, line, 0);
-        }
+        self.try_node(claim, task, level, line)?;
         self.next += 1;
         self.subtask_spans.begin.push(self.subtask_spans.spans.len() as u32);
         let (letter, label, place, span) = match claim {
@@ -632,6 +637,21 @@ impl Walk<'_> {
         };
         self.nodes[at] = Node { letter, label, place, start: span.start, end: span.end };
         Ok(span)
+    }
+
+    /// Tries what a node claims, in this order: 6, "a node of another task than expected", 20, the wrong letter for its
+    /// method, 7, level 65.
+    fn try_node(&self, claim: Claim, task: u32, level: u32, line: u32) -> Checked<()> {
+        if self.case.own_task(claim) != task {
+            return refuse(6, line, 0);
+        }
+        if self.case.has_wrong_letter(claim) {
+            return refuse(20, line, 0);
+        }
+        if level > LEVELS {
+            return refuse(7, line, 0);
+        }
+        Ok(())
     }
 
     /// Walks the subtasks of a node in the method's order; gives back the node's span.

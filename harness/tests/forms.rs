@@ -624,6 +624,40 @@ fn another_task_than_expected() {
     assert_eq!(node(deeper), "R,6,16,0");
 }
 
+/// Of the numbers that a bad tree has only 6 can occur. The case's own tree is read, but not walked; of the tree made each letter is that
+/// of its method, and what would be lacking or over is 18 or 19.
+#[test]
+fn of_a_bad_tree_only_6() {
+    for own in [
+        "P,1,2\nD,0\nD,2\nL,1,1\nL,2,2\n",
+        "P,1,2\nD,0\nE,1,0\nL,1,1\nL,2,2\n",
+        "P,1,2\nD,0\nE,2,0\nL,1,1\nL,2,2\nD,2\n",
+        "P,1,2\nD,0\nE,2,0\nL,1,1\n",
+    ] {
+        assert_eq!(imported(&panel(own), NAMES, FORM).1, panel(MADE_LINES), "{own}");
+    }
+    expect("whole 3 1 2", "whole", "R,18,5,0");
+    expect("whole 3 1 2", "whole 3 1", "R,18,5,0");
+    expect("whole 3 1 2", "whole 3 1 2 4", "R,18,5,0");
+    expect("-> as-is", "-> by-convert", "R,18,6,0");
+    expect("-> as-is", "-> as-is 1", "R,18,6,0");
+    expect("3 in-km/h -> as-is\n", "", "R,19,5,0");
+    expect("<==", "4 in-km/h -> as-is\n<==", "R,19,7,0");
+    expect("root 0", "4 load\nroot 0", "R,19,4,0");
+}
+
+/// On level 65 too, 6 comes ahead of 7.
+#[test]
+fn another_task_on_level_65() {
+    let case = "N,0,0,2,3,0,0,1\nI,0\nM,0,0,0\nM,0,1,0,0\nM,1,0,0\nP\nE,0,0\n";
+    let ending = |last: &str| {
+        let lines: String = (1..65).map(|n| format!("{n} t -> u {}\n", n + 1)).collect();
+        let form = format!("==>\nroot 1\n{lines}65 {last}\n<==\n");
+        imported(case, "0,t\n1,s\n0,e\n1,u\n2,f\n", &form).0
+    };
+    assert_eq!((ending("t -> e"), ending("s -> f")), ("R,7,71,0".to_string(), "R,6,71,0".to_string()));
+}
+
 #[test]
 fn other_refusals_of_finding() {
     let levels = |count: usize| {
@@ -760,4 +794,6 @@ fn inputs_are_of_all_sorts() {
         assert!(answers[&sort] >= 20, "{sort:?}");
     }
     assert!(answers.contains_key(&(2, 0)));
+    // What finding can't refuse of a tree that is made.
+    assert!(answers.keys().all(|(number, _)| ![8, 9, 20, 21, 22].contains(number)));
 }

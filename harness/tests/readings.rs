@@ -1,8 +1,8 @@
-//! The panel cases of document 01 and the settled readings, of Cards 1, 3 and 5 of document 02 too, each as a text and its answer, or as a step.
+//! The panel cases of document 01 and the settled readings, of Cards 1, 3, 5 and 7 of document 02 too, each as a text and its answer, or as a step.
 
-use harness::fast;
-use harness::lists::{Dirt, Lengths, Lists};
-use harness::plain::{check, replay, step, Reply, Stepped};
+use harness::lists::{Dirt, Lengths, Lists, OUTPUT};
+use harness::plain::{check, replay, step, Found, Node, Reply, Stepped, Written};
+use harness::{fast, plain};
 
 const CASE_A: &str = "N,3,3,2,3,3,2,4\nI,1,0\nA,0,1,0,1,0,0\nA,0,0,1,1,0\nA,1,1,0,1,2,1,1\nM,3,3,4,1,2,3\nO,0,2\n\
     O,1,2\nW,1,0,4\nM,4,1,0,0\nM,4,0,1\nB,0,0\nP,1,2\nD,0\nE,2,0\nL,1,1\nL,2,2\n";
@@ -47,7 +47,7 @@ fn panel_cases() {
     expect(&[(2, "I,0")], "R,13,14,2");
     expect(&[(13, "P,2,1")], "R,5,13,1");
     expect(&[(17, "L,2,1")], "R,8,17,1");
-    expect(&[(1, "N,3,3,2,3,3,2,3"), (17, "")], "R,6,17,0");
+    expect(&[(1, "N,3,3,2,3,3,2,3"), (17, "")], "R,22,17,0");
     expect(&[(15, "E,2,3")], "R,4,15,3");
     expect(&i, "Y,0,1");
     expect(&[&i[..], &[(2, "I,0")]].concat(), "R,11,14,0");
@@ -263,10 +263,233 @@ fn lists_are_tested_before_the_text() {
 fn replay_reads_the_tree_but_does_not_walk_it() {
     let mut lists = Lists::default();
     let (states, _, work) = lists.lend(Lengths::EXACT);
-    assert_eq!(printed(replay(case_a(&[(17, "L,2,1")]).as_bytes(), states, work)), "Y,2,4");
+    for (node, line) in [(17, "L,2,1"), (15, "D,2"), (15, "E,1,0"), (14, "D,2"), (16, "D,0")] {
+        assert_eq!(printed(replay(case_a(&[(node, line)]).as_bytes(), states, work)), "Y,2,4");
+    }
+    assert_eq!(printed(replay(with_nodes(&["D,0", "L,1,1", "L,2,2"]).as_bytes(), states, work)), "Y,2,3");
+    assert_eq!(printed(replay(with_nodes(&["E,2,0"; 7]).as_bytes(), states, work)), "Y,2,7");
     assert_eq!(printed(replay(case_a(&[(17, "L,2,3")]).as_bytes(), states, work)), "R,4,17,3");
     assert_eq!(printed(replay(case_a(&[(13, "P,2,1")]).as_bytes(), states, work)), "R,5,13,1");
 }
+
+// ---------------------------------------------------------------- a bad tree
+
+type WriteCall = fn(&[u8], &mut [u64], &mut [Node], &mut [u32], &mut [u8]) -> Written;
+type FindCall = fn(&[u8], &mut [u64], &mut [Node], &mut [u32]) -> Found;
+const WRITE: [WriteCall; 2] = [plain::write, fast::write];
+const FIND: [FindCall; 2] = [plain::find_gaps, fast::find_gaps];
+
+/// The check call refuses a text so, and the write call and the one that finds the gaps do the same walk.
+#[track_caller]
+fn refused(text: &str, answer: &str) {
+    assert_eq!(checked(text.as_bytes()), answer, "{text}");
+    let mut lists = Lists::with_output();
+    for (write, find) in WRITE.into_iter().zip(FIND) {
+        lists.soil(Dirt::Counting);
+        let (states, nodes, work, output) = lists.lend_all(Lengths::EXACT, OUTPUT);
+        let Written { number, line, item, cues, nodes: count, length } =
+            write(text.as_bytes(), states, nodes, work, output);
+        assert_eq!(printed(Reply { number, line, item, cues, nodes: count }), answer, "{text}");
+        assert!(length == 0 && output.iter().all(|&byte| byte == 0));
+        assert!(states.iter().all(|&word| word == 0) && nodes.iter().all(|&node| node == Node::default()));
+        lists.soil(Dirt::Counting);
+        let (states, nodes, work) = lists.lend(Lengths::EXACT);
+        let Found { number, line, item, cues, nodes: count, tried } = find(text.as_bytes(), states, nodes, work);
+        assert_eq!(printed(Reply { number, line, item, cues, nodes: count }), answer, "{text}");
+        assert!(tried == 0 && states.iter().all(|&word| word == 0));
+        assert!(nodes.iter().all(|&node| node == Node::default()) && work.iter().all(|&number| number == 0));
+    }
+}
+
+/// Case a with these node lines, from line 14 on.
+fn with_nodes(lines: &[&str]) -> String {
+    let header = format!("N,3,3,2,3,3,2,{}", lines.len());
+    let model = case_a(&[(1, &header), (14, ""), (15, ""), (16, ""), (17, "")]);
+    model + &lines.iter().map(|line| format!("{line}\n")).collect::<String>()
+}
+
+/// The lines of case a's tree, and these behind it.
+fn followed_by<'a>(lines: &[&'a str]) -> Vec<&'a str> {
+    [&["D,0", "E,2,0", "L,1,1", "L,2,2"], lines].concat()
+}
+
+/// An L line's own task is its action: a leaf for a compound task, or of another action.
+#[test]
+fn a_leaf_of_another_task() {
+    for line in ["L,0,1", "L,1,1", "L,2,2"] {
+        refused(&case_a(&[(14, line)]), "R,6,14,0");
+        refused(&case_a(&[(15, line)]), "R,6,15,0");
+    }
+    // Also where the position is its own, and was claimed by no other leaf.
+    refused(&case_a(&[(16, "L,2,2")]), "R,6,16,0");
+    refused(&case_a(&[(16, "L,0,1")]), "R,6,16,0");
+    refused(&case_a(&[(17, "L,1,1")]), "R,6,17,0");
+}
+
+/// A D or E line's own task is its method's task: any D or E for an action, or of another compound task. Whether the method is
+/// empty doesn't matter: 6 is tried ahead of 20.
+#[test]
+fn a_method_of_another_task() {
+    for line in ["D,0", "D,1", "D,2", "E,0,0", "E,1,0", "E,2,0"] {
+        refused(&case_a(&[(16, line)]), "R,6,16,0");
+        refused(&case_a(&[(17, line)]), "R,6,17,0");
+    }
+    for line in ["D,1", "D,2", "E,1,0", "E,2,0"] {
+        refused(&case_a(&[(14, line)]), "R,6,14,0");
+    }
+    for line in ["D,0", "E,0,0", "E,0,2"] {
+        refused(&case_a(&[(15, line)]), "R,6,15,0");
+    }
+}
+
+#[test]
+fn a_letter_that_is_not_the_methods() {
+    refused(&case_a(&[(15, "D,2")]), "R,20,15,0");
+    for line in ["E,1,0", "E,1,1", "E,1,2"] {
+        refused(&case_a(&[(15, line)]), "R,20,15,0");
+    }
+    // Whatever follows it, and if nothing does.
+    refused(&case_a(&[(14, "E,0,0")]), "R,20,14,0");
+    refused(&with_nodes(&["E,0,0"]), "R,20,14,0");
+    refused(&with_nodes(&["D,0", "E,1,0", "L,0,1", "L,1,1", "L,2,2"]), "R,20,15,0");
+    refused(&with_nodes(&["D,0", "D,2"]), "R,20,15,0");
+    // An empty method of the goal, on the root's line.
+    let more = [(1, "N,3,3,2,4,3,2,4"), (12, "B,0,0\nM,3,0,0")];
+    refused(&case_a(&[&more[..], &[(14, "D,3")]].concat()), "R,20,15,0");
+    // The first such line is named.
+    refused(&with_nodes(&["D,0", "E,1,0", "D,2", "E,0,0"]), "R,20,15,0");
+}
+
+/// The first line after the whole tree, whatever it holds.
+#[test]
+fn a_surplus_node() {
+    for line in ["L,0,1", "L,1,1", "L,2,2", "D,0", "D,1", "D,2", "E,0,0", "E,1,1", "E,2,0", "E,2,2"] {
+        refused(&with_nodes(&followed_by(&[line])), "R,21,18,0");
+        refused(&with_nodes(&followed_by(&[line, "D,2", line])), "R,21,18,0");
+    }
+    refused(&with_nodes(&followed_by(&followed_by(&[]))), "R,21,18,0");
+    // A root that is whole by itself; each of the others is over.
+    let more = [(1, "N,3,3,2,4,3,2,4"), (12, "B,0,0\nM,3,0,0")];
+    refused(&case_a(&[&more[..], &[(14, "E,3,1")]].concat()), "R,21,16,0");
+}
+
+/// Reading comes first, and so does running: a surplus node that isn't readable or is out of range, a cue that doesn't apply.
+#[test]
+fn a_surplus_node_is_read() {
+    refused(&with_nodes(&followed_by(&["D,3"])), "R,4,18,2");
+    refused(&with_nodes(&followed_by(&["L,2,3"])), "R,4,18,3");
+    refused(&with_nodes(&followed_by(&["E,2,3"])), "R,4,18,3");
+    refused(&with_nodes(&followed_by(&["D,02"])), "R,3,18,2");
+    refused(&with_nodes(&followed_by(&["O,0,1"])), "R,3,18,1");
+    refused(&with_nodes(&followed_by(&["D,2"])).replace("P,1,2", "P,2,1"), "R,5,13,1");
+    // A line more than the header says is no node.
+    refused(&(case_a(&[]) + "D,2\n"), "R,3,18,1");
+}
+
+/// 21 comes after every 8 of earlier nodes, and after their other faults, and before 9.
+#[test]
+fn a_surplus_node_and_positions() {
+    for over in ["L,2,2", "D,2", "E,1,0"] {
+        refused(&with_nodes(&["D,0", "E,2,0", "L,1,1", "L,2,1", over]), "R,8,17,1");
+        refused(&with_nodes(&["D,0", "E,2,0", "L,1,2", "L,2,2", over]), "R,8,16,2");
+        refused(&with_nodes(&["D,0", "D,2", "L,1,1", "L,2,2", over]), "R,20,15,0");
+        refused(&with_nodes(&["D,0", "E,2,0", "L,2,2", "L,2,2", over]), "R,6,16,0");
+    }
+    let unclaimed =
+        |nodes: &[&str]| with_nodes(nodes).replace("P,1,2", "P,1,2,1").replace("3,3,2,3,3,2", "3,3,2,3,3,3");
+    refused(&unclaimed(&followed_by(&[])), "R,9,13,3");
+    for over in ["L,1,3", "L,1,1", "D,2", "E,2,3"] {
+        refused(&unclaimed(&followed_by(&[over])), "R,21,18,0");
+    }
+}
+
+/// One past the last line, ahead of 9, and after every fault of the nodes that there are.
+#[test]
+fn nodes_over_too_soon() {
+    for (count, line) in [(1, 15), (2, 16), (3, 17)] {
+        refused(&with_nodes(&followed_by(&[])[..count]), &format!("R,22,{line},0"));
+    }
+    refused(&with_nodes(&["D,0", "D,1"]), "R,22,16,0");
+    refused(&with_nodes(&["D,0", "E,2,0", "L,1,2"]), "R,8,16,2");
+    refused(&with_nodes(&["D,0", "E,2,0", "L,2,2"]), "R,6,16,0");
+    refused(&with_nodes(&["D,0", "E,1,0"]), "R,20,15,0");
+    refused(&with_nodes(&["D,0", "E,2,0"]).replace("P,1,2", "P,2,1"), "R,5,13,1");
+    // Fewer lines than the header says are no matter of the walk.
+    refused(&case_a(&[(17, "")]), "R,3,17,0");
+}
+
+/// A chain of so many D lines, and these lines on the levels below it, where the task t is expected. Methods 0 to 3 are of t: with the
+/// subtask t, empty, with action 0, with action 0 and t. Methods 4 and 5 are of another task: empty, and with action 0. The plan is
+/// actions 0, 1, 0.
+fn chain(count: usize, lines: &[&str]) -> String {
+    let actions = "A,0,0,0,0\n".repeat(2);
+    let methods = "M,2,1,2,0\nM,2,0,0\nM,2,1,0,0\nM,2,2,0,2,0\nM,3,0,0\nM,3,1,0,0\n";
+    let below: String = lines.iter().map(|line| format!("{line}\n")).collect();
+    let nodes = count + lines.len();
+    format!("N,0,2,2,6,2,3,{nodes}\nI,0\n{actions}{methods}P,0,1,0\n{}{below}", "D,0\n".repeat(count))
+}
+
+/// This number on the line of a level, where each has one.
+fn on_level(number: u32, level: u32) -> String {
+    format!("R,{number},{},0", 11 + level)
+}
+
+/// On level 65 a node is tried for its task, its letter and its level, in this order, and level 65 may lack its line.
+#[test]
+fn order_on_level_65() {
+    for line in ["L,0,1", "L,1,2", "L,1,1", "D,4", "D,5", "E,4,0", "E,5,0"] {
+        refused(&chain(64, &[line]), &on_level(6, 65));
+    }
+    for line in ["D,1", "E,0,0", "E,2,0", "E,3,3"] {
+        refused(&chain(64, &[line]), &on_level(20, 65));
+        refused(&chain(64, &[line, "D,1"]), &on_level(20, 65));
+    }
+    for line in ["D,0", "D,2", "D,3", "E,1,0", "E,1,3"] {
+        refused(&chain(64, &[line]), &on_level(7, 65));
+        refused(&chain(64, &[line, "L,0,1"]), &on_level(7, 65));
+    }
+    refused(&chain(64, &[]), &on_level(22, 65));
+}
+
+/// A leaf on level 65: another action is 6, any position is 7, ahead of 8.
+#[test]
+fn a_leaf_on_level_65() {
+    for line in ["L,1,2", "L,1,1", "D,2", "D,4", "E,4,0", "E,5,0"] {
+        refused(&chain(63, &["D,2", line]), &on_level(6, 65));
+    }
+    for line in ["L,0,1", "L,0,2", "L,0,3"] {
+        refused(&chain(63, &["D,2", line]), &on_level(7, 65));
+    }
+    refused(&chain(63, &["D,2"]), &on_level(22, 65));
+    // With a leaf of the root's beside the chain, on line 13: its own fault comes first, and it claims a position.
+    let beside = |leaf: &str, last: &str| {
+        let lines = [&["D,3", leaf], &["D,0"; 62][..], &["D,2", last]].concat();
+        chain(0, &lines)
+    };
+    refused(&beside("L,0,1", "L,0,1"), &on_level(7, 66));
+    refused(&beside("L,0,2", "L,0,1"), "R,8,13,2");
+    refused(&beside("L,0,2", "D,1"), "R,8,13,2");
+    refused(&beside("L,0,1", "D,1"), &on_level(6, 66));
+}
+
+/// On level 64 nothing has changed but the numbers.
+#[test]
+fn level_64() {
+    let without_cues = chain(63, &["E,1,0"]).replace("P,0,1,0", "P").replacen(",3,64\n", ",0,64\n", 1);
+    assert_eq!(checked(without_cues.as_bytes()), "Y,0,64");
+    refused(&chain(63, &["E,1,0"]), "R,9,11,1");
+    refused(&chain(63, &["E,1,0", "D,1"]), &on_level(21, 65));
+    for (line, number) in [("D,1", 20), ("E,2,0", 20), ("D,4", 6), ("E,4,0", 6), ("L,0,1", 6)] {
+        refused(&chain(63, &[line]), &on_level(number, 64));
+    }
+    refused(&chain(63, &[]), &on_level(22, 64));
+    refused(&chain(62, &["D,2", "L,0,2"]), "R,8,75,2");
+    refused(&chain(62, &["D,2", "L,0,1", "E,5,0"]), &on_level(21, 65));
+    refused(&chain(62, &["D,3", "L,0,2", "E,1,0"]), "R,8,75,2");
+    refused(&chain(62, &["D,3", "L,0,3"]), &on_level(22, 65));
+}
+
+// ---------------------------------------------------------------- steps
 
 /// The answer of both renderings, and the state that they leave.
 fn stepped(state: [u64; 8], sets: [[u64; 8]; 4]) -> (Stepped, [u64; 8]) {

@@ -1,5 +1,5 @@
 #!/usr/bin/env python3
-"""Document 01, with Cards 1 to 6 of document 02, rendered a second time, as naively as it can be
+"""Document 01, with Cards 1 to 7 of document 02, rendered a second time, as naively as it can be
 said, to cross-check plain.rs.
 
 Sets of ints, fractions for half indexes, the text cut at line feeds and commas, a tree of
@@ -31,7 +31,7 @@ PLAIN = re.compile(rb"0|[1-9][0-9]*")
 
 # How many cards have landed; a state's words and the most propositions; the most cues; what is asked
 # of the lent lists.
-LANDED = 6
+LANDED = 7
 WORDS = 8
 PROPOSITIONS = 64 * WORDS
 CUES = 1000
@@ -247,27 +247,23 @@ class Tree:
             yield from subtree.preorder()
 
 
-def fits(case, node, task):
-    letter, label = node[0], node[1]
-    if not case.is_compound(task):
-        return letter == "L" and label == task
-    if letter == "L":
-        return False
-    owner, subtasks, _ = case.methods[label]
-    return owner == task and (letter == "D") == (len(subtasks) > 0)
-
-
 def walk(case):
     left = list(case.nodes)
     claimed = set()
 
     def walk_node(task, level):
+        # Nodes over too soon.
         if not left:
-            raise Refused(6, case.nodes[-1][3] + 1, 0)
+            raise Refused(22, case.nodes[-1][3] + 1, 0)
         node = left[0]
         letter, label, place, line = node
-        if not fits(case, node, task):
+        # The node's own task, and the subtasks of its method, if it has one.
+        own, subtasks = (label, None) if letter == "L" else case.methods[label][:2]
+        if own != task:
             raise Refused(6, line, 0)
+        # A D line with an empty method or an E line with one that isn't.
+        if letter == "D" and subtasks == [] or letter == "E" and subtasks != []:
+            raise Refused(20, line, 0)
         if level == 65:
             raise Refused(7, line, 0)
         if letter == "L":
@@ -275,12 +271,12 @@ def walk(case):
                 raise Refused(8, line, place)
             claimed.add(place)
         left.pop(0)
-        subtasks = case.methods[label][1] if letter == "D" else []
-        return Tree(node, line, [walk_node(subtask, level + 1) for subtask in subtasks])
+        return Tree(node, line, [walk_node(subtask, level + 1) for subtask in subtasks or []])
 
     root = walk_node(case.goal, 1)
+    # A surplus node, whatever its line holds.
     if left:
-        raise Refused(6, left[0][3], 0)
+        raise Refused(21, left[0][3], 0)
     unclaimed = set(range(1, case.k + 1)) - claimed
     if unclaimed:
         raise Refused(9, case.plan_line, min(unclaimed))
@@ -404,9 +400,9 @@ def tidy(text):
 
 def find_gaps(text, states_len, nodes_len, work_len):
     """The call that finds the gaps: answer, states and nodes, flat."""
-    # 01's checks down to 9: of the check's refusals all but those of the constraints.
+    # 01's checks down to 9, with 20, 21 and 22: of the check's refusals all but those of the constraints.
     answer, _, _ = call(text, states_len, nodes_len, work_len, True)
-    if 1 <= answer[0] <= 9:
+    if answer[0] not in (0, 10, 11, 12, 13):
         return answer + (0,), [], []
     lines = text.decode().splitlines()
     empty = [i for i, line in enumerate(lines) if line.startswith("E")]
@@ -617,15 +613,20 @@ def printed_step(sets):
 
 
 def compare_cases(folder):
+    """The answers are 01's: what was 6 there may be 20, 21 or 22 since Card 7."""
     cases = sorted(Path(folder).glob("*.case"))
-    differing = 0
+    differing = finer = 0
     for case in cases:
         answer = printed(call(case.read_bytes(), STATES, NODES, WORK, True)[0])
         expected = case.with_suffix(".expect").read_text()
-        if answer != expected:
+        if answer == expected:
+            continue
+        print(f"{case.name}: {answer!r}, expected {expected!r}")
+        if answer in [expected.replace("R,6,", f"R,{number},") for number in (20, 21, 22)]:
+            finer += 1
+        else:
             differing += 1
-            print(f"{case.name}: {answer!r}, expected {expected!r}")
-    print(f"{len(cases)} cases, {differing} differences")
+    print(f"{len(cases)} cases, {differing} differences, {finer} answers finer than 01's 6")
     return differing
 
 

@@ -17,7 +17,7 @@ use std::fs::{read, read_to_string};
 use std::path::{Path, PathBuf};
 
 /// How many cards have landed.
-const LANDED: u32 = 6;
+const LANDED: u32 = 7;
 
 /// The calls of one rendering.
 struct Rendering {

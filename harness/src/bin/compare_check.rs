@@ -1,6 +1,6 @@
 //! RUSTFLAGS="-L native=target/staticlib" cargo run --release --offline --features linked --bin compare_check -- COUNT SEED
 //!
-//! Compares the linked check call with the plain one.
+//! Compares the linked check call with the plain one, and shows how often each answer came up.
 
 use harness::compare;
 

@@ -1,12 +1,10 @@
-//! Compares the fast rendering with the clear one, all calls or one (check, replay, write, gaps, import, step), and shows how often
-//! each answer came up.
+//! Compares the fast rendering with the clear one, all calls or one (check, replay, write, gaps, import, step).
 //!
 //! compare_plain COUNT SEED [CALL]
 
 use harness::compare::{self, Call, FindCall, ImportCall, WriteCall};
 use harness::fast;
 use harness::gen::forms::Texts;
-use std::collections::BTreeMap;
 
 fn main() {
     let check: Call = |text, lists, lengths| {
@@ -36,18 +34,12 @@ fn main() {
         }
         println!("{call}");
         match call {
-            "check" => show(compare::run(compare::PLAIN_CHECK, check, "fast")),
-            "replay" => show(compare::run(compare::PLAIN_REPLAY, replay, "fast")),
-            "write" => show(compare::run_write(compare::PLAIN_WRITE, write, "fast")),
-            "gaps" => show(compare::run_find(compare::PLAIN_FIND, find, "fast")),
-            "import" => show(compare::run_import(compare::PLAIN_IMPORT, import, "fast")),
+            "check" => compare::run(compare::PLAIN_CHECK, check, "fast"),
+            "replay" => compare::run(compare::PLAIN_REPLAY, replay, "fast"),
+            "write" => compare::run_write(compare::PLAIN_WRITE, write, "fast"),
+            "gaps" => compare::run_find(compare::PLAIN_FIND, find, "fast"),
+            "import" => compare::run_import(compare::PLAIN_IMPORT, import, "fast"),
             _ => compare::run_step(fast::step, "fast"),
         }
-    }
-}
-
-fn show(answers: BTreeMap<u32, u64>) {
-    for (number, times) in answers {
-        println!("{number:>6}: {times:>8}");
     }
 }

@@ -1,4 +1,4 @@
-//! The walk over the records: numbers 6 to 9.
+//! The walk over the records: numbers 6 to 9 and 20 to 22.
 
 use super::case::{stretch, Case, Method};
 use super::{refuse, Checked, Node, CUES};
@@ -54,7 +54,7 @@ struct Walk<'a> {
     next_span: usize,
 }
 
-/// Walks the tree and completes the records: numbers 6 to 9. The spans of each node's subtasks are kept node by node;
+/// Walks the tree and completes the records: numbers 6 to 9 and 20 to 22. The spans of each node's subtasks are kept node by node;
 /// those walked are fewer than 3,000, those still due at most 32 on each of 64 levels.
 pub fn walk(case: &Case, nodes: &mut [Node], spans: &mut [u32]) -> Checked<()> {
     let Case { methods, subtasks, plan, .. } = case;
@@ -62,7 +62,7 @@ pub fn walk(case: &Case, nodes: &mut [Node], spans: &mut [u32]) -> Checked<()> {
     let mut walk = Walk { methods, subtasks, plan, claimed, nodes, spans, first_line, next: 0, next_span: 0 };
     walk.node(case.goal, 1)?;
     if walk.next < walk.nodes.len() {
-        return refuse(6, case.node_line(walk.next), 0);
+        return refuse(21, case.node_line(walk.next), 0);
     }
     if let Some(before) = walk.claimed[..plan.len()].iter().position(|claimed| !claimed) {
         return refuse(9, case.plan_line(), before + 1);
@@ -76,7 +76,7 @@ impl Walk<'_> {
     fn node(&mut self, task: u16, level: usize) -> Checked<Span> {
         let (at, line) = (self.next, self.first_line + self.next);
         let Some(&node) = self.nodes.get(at).filter(|node| self.fits(node, task)) else {
-            return refuse(6, line, 0);
+            return self.misfit(task, line);
         };
         if level > 64 {
             return refuse(7, line, 0);
@@ -103,6 +103,19 @@ impl Walk<'_> {
         }
         let method = &self.methods[node.label as usize];
         method.task == task && method.subtasks.is_empty() == (node.letter == 2)
+    }
+
+    /// Refuses the next node, which doesn't fit: there is none (22), it has the task that is expected, but the wrong letter for its method
+    /// (20), or it is of another task (6).
+    #[cold]
+    #[inline(never)]
+    fn misfit(&self, task: u16, line: usize) -> Checked<Span> {
+        let number = match self.nodes.get(self.next) {
+            None => 22,
+            Some(node) if node.letter != 3 && self.methods[node.label as usize].task == task => 20,
+            Some(_) => 6,
+        };
+        refuse(number, line, 0)
     }
 
     /// Walks the subtasks of a D node, on the next level; completes its record.

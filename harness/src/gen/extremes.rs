@@ -528,6 +528,26 @@ fn over_limits() -> Vec<(&'static str, Vec<u8>)> {
     ]
 }
 
+/// The last task of a tree of 3,000 nodes lacks a node, or has three over; and level 65 is due, but there is no line for it.
+fn bad_ends() -> Vec<(&'static str, Vec<u8>)> {
+    let whole = three_thousand(10, 4, 6);
+    let last = whole.lines.iter().rposition(|line| matches!(line, Line::D(2))).expect("the last section");
+    let mut lacking = whole.clone();
+    lacking.lines[last] = Line::D(1);
+    let mut surplus = whole;
+    let fewer = surplus.methods[2].subtasks[1..].to_vec();
+    surplus.lines[last] = Line::D(surplus.methods.len() as u32);
+    surplus.methods.push(method(surplus.methods[2].task, fewer));
+    let mut deep = levels_64();
+    deep.goal = 2;
+    deep.lines = vec![Line::D(3); 64];
+    vec![
+        ("3000 nodes, one lacking", lacking.text()),
+        ("3000 nodes, three over", surplus.text()),
+        ("65th level lacking", deep.text()),
+    ]
+}
+
 /// Every case of this file, by name.
 pub fn all() -> Vec<(&'static str, Vec<u8>)> {
     let at_limits = three_thousand(1_024, 1_024, 2_048);
@@ -564,5 +584,6 @@ pub fn all() -> Vec<(&'static str, Vec<u8>)> {
         ("line feed", b"\n".to_vec()),
     ];
     cases.extend(over_limits());
+    cases.extend(bad_ends());
     cases
 }
