@@ -1,4 +1,6 @@
 // What the programs of stored cases print of an answer: its line, the records that come with it from their columns, and the text put out.
+#![tactic(auto)]
+
 ghost use Rattle.std.specs.Prelude.{◌≤◌, ◌<◌, length};
 
 use libc::STDOUT_FILENO;

@@ -1,4 +1,6 @@
 // What the programs of stored cases with lists of given lengths share: a file and a number among a program's arguments, and how much of a list it lends.
+#![tactic(auto)]
+
 ghost use Rattle.std.specs.Prelude.{◌≡◌, ◌≤◌};
 ghost use Rattle.io.specs.Counts.{IsPrefixLen};
 

@@ -12,7 +12,7 @@ use parts::{is_either, keeps_after, keeps_before, keeps_between, sign_of};
 
 // A constraint's letter and proposition; the cue that its end part ends at, at least, and the positions of the empty tasks there; the same of
 // its start part's start, at most.
-#[derive(Drop)]
+#[derive(Clone, Copy)]
 pub struct Entry {
     pub letter: u8,
     pub p: u32,

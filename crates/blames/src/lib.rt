@@ -1,5 +1,7 @@
 // Constraints as entries that tell whatever the gaps are (02, Card 4): each in a bucket of its last position among the empty tasks, so that a
 // choice is tested from the position that changed on, and a broken entry names the positions because of which the choice fails.
+#![tactic(auto)]
+
 mod entry;
 mod pool;
 

@@ -22,14 +22,14 @@ pub const POOL: usize = 6 * POSITIONS * BUCKET;
 pub const ORDER: usize = POSITIONS * BUCKET;
 
 // What a test says of a choice: nothing against it; or the set of positions because of which it fails.
-#[derive(Drop)]
+#[derive(Clone, Copy)]
 pub enum Cause {
     None,
     Because { set: u32 },
 }
 
 // Which slot is broken, if one is, and in which turn it was tried.
-#[derive(Drop)]
+#[derive(Clone, Copy)]
 enum Hit {
     None,
     At { slot: usize, turn: usize },

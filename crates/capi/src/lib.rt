@@ -1,4 +1,6 @@
 // The calls for C and Rust.
+#![tactic(auto)]
+
 ghost use Rattle.std.specs.Prelude.{◌≡◌, length};
 ghost use Rattle.rules.specs.State.{step, Traced};
 ghost use Rattle.rules.specs.Demands.{borrowed, lent_by, Demand1, Demand2, Demand3, ReplayDemand1};
@@ -95,7 +97,7 @@ pub extern "C" fn cuecheck_import(
 
 // What the step call returns: 1 if the action applies and 0 if not, and for the trace which words were computed, word w as bit w.
 #[repr(C)]
-#[derive(Drop)]
+#[derive(Clone, Copy)]
 pub struct Stepped {
     pub applied: u32,
     pub computed: u32,

@@ -1,5 +1,7 @@
 // The choices of gaps in dictionary order (02, Card 4), from one to the next that may be accepted: a choice fails because of the gaps of some
 // empty tasks, so all choices with the same gaps there are passed over, and what was learnt of each gap is kept.
+#![tactic(auto)]
+
 ghost use Rattle.std.specs.Prelude.{◌≡◌, ◌++◌, ◌-◌, ◌≤◌, min, length, take, replicate};
 ghost use Rattle.rules.specs.Gaps.{power, Within};
 ghost use Rattle.choices.specs.Searching.{place, next_of, advanced};

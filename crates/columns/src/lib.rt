@@ -1,6 +1,8 @@
 // Whether a proposition is in each of several states, or in none (01, "Indexes": between; 02, Card 1), many at a time: the column of p has
 // bit l where state l does not have p, 64 to a word, and a last word for each sign that sums up the others. It is built when a long stretch
 // of states is first asked about, and serves both signs.
+#![tactic(auto)]
+
 ghost use Rattle.std.specs.Prelude.{◌≡◌, true, not, ℕ, ◌+◌, ◌-◌, ◌*◌, ◌/◌, ◌≤◌, ◌<◌, eqb, length};
 ghost use Rattle.rules.specs.State.{word_count, bit, member, every};
 ghost use Rattle.rules.specs.declared.Sign.TheVariants.{Positive};

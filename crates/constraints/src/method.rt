@@ -19,14 +19,14 @@ use parts::{is_either, keeps};
 use rules::Answer;
 
 // Whether all constraints hold, or the answer for the first broken one.
-#[derive(Drop)]
+#[derive(Clone, Copy)]
 pub enum Kept {
     All,
     Broken { answer: Answer },
 }
 
 // A constraint's line: its letter, its numbers, and the place after it.
-#[derive(Drop)]
+#[derive(Clone, Copy)]
 pub struct Line {
     pub letter: u8,
     pub first: u32,

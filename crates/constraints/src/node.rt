@@ -25,7 +25,7 @@ pub fn names_method(letter: u32) -> bool
 }
 
 // A node of the claimed tree: its number, that of its line, and the line's letter and first number.
-#[derive(Drop)]
+#[derive(Clone, Copy)]
 struct Named {
     n: u32,
     line: u32,

@@ -1,4 +1,6 @@
 // The check call on one case from standard input: prints `Y,k,n` or `R,number,line,item` and a line feed.
+#![tactic(auto)]
+
 use libc::STDIN_FILENO;
 
 // The buffer holds one byte more than a case may have, so that a longer input is not cut to a fitting length.

@@ -1,5 +1,7 @@
 // The replay call on one case from standard input: prints `Y,k,n` or `R,number,line,item` and a line feed. It reads the case and runs its plan,
 // rows 1 to 5 of 01's table; the tree and the constraints are not judged here.
+#![tactic(auto)]
+
 use libc::STDIN_FILENO;
 
 // The buffer holds one byte more than a case may have, so that a longer input is not cut to a fitting length.

@@ -17,7 +17,7 @@ use rules::Header;
 
 // A node whose constraints are entered: its number, where its line stands, the line's letter and first number, and how many empty tasks come
 // before it.
-#[derive(Drop)]
+#[derive(Clone, Copy)]
 struct Visited {
     n: u32,
     at: usize,

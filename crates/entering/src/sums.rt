@@ -9,7 +9,7 @@ ghost use Rattle.entering.specs.Trees.{TreesStand, PartsSaid};
 use gaps::Sum;
 
 // What a part of a task says of its span: the least and the greatest cue below it, and the positions of the empty tasks there.
-#[derive(Drop)]
+#[derive(Clone, Copy)]
 pub struct Part {
     pub low: u32,
     pub high: u32,

@@ -1,5 +1,7 @@
 // The fields of a case that was read: one number for each field of its text, in order. Every phase after reading takes its numbers from
 // here, by the places in the directory, and sees no byte of the text.
+#![tactic(auto)]
+
 ghost use Rattle.std.specs.Prelude.{◌≡◌};
 ghost use Rattle.fields.specs.Directory.{node_size};
 

@@ -1,5 +1,7 @@
 // The find-the-gaps call (02, Card 4) over plain lists: the rows of the check down to 9, then the choices of gaps in dictionary order, and of the
 // first with which the text would be accepted what its check leaves. The columns of the node records are left in the work space.
+#![tactic(auto)]
+
 ghost use Rattle.std.specs.Prelude.{◌≡◌, true, List, ◌+◌, ◌≤◌, ◌<◌, min, length, replicate};
 ghost use Rattle.rules.specs.declared.Answer.TheVariants.{NoChoice};
 ghost use Rattle.rules.specs.Case.{Case, Valued};
@@ -34,14 +36,14 @@ const DIGITS: usize = 57;
 const CHOICES: u32 = 1000000;
 
 // What the call answers, and how many choices it tried, 0 for a refusal.
-#[derive(Drop)]
+#[derive(Clone, Copy)]
 pub struct Discovery {
     pub answer: Answer,
     pub tried: u32,
 }
 
 // What one turn of the search comes to: a choice whose text is accepted; one that is refused; or none is left.
-#[derive(Drop)]
+#[derive(Clone, Copy)]
 enum Attempt {
     Accepted { answer: Answer },
     Failed,

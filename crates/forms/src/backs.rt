@@ -14,7 +14,7 @@ use rules::{Answer, Header};
 use shapes::Back;
 
 // What a line after the root line comes to: a compound line is taken, and where the next line starts; the last line; or a refusal.
-#[derive(Drop)]
+#[derive(Clone, Copy)]
 enum After {
     Taken { next: usize },
     End { next: usize },
@@ -99,7 +99,7 @@ fn take_after(
 }
 
 // The lines after the root line: how many lines of both sorts there are, and where the text goes on; or a refusal.
-#[derive(Drop)]
+#[derive(Clone, Copy)]
 pub enum Backs {
     Read { count: usize, next: usize },
     Refused { answer: Answer },

@@ -12,7 +12,7 @@ use rules::{Answer, Header};
 use shapes::Front;
 
 // What a line up to the root line comes to: an action line is taken, and where the next line starts; the root line; or a refusal.
-#[derive(Drop)]
+#[derive(Clone, Copy)]
 enum Ahead {
     Taken { next: usize },
     Root { id: u32, next: usize },
@@ -66,7 +66,7 @@ fn take_ahead(
 
 // The lines up to the root line, which come after the first: how many action lines there are, the root's id, and where the next line starts; or a
 // refusal.
-#[derive(Drop)]
+#[derive(Clone, Copy)]
 pub enum Fronts {
     Read { cues: usize, root: u32, next: usize },
     Refused { answer: Answer },

@@ -1,5 +1,7 @@
 // Reading the competition's plan form (02, Card 6), line by line: 17, "first on each line", then 18, "next on the line". What each line defines goes to lists: its id, its
 // action or method, and of a compound line where its subtask ids stand.
+#![tactic(auto)]
+
 ghost use Rattle.std.specs.Prelude.{◌≡◌, ◌<◌, length};
 ghost use Rattle.rules.specs.Case.{Case};
 ghost use Rattle.rules.specs.Naming.{Names};
@@ -18,7 +20,7 @@ use rules::{Answer, Header};
 pub const LINES: usize = 3000;
 
 // A form that is read: how many action lines it has, how many lines of both sorts, and the root's id; or the answer that refuses it.
-#[derive(Drop)]
+#[derive(Clone, Copy)]
 pub enum FormRead {
     Form {
         cues: usize,

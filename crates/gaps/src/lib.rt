@@ -1,5 +1,7 @@
 // The E lines of a case among its fields (02, Card 4): how many there are, what their gaps add to the text's length, other gaps put in their
 // place; and what node lines say of a span whatever the gaps are.
+#![tactic(auto)]
+
 ghost use Rattle.std.specs.Prelude.{◌≡◌, List, ◌++◌, map, ℕ, ◌+◌, ◌-◌, ◌<◌, ◌≤◌, min, max, length, take, drop};
 ghost use Rattle.rules.specs.declared.Header.{Header};
 ghost use Rattle.rules.specs.State.{bit};
@@ -94,7 +96,7 @@ pub fn put_gaps(fields: &mut [u32], nodes: usize, count: usize, choice: &[u32])
 }
 
 // What so many node lines say of their span: the least and the greatest cue, how many empty tasks there are, and where the next line stands.
-#[derive(Drop)]
+#[derive(Clone, Copy)]
 pub struct Sum {
     pub low: u32,
     pub high: u32,

@@ -2,6 +2,8 @@
 // the state list, the node list and the work space. All that is lent comes in dirty. Prints the words and the answer of each, and then the records
 // of what was found, from their columns. What it prints is held against the stored expectations, which come from the papers and from two
 // renderings that try every choice.
+#![tactic(auto)]
+
 ghost use Rattle.std.specs.Prelude.{◌+◌, ◌≤◌};
 
 use finder::Discovery;

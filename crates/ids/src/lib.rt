@@ -1,5 +1,7 @@
 // A table of ids (02, Card 6): an entry is the place of an id in a list, and the table finds the first entry with each id. So an id "defined
 // twice" is known by the first line that defines it, and one "never defined" is not found.
+#![tactic(auto)]
+
 ghost use Rattle.std.specs.Prelude.{◌≡◌, ℕ, suc, ◌<◌, ◌≤◌, length, get_or};
 ghost use Rattle.probing.specs.Probing.{look_of, walk, first, Kept};
 ghost use Rattle.ids.specs.Ids.{same_id, hash_id};

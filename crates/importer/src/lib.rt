@@ -1,5 +1,7 @@
 // The import call (02, Card 6) over plain lists: the case, the name list and the form become a text in the lent output, and that text goes through
 // the find-the-gaps call. The columns of the node records are left in the work space.
+#![tactic(auto)]
+
 ghost use Rattle.std.specs.Prelude.{◌≡◌, List, ℕ, ◌≤◌, length, replicate};
 ghost use Rattle.rules.specs.Verdict.{check_lists, filled};
 ghost use Rattle.rules.specs.Gaps.{before_choices, Limited};
@@ -15,7 +17,7 @@ use made::Made;
 use rules::Answer;
 
 // What the call answers, how many choices of gaps it tried and how long the made text is, both 0 for a refusal.
-#[derive(Drop)]
+#[derive(Clone, Copy)]
 pub struct Outcome {
     pub answer: Answer,
     pub tried: u32,

@@ -17,7 +17,7 @@ const FEW_LINKS: usize = 8192;
 const LINKS: usize = 96000;
 
 // What became of the form: its text was put out, so many bytes; or the answer that refuses it.
-#[derive(Drop)]
+#[derive(Clone, Copy)]
 pub enum Made {
     Text { length: u32 },
     Refused { answer: Answer },

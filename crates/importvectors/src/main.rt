@@ -3,6 +3,8 @@
 // Prints the words and the answer of each; then the records of what was found, from their columns, and what was put out; and last, if any byte of the
 // output behind that is not zero, the place of the first. What it prints is held against the stored expectations, which come from the papers and
 // from two renderings that search whole lists and try every choice.
+#![tactic(auto)]
+
 ghost use Rattle.std.specs.Prelude.{◌+◌, ◌≤◌};
 
 use importer::Outcome;

@@ -1,19 +1,21 @@
 // Indexes and spans (01, "Indexes"): "Doubled indexes and state numbers are counted apart: one becomes the other only through the
 // rounding below." So each has a type of its own, and the two roundings are the only functions from one to the other.
+#![tactic(auto)]
+
 ghost use Rattle.std.specs.Prelude.{◌≡◌, [], ◌∷◌, ◌+◌, ◌-◌, ◌<◌, ◌≤◌, min, max, ltb};
 ghost use Rattle.rules.specs.Index.{of_cue, of_gap, at, hull, rounded_up, rounded_down, c, f, is_before};
 ghost use Rattle.index.specs.Spans.{index_in, doubled, state_of, span_of};
 
 // "The program carries twice the index: cue i is 2i, gap g is 2g + 1."
-#[derive(Drop)]
+#[derive(Clone, Copy)]
 pub struct Doubled(u32);
 
 // The number of a state: state 0 is the initial one, state i follows cue i.
-#[derive(Drop)]
+#[derive(Clone, Copy)]
 pub struct StateNumber(u32);
 
 // Where a task starts and ends.
-#[derive(Drop)]
+#[derive(Clone, Copy)]
 pub struct Span {
     pub start: Doubled,
     pub end: Doubled,

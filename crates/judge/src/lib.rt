@@ -1,5 +1,7 @@
 // The core of the check call, over plain lists: the rows of 01's table in their order. What it leaves in the work space are the columns of
 // the node records, which the call then gathers into the node list.
+#![tactic(auto)]
+
 ghost use Rattle.std.specs.Prelude.{◌≡◌, List, ℕ, ◌<◌, length, replicate};
 ghost use Rattle.rules.specs.Case.{Case};
 ghost use Rattle.rules.specs.Verdict.{check, check_lists, answer_of, states_after};
@@ -22,7 +24,7 @@ use tree::{MARKS, SUBTASKS, TreeWalk, Unclaimed};
 const SMALL: usize = 2048;
 
 // A case that was read: its header, the number of its P line, and where its P line and its first node line stand among the fields.
-#[derive(Drop)]
+#[derive(Clone, Copy)]
 pub struct Opened {
     pub header: Header,
     pub plan_line: u32,
@@ -31,7 +33,7 @@ pub struct Opened {
 }
 
 // What the rows from reading to 9 say: the case passes them, or they refuse it.
-#[derive(Drop)]
+#[derive(Clone, Copy)]
 pub enum Opening {
     Case { case: Opened },
     Refused { answer: Answer },
@@ -247,7 +249,7 @@ pub fn judge_lent(text: &[u8], states: &mut [u64], work: &mut [u32]) -> Answer
 }
 
 // What rows 1 and 2 say: nothing is wrong, or what is.
-#[derive(Drop)]
+#[derive(Clone, Copy)]
 pub enum Admission {
     Passed,
     Refused { answer: Answer },

@@ -7,7 +7,7 @@ use crate::range::KNOWN;
 use rules::{Header, PROPOSITIONS};
 
 // A range, as its least and its greatest number: there is none if the least is above the greatest.
-#[derive(Drop)]
+#[derive(Clone, Copy)]
 struct Bounds(u32, u32);
 
 // The numbers below n.

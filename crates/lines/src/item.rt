@@ -11,7 +11,7 @@ use crate::range::{KNOWN, VALUES};
 use text::{Cursor, Field};
 
 // How reading an item ended. A field's number is counted from 1 in its line.
-#[derive(Drop)]
+#[derive(Clone, Copy)]
 pub enum Outcome {
     // The number that was read, or how many members; the number of the field after it, and where that starts.
     Done {
@@ -30,7 +30,7 @@ pub enum Outcome {
 }
 
 // A number that is due: read and in its range; missing or not plain; outside its range.
-#[derive(Drop)]
+#[derive(Clone, Copy)]
 enum Taken {
     Number { value: u32, next: Cursor },
     Bad,

@@ -1,4 +1,6 @@
 // Reading one line of a case by the table of letters (01, "The case text" and rows 3 and 4 of its table): one reader for all letters.
+#![tactic(auto)]
+
 mod bounds;
 mod item;
 mod line;

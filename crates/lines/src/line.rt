@@ -13,7 +13,7 @@ use crate::{item, table};
 use text::{Cursor, Ending, Letter};
 
 // The lines of a case, by what is due there.
-#[derive(Drop)]
+#[derive(Clone, Copy)]
 pub enum Role {
     Header,
     Initial,
@@ -25,7 +25,7 @@ pub enum Role {
 }
 
 // How reading a line ended. A field's number is counted from 1, and 0 is the line itself.
-#[derive(Drop)]
+#[derive(Clone, Copy)]
 pub enum Finish {
     // The line is read: how many fields it has, and where the next one starts.
     Done { fields: usize, next: Cursor },

@@ -1,4 +1,6 @@
 // The ids of a form that was read (02, Card 6): each line's subtasks as links, and the first line that is wrong: "19, [..] after all lines".
+#![tactic(auto)]
+
 ghost use Rattle.std.specs.Prelude.{◌≡◌, List, ℕ, ◌*◌, ◌≤◌, ◌<◌, length, get_or};
 ghost use Rattle.rules.specs.Form.{FormLine};
 ghost use Rattle.probing.specs.Probing.{Kept};
@@ -10,7 +12,7 @@ ghost use Rattle.linking.specs.Linking.{Rooted, MarkedFrom, Joined};
 use probing::Found;
 
 // The link of the root's id, and the number of the first line that is wrong, 0 if none is.
-#[derive(Drop)]
+#[derive(Clone, Copy)]
 pub struct Tied {
     pub root: u32,
     pub line: u32,

@@ -1,5 +1,7 @@
 // The ids of a form's lines (02, Card 6). They may be defined twice, and used before they are defined: so all lines are stored first, and
 // linked afterwards.
+#![tactic(auto)]
+
 ghost use Rattle.std.specs.Prelude.{◌≡◌, Bool, List, [], ◌∷◌, ℕ, suc, ◌+◌, ◌*◌, ◌≤◌, ◌<◌, length, get_or};
 ghost use Rattle.rules.specs.Form.{FormLine};
 ghost use Rattle.probing.specs.Probing.{first, Kept};
@@ -48,7 +50,7 @@ pub fn pair(ids: &[u32], count: usize, slots: &mut [u32], twin: &mut [u32], last
 }
 
 // Where the links of a line end, and whether one of them is none.
-#[derive(Drop)]
+#[derive(Clone, Copy)]
 struct Row {
     end: usize,
     missing: bool,

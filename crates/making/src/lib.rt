@@ -1,6 +1,8 @@
 // The case that a form becomes (02, Card 6), over the fields of the case that came beside it: "a case, whose header k and node count, P and
 // node lines are replaced". The form's lines are plain lists: each line's label, its action or method, and the links of its subtasks, which
 // stand in one list from the line's start up to the next line's. A link is one more than a line's number; 0 leads to no line.
+#![tactic(auto)]
+
 ghost use Rattle.std.specs.Prelude.{◌≡◌, List, [], ◌∷◌, ℕ, ◌+◌, ◌-◌, ◌*◌, ◌≤◌, ◌<◌, length, get_or, take};
 ghost use Rattle.std.proofs.lemmas.List.Edits.{sets};
 ghost use Rattle.rules.specs.Case.{Case};
@@ -27,14 +29,14 @@ const CUES: usize = 6;
 const NODES: usize = 7;
 
 // Node lines that were stored: where they end, and how many there are.
-#[derive(Drop)]
+#[derive(Clone, Copy)]
 pub struct Put {
     pub end: usize,
     pub nodes: u32,
 }
 
 // The same as far as the tree is walked, and how many frames the stack has.
-#[derive(Drop)]
+#[derive(Clone, Copy)]
 struct Walk {
     end: usize,
     nodes: u32,

@@ -1,6 +1,8 @@
 // A table of names (02, Card 6): an entry e is a place of the name list, from starts[e] to before ends[e], and the table finds the first entry
 // with each name. So "a name not listed for that use" is not found, and one "listed again among the tasks or among the methods" is known when
 // "the later line" is added.
+#![tactic(auto)]
+
 ghost use Rattle.std.specs.Prelude.{◌≡◌, ℕ, suc, ◌-◌, ◌<◌, ◌≤◌, length, get_or, take, drop};
 ghost use Rattle.rules.specs.Tokens.{same_bytes};
 ghost use Rattle.probing.specs.Probing.{look_of, walk, first, Kept};

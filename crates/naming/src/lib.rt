@@ -2,6 +2,8 @@
 // the text leaves the place of each name by its number, and a table that finds the number of a name. The answer is that of the definitions of
 // `rules`: "17, line missing, surplus [..] or of another shape, first on each line; 18, a name [..] listed again among the tasks or among the
 // methods (the later line) [..] next on the line [..] item 1 in the name list".
+#![tactic(auto)]
+
 ghost use Rattle.std.specs.Prelude.{◌≡◌, [], ℕ, ◌+◌, ◌<◌, ◌≤◌, ltb};
 ghost use Rattle.rules.specs.Text.{feed_follows};
 ghost use Rattle.rules.specs.Naming.{name_lines, read_names};
@@ -13,28 +15,28 @@ use rules::{Answer, Header};
 use tokens::Plain;
 
 // The names are read; or the answer that refuses the text.
-#[derive(Drop)]
+#[derive(Clone, Copy)]
 pub enum NamesRead {
     Read,
     Refused { answer: Answer },
 }
 
 // A line that lists the due number's name, the bytes from `from` to before `to`, where the line ends; or another line, or none.
-#[derive(Drop)]
+#[derive(Clone, Copy)]
 enum Line {
     Name { from: usize, to: usize },
     Other,
 }
 
 // Where a line is: its number, from 1, and its first byte.
-#[derive(Drop)]
+#[derive(Clone, Copy)]
 struct Spot {
     line: u32,
     at: usize,
 }
 
 // Lines that are read, with where the next one is; or the answer that refuses the text.
-#[derive(Drop)]
+#[derive(Clone, Copy)]
 enum Group {
     Done { next: Spot },
     Refused { answer: Answer },

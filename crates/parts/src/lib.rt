@@ -1,4 +1,6 @@
 // The spans of a task's parts, and the tests of the four kinds of constraint at them (01, "Indexes"; 02, Card 1).
+#![tactic(auto)]
+
 mod spans;
 mod tests;
 

@@ -1,4 +1,6 @@
 // The programs' line: "prints Y,k,n or R,number,line,item and a line feed".
+#![tactic(auto)]
+
 ghost use Rattle.std.specs.Prelude.{◌≡◌, ◌≤◌, length, drop};
 ghost use Rattle.rules.specs.Line.{printed_report};
 ghost use Rattle.replies.specs.Replies.{report_of};

@@ -1,10 +1,12 @@
 // What a table by hash is made of, whatever its keys: open addressing in a lent list. A slot holds an entry and one more, or 0 where it is
 // free; a walk goes from the key's slot to the next, from the last on to slot 0. The table finds the first entry that has a key.
+#![tactic(auto)]
+
 ghost use Rattle.std.specs.Prelude.{◌≡◌, ℕ, ◌<◌, ◌≤◌, get_or};
 ghost use Rattle.probing.specs.Probing.{spot_of, answer};
 
 // What one slot tells: it is free, it holds the entry that has the key, or it holds another.
-#[derive(Drop)]
+#[derive(Clone, Copy)]
 pub enum Look {
     Empty,
     Same(usize),
@@ -12,7 +14,7 @@ pub enum Look {
 }
 
 // A walk from slot to slot: it ends at the key's entry or at a free slot, or it has seen every slot.
-#[derive(Drop)]
+#[derive(Clone, Copy)]
 pub enum Walk {
     Hit(usize),
     Free(usize),
@@ -20,7 +22,7 @@ pub enum Walk {
 }
 
 // The entry that has a key, if there is one.
-#[derive(Drop)]
+#[derive(Clone, Copy)]
 pub enum Found {
     At(usize),
     Nothing,

@@ -1,5 +1,7 @@
 // Which lines of a form are visited from its root (02, Card 6), over plain lists: a walk breadth first. Each line is taken from the queue once,
 // and each of its links is looked at once.
+#![tactic(auto)]
+
 ghost use Rattle.std.specs.Prelude.{◌≡◌, ℕ, ◌≤◌, ◌<◌, length, get_or};
 ghost use Rattle.reaching.specs.Visited.{Graph, Marked};
 ghost use Rattle.reaching.specs.Queued.{Queued, Adds, Names, Among, Follows, Room, Line};

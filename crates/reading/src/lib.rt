@@ -1,5 +1,7 @@
 // Reading a whole case (01, "The case text" and rows 3 and 4 of its table): one pass over the text, line by line, that leaves the fields of the
 // case and a directory of its lines. Each group of lines is one function, whose answer is that of the definitions of `rules`.
+#![tactic(auto)]
+
 ghost use Rattle.std.specs.Prelude.{◌≡◌, ◌≤◌, ◌<◌, length, drop, get_or};
 ghost use Rattle.rules.specs.Table as T;
 ghost use Rattle.rules.specs.Fields.{line_fields};
@@ -18,7 +20,7 @@ use text::Cursor;
 
 // A case that is read: its header, the number of its P line, and where the fields of its I line, its P line and its first node line stand; or
 // the answer that refuses the text.
-#[derive(Drop)]
+#[derive(Clone, Copy)]
 pub enum CaseRead {
     Case {
         header: Header,
@@ -33,7 +35,7 @@ pub enum CaseRead {
 }
 
 // Where a line is: its number, from 1, its first byte, and the place of its first field.
-#[derive(Drop)]
+#[derive(Clone, Copy)]
 struct Spot {
     line: u32,
     start: Cursor,
@@ -41,7 +43,7 @@ struct Spot {
 }
 
 // Lines that are read, with where the next one is; or the answer that refuses the text.
-#[derive(Drop)]
+#[derive(Clone, Copy)]
 enum Group {
     Done { next: Spot },
     Refused { answer: Answer },

@@ -1,4 +1,6 @@
 // The node records as five columns of plain numbers: the last step over the lent work space, before they are gathered into the node list.
+#![tactic(auto)]
+
 ghost use Rattle.std.specs.Prelude.{◌≡◌, List, ℕ, ◌+◌, ◌≤◌, ◌<◌, length};
 ghost use Rattle.rules.specs.Case.{NodeLine};
 ghost use Rattle.fields.specs.Directory.{node_size};

@@ -1,4 +1,6 @@
 // What the exported calls return: structs of numbers, since an exported call cannot return an enum.
+#![tactic(auto)]
+
 ghost use Rattle.std.specs.Prelude.{◌≡◌};
 ghost use Rattle.rules.specs.Verdict.{refusal, reported};
 ghost use Rattle.replies.specs.Replies.{report_of, written_report, found_report, imported_report};
@@ -10,7 +12,7 @@ use writer::Wrote;
 
 // The answer's row of the table: number, line and item, 0 for acceptance; k and n of an acceptance, 0 for a refusal.
 #[repr(C)]
-#[derive(Drop)]
+#[derive(Clone, Copy)]
 pub struct Reply {
     pub number: u32,
     pub line: u32,
@@ -70,7 +72,7 @@ pub fn as_reply(answer: Answer) -> Reply
 
 // The answer's row of the table, as in a reply, and the length of the text that was put out, 0 for a refusal.
 #[repr(C)]
-#[derive(Drop)]
+#[derive(Clone, Copy)]
 pub struct Written {
     pub number: u32,
     pub line: u32,
@@ -106,7 +108,7 @@ pub fn as_written(w: Wrote) -> Written
 
 // The answer's row of the table, as in a reply, and how many choices of gaps were tried, 0 for a refusal.
 #[repr(C)]
-#[derive(Drop)]
+#[derive(Clone, Copy)]
 pub struct Found {
     pub number: u32,
     pub line: u32,
@@ -142,7 +144,7 @@ pub fn as_found(d: Discovery) -> Found
 
 // The answer's row of the table, as in a reply, how many choices of gaps were tried and how long the made text is, both 0 for a refusal.
 #[repr(C)]
-#[derive(Drop)]
+#[derive(Clone, Copy)]
 pub struct Imported {
     pub number: u32,
     pub line: u32,

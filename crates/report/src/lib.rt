@@ -1,5 +1,7 @@
 // The program's line (01, "The check and replay calls"): "prints Y,k,n or R,number,line,item and a line feed". A number's last digit is found
 // first, so the line is written from its end.
+#![tactic(auto)]
+
 ghost use Rattle.std.specs.Prelude.{◌≡◌, [], ◌∷◌, ◌≤◌, ◌<◌, length, drop};
 ghost use Rattle.rules.specs.Line.{printed_report};
 ghost use Rattle.rules.specs.Text.{decimal};

@@ -1,5 +1,7 @@
 // The lent lists (01, "The check and replay calls"): "the state list holds states 0 to k, each written to its own stretch";
 // "the rest is zero"; "Work space is zero after each call."
+#![tactic(auto)]
+
 ghost use Rattle.std.specs.Prelude.{◌≡◌, ◌+◌, ◌*◌, ◌≤◌, length, replicate};
 ghost use Rattle.rules.specs.State.{word_count};
 ghost use Rattle.rules.specs.Constraint.{signed};

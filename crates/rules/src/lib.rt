@@ -1,4 +1,5 @@
 // The types that document 01 lends to its callers; what they mean is in specs/.
+#![tactic(auto)]
 
 // What 01 asks of the lent lists and of a text: "states 0 to k" of at most 1,000 cues, the node records, the work space, the text's bytes. The
 // definitions' state_most, node_need, work_need and text_most.
@@ -14,7 +15,7 @@ pub const TEXT: usize = 65535;
 pub const PROPOSITIONS: u32 = 512;
 
 // The header line's numbers.
-#[derive(Drop)]
+#[derive(Clone, Copy)]
 pub struct Header {
     pub propositions: u32,
     pub actions: u32,
@@ -26,7 +27,7 @@ pub struct Header {
 }
 
 // What a call answers: acceptance, or the first rule broken.
-#[derive(Drop)]
+#[derive(Clone, Copy)]
 pub enum Answer {
     Accepted { cues: u32, nodes: u32 },
     ShortList { list: u32 },
@@ -54,7 +55,7 @@ pub enum Answer {
 }
 
 // What a condition asks of a proposition in a state: that it be true, or that it be false (02, Card 1).
-#[derive(Drop)]
+#[derive(Clone, Copy)]
 pub enum Sign {
     Positive,
     Negative,
@@ -62,7 +63,7 @@ pub enum Sign {
 
 // The record of a node that the check call fills.
 #[repr(C)]
-#[derive(Drop)]
+#[derive(Clone, Copy)]
 pub struct Node {
     pub letter: u32,
     pub label: u32,

@@ -1,4 +1,6 @@
 // Running the plan of a case over its fields (01, "States and cues" and row 5 of the table).
+#![tactic(auto)]
+
 ghost use Rattle.std.specs.Prelude.{◌≡◌, ◌+◌, ◌*◌, ◌≤◌, ◌<◌, length, get_or, replicate};
 ghost use Rattle.rules.specs.State.{word_count};
 ghost use Rattle.rules.specs.Case.{Case};
@@ -14,7 +16,7 @@ use sets::SET_COUNT;
 use state::{State, WORDS};
 
 // Whether every cue applied, or the first that did not: "running: first cue that doesn't apply".
-#[derive(Drop)]
+#[derive(Clone, Copy)]
 pub enum Ran {
     All,
     Stopped { cue: u32 },

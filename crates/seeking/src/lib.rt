@@ -1,5 +1,7 @@
 // The search through the choices of gaps (02, Card 4), in dictionary order: a choice that an entry or the text's length stands against is skipped
 // with all others that fail for the same reason.
+#![tactic(auto)]
+
 ghost use Rattle.std.specs.Prelude.{◌≡◌, Bool, true, List, ℕ, ◌+◌, ◌≤◌, length};
 ghost use Rattle.rules.specs.Gaps.{Within};
 ghost use Rattle.rows.specs.Rows.{in_row};

@@ -1,5 +1,7 @@
 // The lines of the competition's plan form (02, Card 6), one at a time: what each says, or that it has another shape. Each byte is looked at
 // once, but for the first word of a line that starts with no number, which is then compared with `root` or `<==`. `past` is the place past the text's last line feed.
+#![tactic(auto)]
+
 ghost use Rattle.std.specs.Prelude.{◌≡◌, true, ℕ, ltb, get_or};
 ghost use Rattle.rules.specs.Text.{feed_follows};
 ghost use Rattle.tokens.specs.Pieces.{ends_piece};
@@ -9,7 +11,7 @@ use tokens::Plain;
 
 // A line up to the root line: an action line, its id and where its name stands; the root line, its id and where the next line starts; or
 // another line, or none.
-#[derive(Drop)]
+#[derive(Clone, Copy)]
 pub enum Front {
     Action { id: u32, from: usize, to: usize },
     Root { id: u32, next: usize },
@@ -18,7 +20,7 @@ pub enum Front {
 
 // A line after the root line: a compound line, its id, where the names of its task and of its method stand, how many subtask ids follow the
 // method's name, and where the next line starts; the last line; or another line, or none.
-#[derive(Drop)]
+#[derive(Clone, Copy)]
 pub enum Back {
     Compound {
         id: u32,
@@ -36,7 +38,7 @@ pub enum Back {
 }
 
 // The ids that a line goes on with, up to its end: how many, and where the next line starts; or something else.
-#[derive(Drop)]
+#[derive(Clone, Copy)]
 pub enum Ids {
     All { count: usize, next: usize },
     Other,

@@ -1,4 +1,6 @@
 // How many fields a line of a case has, by the table of letters that the line reader goes by, and where lines end.
+#![tactic(auto)]
+
 ghost use Rattle.std.specs.Prelude.{◌≡◌, List, ◌+◌, length};
 ghost use Rattle.rules.specs.Table.{Value};
 ghost use Rattle.rules.specs.Case.{Valued};

@@ -1,5 +1,7 @@
 // States and the step of an action (01, "States and cues"): "A state is the set of those that are true", as words: "proposition p is bit
 // (p mod 64) of word (p div 64)".
+#![tactic(auto)]
+
 ghost use Rattle.std.specs.Prelude.{◌≡◌, not, eqb, length};
 ghost use Rattle.rules.specs.State.{member, insert, word, without, applies_word, next_word, every, tabulate, step, word_count, quiet, bits_below};
 ghost use Rattle.state.specs.Action.{action_of};
@@ -9,13 +11,13 @@ ghost use Rattle.state.specs.Words.{widened_action, Steps};
 pub const WORDS: usize = 8;
 
 // A state, or a set of propositions.
-#[derive(Drop)]
+#[derive(Clone, Copy)]
 pub struct State {
     pub words: [u64; WORDS],
 }
 
 // What a step gives: whether the action applies, and the next state, or the state as it came.
-#[derive(Drop)]
+#[derive(Clone, Copy)]
 pub struct Stepped {
     pub ok: bool,
     pub state: State,

@@ -3,6 +3,8 @@
 // comes in dirty. Prints the words and the answer of each; then the row of each state, without the zeros at its end; and last, if any other
 // number of the state list is not zero, the place of the first. What it prints is held against the stored expectations, which come from the
 // papers and two independent renderings.
+#![tactic(auto)]
+
 ghost use Rattle.std.specs.Prelude.{◌+◌, ◌≤◌, length};
 
 use libc::STDOUT_FILENO;

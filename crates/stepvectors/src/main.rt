@@ -2,6 +2,8 @@
 // `forbidden`, `added` and `deleted`, each that word, a blank and eight numbers parted by commas. Prints the line of the case; `Y` or `N` and the
 // words of the state that is left; and `mask` and the number for the words that were computed. Stops where no whole case stands. What it prints is
 // held against the stored expectations, on which two independent renderings agree.
+#![tactic(auto)]
+
 ghost use Rattle.std.specs.Prelude.{◌≤◌, length};
 
 use libc::{STDIN_FILENO, STDOUT_FILENO};
@@ -11,21 +13,21 @@ use state::{State, Stepped, WORDS};
 const MOST: u64 = 18446744073709551615;
 
 // A number, and the place after its digits.
-#[derive(Drop)]
+#[derive(Clone, Copy)]
 struct Number {
     value: u64,
     next: usize,
 }
 
 // The set of a line, and the place after its numbers.
-#[derive(Drop)]
+#[derive(Clone, Copy)]
 struct Line {
     set: State,
     next: usize,
 }
 
 // What the step of a case gives, the words computed, and the place after its numbers.
-#[derive(Drop)]
+#[derive(Clone, Copy)]
 struct Case {
     stepped: Stepped,
     computed: u32,

@@ -1,5 +1,7 @@
 // Sets of up to 32 subtasks, each as one number: bit j for subtask j. A set is gone through lowest member first: "take its lowest
 // subtask, then the rest".
+#![tactic(auto)]
+
 ghost use Rattle.std.specs.Prelude.{◌≡◌, ◌-◌, ◌≤◌, ◌^◌, length};
 ghost use mathlib.Core.List.{head_d, tail};
 ghost use Rattle.subsets.specs.Members.{members_of};

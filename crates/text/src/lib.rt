@@ -1,6 +1,8 @@
 // The fields of a case (01, "The case text"): "Lines end in a line feed; fields are in fixed order, parted by commas, no quoting."
 // Every answer is that of the definitions of `rules`, for any text and any place that a line feed follows: what a scan looks for ends it
 // before the text does, so that no byte costs a test of the text's length. Assumes nothing.
+#![tactic(auto)]
+
 ghost use Rattle.std.specs.Prelude.{◌≡◌, true, false, ℕ, ◌+◌, ◌-◌, ◌≤◌, ltb, length, drop, get_or};
 ghost use Rattle.rules.specs.Text.{is_digit, ends_field, field_of, number_in, number_at, letter_at, ending_at, feed_follows};
 ghost use Rattle.text.specs.Cursor.{cursor, as_field, as_letter, as_ending};
@@ -9,13 +11,13 @@ ghost use Rattle.text.specs.Scan.{closed, continued};
 // A place in the text: "fields are in fixed order, parted by commas, no quoting", so a line is read from left to right, each
 // method giving the field that it read with the cursor for the next. It stands at the start of a line, or at the byte that ended
 // the field read last: a comma there says that a further field comes, a line feed that the line is over.
-#[derive(Drop)]
+#[derive(Clone, Copy)]
 pub struct Cursor {
     pub at: usize,
 }
 
 // What stands where a number is due.
-#[derive(Drop)]
+#[derive(Clone, Copy)]
 pub enum Field {
     Number { value: u32, next: Cursor },
     // A field that is no plain number.
@@ -25,14 +27,14 @@ pub enum Field {
 }
 
 // What stands where a line's letter is due: a field of one byte, or another field.
-#[derive(Drop)]
+#[derive(Clone, Copy)]
 pub enum Letter {
     Byte { byte: u8, next: Cursor },
     Wrong,
 }
 
 // What stands where a line is to end: its line feed, with the start of the next line, or something else.
-#[derive(Drop)]
+#[derive(Clone, Copy)]
 pub enum Ending {
     Line { next: Cursor },
     Surplus,

@@ -16,7 +16,7 @@ use sizes::{line_size, past_lines};
 use sorting::less;
 
 // Whether constraints stand in order; and if so, where the fields after them are.
-#[derive(Drop)]
+#[derive(Clone, Copy)]
 struct Ordered {
     yes: bool,
     next: usize,

@@ -1,6 +1,8 @@
 // The tokens of the two texts that come beside a case (02, Card 6): the piece of a line from a place up to a separator or the line feed, as a
 // plain number, as a name or as a given word. Every answer is that of the definitions of `rules`, for any place that a line feed follows: what
 // a scan looks for ends it before the text does. Assumes nothing.
+#![tactic(auto)]
+
 ghost use Rattle.std.specs.Prelude.{◌≡◌, true, false, ◌+◌, ◌<◌};
 ghost use Rattle.rules.specs.Text.{is_digit, number_in, feed_follows};
 ghost use Rattle.rules.specs.Tokens.{in_name, same_bytes};
@@ -8,7 +10,7 @@ ghost use Rattle.text.specs.Scan.{closed, continued};
 ghost use Rattle.tokens.specs.Pieces.{ends_piece, piece_from, NoneEnds, as_plain, name_end};
 
 // A piece as a plain number, with the place of the byte that ends it; or another piece.
-#[derive(Drop)]
+#[derive(Clone, Copy)]
 pub enum Plain {
     Number { value: u32, next: usize },
     Other,

@@ -10,7 +10,7 @@ use fields::{METHODS_FROM, node_size};
 use rules::Answer;
 
 // What a walk goes by: how many nodes there are, the number of the P line, and where that stands.
-#[derive(Drop)]
+#[derive(Clone, Copy)]
 pub struct Given {
     pub nodes: u32,
     pub line: u32,
@@ -18,21 +18,21 @@ pub struct Given {
 }
 
 // A node's number, from 0, and where its line stands.
-#[derive(Drop)]
+#[derive(Clone, Copy)]
 pub struct Place {
     pub node: u32,
     pub at: usize,
 }
 
 // How many subtasks a method has, and where they stand.
-#[derive(Drop)]
+#[derive(Clone, Copy)]
 pub struct Subtasks {
     pub count: u32,
     pub at: usize,
 }
 
 // A node's line: "D,m (method m, not empty); E,m,g (empty method m in gap g, 0 to k); L,a,i (action a at position i, 1 to k)".
-#[derive(Drop)]
+#[derive(Clone, Copy)]
 pub enum Entry {
     Task { method: u32 },
     Empty { method: u32, gap: u32 },
@@ -40,14 +40,14 @@ pub enum Entry {
 }
 
 // A method's line: its compound task and its subtasks.
-#[derive(Drop)]
+#[derive(Clone, Copy)]
 pub struct MethodHead {
     pub task: u32,
     pub subtasks: Subtasks,
 }
 
 // How a node fits the task expected there, with the place of the node after its line; or the answer that refuses it.
-#[derive(Drop)]
+#[derive(Clone, Copy)]
 pub enum Fit {
     Refused {
         answer: Answer,

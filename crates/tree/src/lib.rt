@@ -1,4 +1,6 @@
 // Walking the claimed tree (01, "The tree" and rows 6 to 9 of its table; 02, Card 7) over the fields of a case and the lent work space.
+#![tactic(auto)]
+
 mod fit;
 mod layout;
 mod marks;

@@ -6,7 +6,7 @@ ghost use Rattle.tree.specs.Marks.{as_unclaimed, least_unmarked};
 use crate::layout::MARKS;
 
 // "after the walk: least position unclaimed"
-#[derive(Drop)]
+#[derive(Clone, Copy)]
 pub enum Unclaimed {
     None,
     At { position: u32 },

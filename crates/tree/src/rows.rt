@@ -14,7 +14,7 @@ use index::{Doubled, Span};
 use rules::Answer;
 
 // How a walk ended: the node after what it walked, and the span of that; or the answer that refuses the tree.
-#[derive(Drop)]
+#[derive(Clone, Copy)]
 pub enum Walked {
     Next { next: Place, span: Span },
     Refused { answer: Answer },

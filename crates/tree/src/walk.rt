@@ -76,7 +76,7 @@ fn walk_subtasks(
 }
 
 // How the walk of the whole tree ended.
-#[derive(Drop)]
+#[derive(Clone, Copy)]
 pub enum TreeWalk {
     Right,
     Refused { answer: Answer },

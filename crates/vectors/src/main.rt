@@ -1,5 +1,7 @@
 // Runs the check call on every case that its arguments name, in their order, and prints the name and the answer of each. What it prints is
 // held against the stored expectations, which come from the papers and an independent rendering.
+#![tactic(auto)]
+
 use libc::STDOUT_FILENO;
 
 // The case of a file: its bytes, up to one more than a case may have.

@@ -1,4 +1,6 @@
 // The check call: the core over plain lists, then the node records gathered from the columns that it leaves, then the work space zero.
+#![tactic(auto)]
+
 ghost use Rattle.std.specs.Prelude.{◌≡◌, ℕ, ◌+◌, ◌≤◌, ◌<◌, length, take};
 ghost use Rattle.rules.specs.Verdict.{check, answer_of, reported, filled, no_node};
 ghost use Rattle.rules.specs.Demands.{borrowed, lent_by, as_asked, Demand1, Demand2, Demand3};

@@ -1,5 +1,7 @@
 // The write call (02, Card 2) over plain lists: the check, and of an accepted case the tidy text. What it leaves in the work space are the
 // columns of the node records, which the call then gathers into the node list.
+#![tactic(auto)]
+
 ghost use Rattle.std.specs.Prelude.{◌≡◌, List, ◌≤◌, ◌<◌, length, replicate};
 ghost use Rattle.rules.specs.Case.{Case, Valued};
 ghost use Rattle.rules.specs.Fields.{fields_of};
@@ -21,14 +23,14 @@ use rules::{Answer, Header};
 const SMALL: usize = 2048;
 
 // What the call answers: the check's answer, or 14; and the length of the text that was put out, 0 for a refusal.
-#[derive(Drop)]
+#[derive(Clone, Copy)]
 pub struct Wrote {
     pub answer: Answer,
     pub length: u32,
 }
 
 // What became of the tidy text: it was put out, so many bytes; or the output is shorter than needed.
-#[derive(Drop)]
+#[derive(Clone, Copy)]
 enum Outcome {
     Put { bytes: u32 },
     Short { needed: u32 },

@@ -2,6 +2,8 @@
 // output, and the lengths of the state list, the node list and the work space. All that is lent comes in dirty. Prints the words and the answer of each; then
 // what was put out; and last, if any byte of the output behind that is not zero, the place of the first. What it prints is held against the stored
 // expectations, which come from the papers and two independent renderings.
+#![tactic(auto)]
+
 ghost use Rattle.std.specs.Prelude.{◌+◌, ◌≤◌};
 
 use rules::{STATES, TEXT, WORK};

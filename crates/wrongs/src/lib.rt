@@ -1,5 +1,7 @@
 // Refusal 19 of the competition's plan form (02, Card 6), over plain lists: "first line that defines an id defined twice, twice a subtask, the
 // root under a parent or not reached from the root by any lines, or that uses an id never defined". Each line is looked at once.
+#![tactic(auto)]
+
 ghost use Rattle.std.specs.Prelude.{◌≡◌, List, ℕ, ◌≤◌, ◌<◌, length};
 ghost use Rattle.rules.specs.Form.{FormLine, Form, wrong_line};
 ghost use Rattle.wrongs.specs.Wrongs.{fails, FirstFailing, Known, Holds, as_line};

@@ -169,6 +169,7 @@ claimed_by_lem j (L a i ∷ ls) c h = ⊎_elim (λ w. inl (w.0, there w.1)) (λ 
 
 -- A position that a leaf claims is claimed.
 pub not_claimed : (i b : ℕ) (ls : List NodeLine) (c : List ℕ) → Mem (L b i) ls → is_in i (claimed_by ls c) ≡ false → ⊥
+not_claimed i b [] c w h = elim w [ ]
 not_claimed i b (y ∷ ls) c (here e) h =
     let s = stays_in i ls (i ∷ c) (is_in_same i i c refl) in
     false≢true (sym h ∙ ap (λ (z : NodeLine). is_in i (claimed_by (z ∷ ls) c)) (sym e) ∙ s)
