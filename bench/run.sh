@@ -6,7 +6,7 @@
 #   sh bench/run.sh [ROUNDS]
 set -eu
 cd "$(dirname "$0")/.."
-rt staticlib capi >/dev/null
+sh tools/staticlib.sh >/dev/null
 touch bench/src/main.rs bench/src/bin/stack.rs
 export RUSTFLAGS="-L native=$PWD/target/staticlib"
 run="cargo run --quiet --release --offline --manifest-path bench/Cargo.toml --features linked"

@@ -14,7 +14,7 @@ cd "$(dirname "$0")/.."
 out=target/examples
 mkdir -p $out
 # The gate has built it already.
-[ "${LIBCAPI:-}" = built ] || rt staticlib capi >/dev/null
+[ "${LIBCAPI:-}" = built ] || sh tools/staticlib.sh >/dev/null
 for example in check tidy gaps import step; do
     "${CC:-cc}" -std=c99 -Wall -Wextra -O2 -I include examples/c/$example.c target/staticlib/libcapi.a -o $out/${example}_c
 done

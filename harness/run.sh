@@ -11,7 +11,7 @@
 set -eu
 cd "$(dirname "$0")/.."
 # The gate has built it already.
-[ "${LIBCAPI:-}" = built ] || rt staticlib capi >/dev/null
+[ "${LIBCAPI:-}" = built ] || sh tools/staticlib.sh >/dev/null
 for program in compare_check compare_replay compare_write compare_gaps compare_import compare_step properties; do
     touch harness/src/bin/$program.rs
     RUSTFLAGS="-L native=$PWD/target/staticlib" cargo run --quiet --release --offline --manifest-path harness/Cargo.toml \

@@ -6,7 +6,7 @@
 set -eu
 cd "$(dirname "$0")/.."
 # The gate has built it already.
-[ "${LIBCAPI:-}" = built ] || rt staticlib capi
+[ "${LIBCAPI:-}" = built ] || sh tools/staticlib.sh
 # A new archive alone does not make cargo link again.
 touch tools/cues/src/main.rs
 RUSTFLAGS="-L native=$PWD/target/staticlib" cargo build --quiet --release --offline --locked \

@@ -30,6 +30,7 @@ all_led P g [] h = tt
 all_led P g (c ∷ cs) h = (h.0, all_led P g cs h.1)
 
 all_each : (P : List ℕ → Type 0) (cs : List (List ℕ)) → AllAre P cs → Each P cs
+all_each P [] h x w = elim w [ ]
 all_each P (c ∷ cs) h x (Memᴰ.head e) = subst P (sym e) h.0
 all_each P (c ∷ cs) h x (Memᴰ.tail m) = all_each P cs h.1 x m
 
@@ -87,5 +88,6 @@ module _ (passing : List ℕ → Bool) where
   fails_append (x ∷ xs) ys h l = (h.0, fails_append xs ys h.1 l)
 
   pub each_fails : (cs : List (List ℕ)) → AllFail passing cs → Each (λ d. passing d ≡ false) cs
+  each_fails [] h x w = elim w [ ]
   each_fails (c ∷ cs) h x (Memᴰ.head e) = subst (λ (d : List ℕ). passing d ≡ false) (sym e) h.0
   each_fails (c ∷ cs) h x (Memᴰ.tail m) = each_fails cs h.1 x m

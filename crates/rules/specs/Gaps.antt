@@ -1,6 +1,6 @@
 -- The find-the-gaps call (02, Card 4): the choices of gaps in their order, the text with other gaps, the first choice with which it would be
 -- accepted, what the call answers and leaves in the lent lists, and what it promises. Assumes nothing.
-use Rattle.std.specs.Prelude.{◌≡◌, Bool, true, false, List, [], ◌∷◌, ◌++◌, ◌↔◌, ◌⊎◌, ℕ, zero, suc, ◌^◌, ◌≤◌, ltb, length, get_or}
+use Rattle.std.specs.Prelude.{◌≡◌, true, false, List, [], ◌∷◌, ◌++◌, ◌↔◌, ◌⊎◌, ℕ, zero, suc, ◌^◌, ◌≤◌, ltb, length, get_or}
 use Rattle.rules.specs.declared.Answer.{Answer}
 use Rattle.rules.specs.declared.Answer.TheVariants.{TooManyChoices, NoChoice}
 use Rattle.rules.specs.Result.{Result, found, refused, ◌>>=◌, ◌>>◌}
@@ -8,7 +8,7 @@ use Rattle.rules.specs.Case.{NodeLine, D, E, L, Case, read_case}
 use Rattle.rules.specs.Print.{printed}
 use Rattle.rules.specs.Tree.{Tree, may_claim, walk_tree}
 use Rattle.rules.specs.Verdict.{Report, reported, Lent, lists_long, text_short, plan_runs, all_claimed, Found, check, answer_of, states_after, nodes_after, work_after}
-use Rattle.rules.specs.Demands.{Borrowed, lent_by, IsAccepted}
+use Rattle.rules.specs.Demands.{Borrowed, lent_by}
 use Rattle.rules.specs.Writing.{is_less}
 
 -- ---- The choices

@@ -10,8 +10,8 @@ use lib.Dec.{leb}
 use lib.ListN.{length, drop, get_or, length-append}
 use lib.Seq.{append_snoc, get_or_at}
 use Rattle.rules.specs.declared.Header.{Header}
-use Rattle.rules.specs.Text.{is_plain, value_of, number, not_plain, number_at, ended, ending_at}
-use Rattle.rules.specs.Table.{Role, Kind, up_to, task, an_action, proposition, memberCount, Item, one, set, subtaskList, cues, Row, in_range, taken, out, within, Value, scalar, listed, number_of, ItemRead, item, follow_taken, with_member, least_after, read_members, read_list, read_item, LineRead, line, follow_item, with_value, finish_line, read_items}
+use Rattle.rules.specs.Text.{is_plain, value_of, number, not_plain, number_at, ending_at}
+use Rattle.rules.specs.Table.{Role, Kind, up_to, task, an_action, proposition, memberCount, Item, one, set, subtaskList, cues, Row, in_range, taken, out, within, Value, scalar, listed, number_of, ItemRead, follow_taken, least_after, read_members, read_list, read_item, finish_line, read_items}
 use Rattle.rules.specs.Faults.{Ended, fields_at, members_due, due, LetterOf, NumberIn, NumbersRight, Begins, Awaited, Comes, Unread, Outside}
 use Rattle.rules.proofs.Outcomes.{AfterMember, ItemSays, member_says, LineSays, value_says, item_then}
 use Rattle.rules.proofs.Faults.Fields.{Left, number_missing, number_there, line_over, field_over}

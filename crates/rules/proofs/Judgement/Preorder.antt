@@ -2,7 +2,7 @@
 use mathlib.Core.Path.{◌≡◌, refl}
 use mathlib.Core.Bool.{true}
 use mathlib.Core.List.{List, [], ◌∷◌, ◌++◌, map, map-append}
-use Prim.Native.Nat.{ℕ, suc, ◌+◌, ◌≤◌, max}
+use Prim.Native.Nat.{ℕ, suc, ◌≤◌, max}
 use Rattle.rules.specs.Case.{NodeLine, D, E, L, Case}
 use Rattle.rules.specs.Tree.{Tree, leaf, empty, task, Trees, no_tree, more, preorder, preorders, root_line, ClaimTest, level_count}
 use Rattle.rules.specs.Rules.{FitsTask}

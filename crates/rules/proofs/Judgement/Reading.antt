@@ -12,7 +12,7 @@ use Rattle.rules.specs.declared.Header.{Header}
 use Rattle.rules.specs.declared.Answer.{Answer}
 use Rattle.rules.specs.declared.Answer.TheVariants.{Unreadable, OutOfRange}
 use Rattle.rules.specs.Text.{Number, number, not_plain, missing, number_at, Letter, letter, no_letter, letter_at, Ending, ended, surplus, ending_at, feed_follows}
-use Rattle.rules.specs.Table.{Role, up_to, task, an_action, proposition, memberCount, Item, one, set, subtaskList, cues, Row, table, row_in, row_of, role_number, in_range, taken, out, within, Value, scalar, listed, number_of, ItemRead, item, follow_taken, with_member, least_after, read_members, read_list, read_item, LineRead, line, follow_item, with_value, finish_line, read_items, read_row, read_letter, read_line}
+use Rattle.rules.specs.Table.{Role, up_to, task, an_action, proposition, memberCount, Item, one, set, subtaskList, cues, Row, table, row_in, row_of, role_number, in_range, taken, out, within, Value, scalar, listed, number_of, ItemRead, item, follow_taken, with_member, least_after, read_members, read_list, read_item, LineRead, line, with_value, finish_line, read_items, read_row, read_letter, read_line}
 use Rattle.rules.specs.Result.{Result, found, refused, ◌>>=◌}
 use Rattle.rules.specs.Case.{Valued, Read, read_as, one_line, many}
 use Rattle.rules.proofs.Outcomes.{AfterMember, ItemSays, member_says, LineSays, value_says, item_then}

@@ -1,7 +1,7 @@
 -- The check call accepts just the texts that are readable, inside the limits and keep the rules: what it finds passes every row, and a case
 -- that keeps the rules is let pass by each row in turn.
 use mathlib.Core.Path.{◌≡◌, refl, sym, ◌∙◌, ap, subst}
-use mathlib.Core.Bool.{true, false, ◌&&◌, false≢true}
+use mathlib.Core.Bool.{true, ◌&&◌, false≢true}
 use mathlib.Core.List.{List, [], ◌∷◌}
 use mathlib.Core.Logic.{◌↔◌}
 use mathlib.Core.Option.{Option}

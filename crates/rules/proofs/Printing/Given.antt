@@ -1,6 +1,6 @@
 -- A line that passes its tests and stands at a place as it is printed is read there as that line: item by item along its row of the table.
 -- Assumes nothing.
-use mathlib.Core.Path.{◌≡◌, refl, sym, ap, ◌∙◌, subst}
+use mathlib.Core.Path.{◌≡◌, refl, ap, ◌∙◌, subst}
 use mathlib.Core.Bool.{Bool, true, false, ◌&&◌, ◌||◌}
 use mathlib.Core.List.{List, [], ◌∷◌, ◌++◌}
 use mathlib.Core.Option.{Option, none, some}
@@ -10,8 +10,8 @@ use lib.Dec.{eqb, leb}
 use lib.ListN.{length, drop}
 use borrow.Author.Tests.{eqb-true}
 use Rattle.rules.specs.declared.Header.{Header}
-use Rattle.rules.specs.Text.{is_feed, is_comma, ends_field, field_of, decimal, Number, number_at, letter_of, letter_at, ending_of, ending_at, has_feed, feed_follows}
-use Rattle.rules.specs.Table.{Role, up_to, task, an_action, proposition, memberCount, Item, one, set, subtaskList, cues, Row, table, row_of, in_range, within, Value, scalar, listed, number_of, ItemRead, item, follow_taken, with_member, least_after, read_members, read_list, read_item, LineRead, line, follow_item, with_value, finish_line, read_items, read_row, read_letter, read_line}
+use Rattle.rules.specs.Text.{is_feed, is_comma, ends_field, field_of, decimal, Number, letter_at, ending_of, ending_at, has_feed, feed_follows}
+use Rattle.rules.specs.Table.{Role, up_to, task, an_action, proposition, memberCount, Item, one, set, subtaskList, cues, Row, table, row_of, in_range, within, Value, scalar, listed, number_of, ItemRead, item, follow_taken, with_member, least_after, read_members, read_list, read_item, LineRead, line, follow_item, with_value, finish_line, read_items, read_row, read_line}
 use Rattle.rules.specs.Case.{Valued}
 use Rattle.rules.specs.Fields.{item_fields, items_fields, row_items}
 use Rattle.rules.proofs.Faults.Fields.{field_on, tail_at}

@@ -17,7 +17,7 @@ use Rattle.rules.specs.State.{State}
 use Rattle.rules.specs.Constraint.{constraints_of, parts_of}
 use Rattle.rules.specs.Rules.{MethodOf, Fits, FitsTask, Keeps, Rules}
 use Rattle.rules.proofs.Statements.{none_iff, some_iff}
-use Rattle.rules.specs.Rewriting.{TaskPath, Occurrence, subtasks_of, Step, Steps, goal_alone, result, used, left, record_of, SameSet, subtasks_after, claimed_lines, right_kind, entry_of, claimed_record, gap, place_of, places_of, span_in, CompleteRewriting, PerformsPlan, AgreeingRewriting, RecordDecides}
+use Rattle.rules.specs.Rewriting.{TaskPath, Occurrence, subtasks_of, Step, Steps, goal_alone, result, used, record_of, SameSet, subtasks_after, claimed_lines, right_kind, entry_of, claimed_record, gap, place_of, places_of, span_in, CompleteRewriting, PerformsPlan, AgreeingRewriting, RecordDecides}
 use Rattle.rules.proofs.Rewritings.Statement.{Placed, line_names, claimed_names, Exact, exact_named, named_exact}
 use Rattle.rules.proofs.Rewritings.Paths.{Spread}
 use Rattle.rules.proofs.Rewritings.Records.{Named, used_entry, left_entry, used_inj, used≢left, record_parted, used_line, left_are}

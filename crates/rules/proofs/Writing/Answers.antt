@@ -1,17 +1,16 @@
 -- What the write call answers beside the check's answer (02, Card 2): the same, but for an output that is too short. Assumes nothing.
-use mathlib.Core.Path.{◌≡◌, refl, ap, ◌∙◌, subst, sym}
+use mathlib.Core.Path.{◌≡◌, refl, ap, subst, sym}
 use mathlib.Core.Bool.{Bool, true, false}
 use mathlib.Core.List.{List}
 use Prim.Native.Nat.{ℕ, ◌≤◌, ◌<◌}
-use lib.Dec.{ltb}
 use lib.ListN.{length}
 use borrow.Author.Tests.{lt-ltb, le-ltb}
 use Rattle.rules.specs.declared.Answer.{Answer}
 use Rattle.rules.specs.declared.Answer.TheVariants.{Accepted, ShortOutput}
 use Rattle.rules.specs.Result.{Result, found, refused, ◌>>=◌, ◌>>◌}
-use Rattle.rules.specs.Case.{Case, read_case}
+use Rattle.rules.specs.Case.{Case}
 use Rattle.rules.specs.Tree.{Tree}
-use Rattle.rules.specs.Verdict.{Report, refusal, Lent, Found, reported, check, answer_of}
+use Rattle.rules.specs.Verdict.{refusal, Lent, Found, reported, check, answer_of}
 use Rattle.rules.specs.Demands.{IsAccepted, OfRead, Demand2, Demand3}
 use Rattle.rules.specs.Writing.{written, output_long, write, WriteAnswers}
 use Rattle.rules.proofs.Judgement.Theorem.{accepts_rules, shows_not_zero}
