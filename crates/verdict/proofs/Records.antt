@@ -6,13 +6,15 @@
 --     Fits             what `fill` asks: a node list of n has room for the records, and they all stand in the columns of a work space of w
 --     records_fit      so it is with the records of what comes
 --     records_filled   what the core leaves gives what `nodes_after` says
+--     fits_left, filled_left   both, as a call has them
 use mathlib.Core.Path.{◌≡◌, refl, sym, ◌∙◌, ap, subst}
 use mathlib.Core.List.Memᴰ.{head as here}
 use mathlib.Core.List.Memᴰ.{tail as there}
 use mathlib.Core.List.{List}
 use Prim.Native.Nat.{ℕ, ◌+◌, ◌-◌, ◌≤◌, ◌<◌}
 use native.Mathlib.Omega.{arith}
-use lib.ListN.{replicate}
+use lib.ListN.{length, replicate}
+use Rattle.rules.specs.declared.Node.{Node}
 use Rattle.rules.specs.declared.Answer.{Answer}
 use Rattle.rules.specs.declared.Answer.TheVariants.{Accepted, ShortList, LongText, Unreadable, OutOfRange, Inapplicable, WrongTask, TooDeep, WrongClaim, Unclaimed, OrderBroken, BeforeBroken, AfterBroken, BetweenBroken, ShortOutput, TooManyChoices, NoChoice, WrongShape, WrongName, WrongId, WrongLetter, SurplusNode, MissingNode}
 use Rattle.rules.specs.Result.{found, refused}
@@ -94,3 +96,16 @@ records_filled s n w text work (found (k, t)) a held = ap (filled n no_node) hel
 records_filled s n w text work (refused r) none held =
     let all : n - 0 ≡ n = omega arith in
     ap (λ (m : ℕ). filled n no_node (up_to (record_at work) m)) none ∙ ap (λ (m : ℕ). replicate m no_node) all
+
+-- ---- As a call has them: it counts so many records of an answer, and the work space is as its core left it
+
+pub fits_left : (n w count : ℕ) (work : List ℕ) (r a : Answer) → count ≡ (reported r).nodes → r ≡ a → length work ≡ w
+    → Fits n w (reported a).nodes → Fits n (length work) count
+fits_left n w count work r a counted e same fit =
+    subst (λ (m : ℕ). Fits n (length work) m) (sym (counted ∙ ap (λ (x : Answer). (reported x).nodes) e))
+    (subst (λ (v : ℕ). Fits n v (reported a).nodes) (sym same) fit)
+
+pub filled_left : (n count : ℕ) (work : List ℕ) (made owed : List Node) (r a : Answer) → made ≡ filled n no_node (up_to (record_at work) count)
+    → count ≡ (reported r).nodes → r ≡ a → filled n no_node (up_to (record_at work) (reported a).nodes) ≡ owed → made ≡ owed
+filled_left n count work made owed r a is counted e all =
+    is ∙ (ap (λ (m : ℕ). filled n no_node (up_to (record_at work) m)) (counted ∙ ap (λ (x : Answer). (reported x).nodes) e) ∙ all)
