@@ -9,36 +9,24 @@ use Rattle.rules.specs.Case.{header_in, one_line}
 use Rattle.rules.specs.Fields.{line_fields}
 use mathlib.Core.Path.{sym}
 use native.Mathlib.Omega.{arith}
-use borrow.Author.Rules.{rules}
-use Rattle.reading.proofs.next_line.Statement.{statement}
-use Rattle.reading.proofs.next_line.Tie as tie
+use Rattle.reading.proofs.next_line.Goals as goal
 
-read_line_requires : tie.Need-read_line-requires
-read_line_requires c κs = search rules
-
-after_requires : tie.Need-after-requires
-after_requires c κs =
-    let s = c.before.before.before.before.before.before in
-    let a = s.args in
-    let d = s.requires.0 in
-    let r = c.before.before.read_line in (
+pub after-requires : goal.after-requires
+after-requires c =
+    let a = c.args in
+    let d = c.requires.due in
+    let r = c.read_line-finish in (
       let n = d.counted in let i = d.inside in let t = d.short in omega arith,
       line_fits a.text.now a.at.from a.at.start.at a.fields.now (read_line a.text.now (role_of a.due) (header_in a.x.now) (get_or a.x.now 7 0) a.at.start.at) r.result _ d.short
           (line_within a.text.now a.at.from (role_of a.due) (header_in a.x.now) (get_or a.x.now 7 0) a.at.start.at d.ahead) r.ensures,
     )
 
-same_length : tie.Need-same-length
-same_length c = search rules
-
-returns : tie.Need-returns
+pub returns : goal.returns
 unfolding one_line
 returns c =
-    let a = c.before.before.before.before.before.before.before.args in
-    let r = c.before.before.before.read_line in
+    let a = c.args in
+    let r = c.read_line-finish in
     let y = read_line a.text.now (role_of a.due) (header_in a.x.now) (get_or a.x.now 7 0) a.at.start.at in
     left_told line_fields a.at.from a.fields.now (valued_line a.text.now (header_in a.x.now) (role_of a.due) (get_or a.x.now 7 0) a.at.line a.at.start.at)
     (after_line a.at.line a.at.from r.result) c.after.result _ (sym c.after.ensures)
     (line_left a.at.line a.at.from a.fields.now y r.result _ r.ensures)
-
-pub next_line_spec : {M : Type 1} → statement M
-next_line_spec = tie.close (tie.spec read_line_requires after_requires same_length returns)
