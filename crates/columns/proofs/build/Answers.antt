@@ -1,0 +1,51 @@
+-- `build`: the words before w are right (Right); then the two last words sum them up, and leave them as they are. Assumes nothing.
+use Rattle.columns.proofs.Filling.{right_more, column_done}
+use Rattle.columns.specs.Columns.{state_words, column_words}
+use Rattle.rows.specs.Rows.{in_row}
+use Rattle.rules.specs.declared.Sign.TheVariants.{Positive}
+use lib.ListN.{length-set}
+use mathlib.Core.Path.{◌∙◌}
+use native.Mathlib.Omega.{arith}
+use Rattle.std.proofs.Common.{rules}
+use Rattle.columns.proofs.build.Goals as goal
+
+pub overflow_mul-w : goal.overflow_mul-w
+unfolding state_words
+overflow_mul-w c = search rules
+
+pub bounds-column-w : goal.bounds-column-w
+unfolding state_words column_words
+bounds-column-w c = search rules
+
+pub loop-w-preserved : goal.loop-w-preserved
+unfolding state_words column_words
+loop-w-preserved c =
+    let l = c.loop-w in
+    let a = c.args in (
+      length-set l.column l.w _ ∙ l.invariant.0,
+      omega arith,
+      right_more (in_row a.states.now Positive a.p) a.n l.column l.w c.word_end.result c.word_of.result (omega arith) c.word_of.ensures c.word_end.ensures.3 l.invariant.2,
+    )
+
+pub summary-requires : goal.summary-requires
+unfolding state_words column_words
+summary-requires c = search rules
+
+pub bounds-column-16 : goal.bounds-column-16
+unfolding state_words column_words
+bounds-column-16 c = search rules
+
+pub summary-requires-2 : goal.summary-requires-2
+unfolding state_words column_words
+summary-requires-2 c = omega (arith, length-set c.loop-w.column state_words c.summary.result)
+
+pub bounds-column : goal.bounds-column
+unfolding state_words column_words
+bounds-column c = search rules
+
+pub returns : goal.returns
+unfolding state_words
+returns c =
+    let l = c.loop-w in
+    let a = c.args in
+    column_done l.column c.summary.result c.summary-2.result (l.invariant.0 ∙ c.requires.column_len) a.states.now a.p a.n l.w c.requires.n_bound c.loop-w-test.false l.invariant.2 c.summary.ensures c.summary-2.ensures
