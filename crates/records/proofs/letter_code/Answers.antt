@@ -1,15 +1,15 @@
 -- `letter_code`: each arm of the match is a clause. Assumes nothing.
 use Prim.Native.Nat.{ℕ}
-use Rattle.records.proofs.letter_code.Statement.{statement}
-use Rattle.records.proofs.letter_code.Tie as tie
 use Rattle.records.specs.Records.{letter_code}
 use Rattle.rules.specs.Index.{at}
 use Rattle.rules.specs.Case.{NodeLine, D, E, L, node_of}
 use Rattle.rules.specs.Verdict.{node_record}
 use borrow.Author.Tests.{ne_eqb}
+use native.Mathlib.Omega.{arith}
 use lib.Dec.{eqb}
 use mathlib.Core.Bool.{Bool, true, false}
 use mathlib.Core.Path.{◌≡◌, sym, ap, ◌∙◌}
+use Rattle.records.proofs.letter_code.Goals as goal
 
 -- The code by the tests of the letter.
 abbrev by_tests : Bool → Bool → ℕ
@@ -21,16 +21,13 @@ code_leaf : (l : ℕ) → (l ≡ 68 → ⊥) → (l ≡ 69 → ⊥) → 3 ≡ le
 unfolding letter_code node_of node_record
 code_leaf l d e = sym (ap (λ (b : Bool). by_tests b (eqb l 69)) (ne_eqb l 68 d) ∙ ap (by_tests false) (ne_eqb l 69 e))
 
-returns : tie.Need-returns
+pub returns-in-68 : goal.returns-in-68
 unfolding letter_code node_of node_record
-returns c = rw c.match.keys1
+returns-in-68 c = rw c.in-68.is
 
-returns_2 : tie.Need-returns-2
+pub returns-in-69 : goal.returns-in-69
 unfolding letter_code node_of node_record
-returns_2 c = rw c.match.keys2
+returns-in-69 c = rw c.in-69.is
 
-returns_3 : tie.Need-returns-3
-returns_3 c = code_leaf c.before.args.letter c.match.rest.0.1 c.match.rest.1
-
-pub letter_code_spec : {M : Type 1} → statement M
-letter_code_spec = tie.close (tie.spec returns returns_2 returns_3)
+pub returns-in_default : goal.returns-in_default
+returns-in_default c = code_leaf c.args.letter (omega arith) (omega arith)
