@@ -35,8 +35,8 @@ returns-clause-demand1 c =
       answered = c.as_found.ensures.1 ∙ j.ensures.answered;
       states = j.ensures.states_held;
       nodes =
-        filled_left n c.records_found.result j.new.work c.fill.new.nodes (nodes_after n found) j.result.answer (answer_of found) c.fill.ensures
-        c.records_found.ensures j.ensures.answer (records_filled s n w comes.0 j.new.work found comes.1 j.ensures.records_held);
+          filled_left n c.records_found.result j.new.work c.fill.new.nodes (nodes_after n found) j.result.answer (answer_of found) c.fill.ensures
+          c.records_found.ensures j.ensures.answer (records_filled s n w comes.0 j.new.work found comes.1 j.ensures.records_held);
       work = c.clear_work.ensures ∙ ap (λ (m : ℕ). replicate {A = ℕ} m 0) j.auto.work;
     }
 

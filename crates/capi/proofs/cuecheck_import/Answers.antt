@@ -42,8 +42,8 @@ returns c =
       sized = c.as_imported.ensures.2 ∙ j.ensures.sized;
       states = j.ensures.states_held;
       nodes =
-        filled_left n c.records_imported.result j.new.work c.fill.new.nodes (nodes_after n (found_tree outcome)) j.result.answer (answer_of outcome)
-        c.fill.ensures c.records_imported.ensures j.ensures.answer (import_filled s n w j.ensures.number size t u f j.new.work j.ensures.records_held);
+          filled_left n c.records_imported.result j.new.work c.fill.new.nodes (nodes_after n (found_tree outcome)) j.result.answer (answer_of outcome)
+          c.fill.ensures c.records_imported.ensures j.ensures.answer (import_filled s n w j.ensures.number size t u f j.new.work j.ensures.records_held);
       work = c.clear_work.ensures ∙ ap (λ (m : ℕ). replicate {A = ℕ} m 0) j.auto.work;
       holds = has_form j.ensures.number lists size t u f;
       shows = made_shows lists t u f;

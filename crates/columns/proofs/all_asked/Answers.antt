@@ -58,7 +58,7 @@ returns-then-not-clear_within-2 c =
     let two = more a.a a.b c.requires.a_lt_b c.if-i-j.false in
     let first = c.clear_within-2.ensures ∙ first_word a.sign a.column.now a.a a.b two c.turned-2.result c.turned-2.ensures in
     let middle = c.clear_within-3.ensures
-        ∙ words_between a.sign a.column.now a.a a.b two c.requires.b_bound c.requires.summed c.sum_at.result c.sum_at.ensures in
+    ∙ words_between a.sign a.column.now a.a a.b two c.requires.b_bound c.requires.summed c.sum_at.result c.sum_at.ensures in
     middle_fails a.sign a.column.now a.a a.b two first c.if-not-clear_within.false middle c.if-not-clear_within-2.true
 
 pub bounds-column-j : goal.bounds-column-j
@@ -71,6 +71,6 @@ returns c =
     let two = more a.a a.b c.requires.a_lt_b c.if-i-j.false in
     let first = c.clear_within-2.ensures ∙ first_word a.sign a.column.now a.a a.b two c.turned-2.result c.turned-2.ensures in
     let middle = c.clear_within-3.ensures
-        ∙ words_between a.sign a.column.now a.a a.b two c.requires.b_bound c.requires.summed c.sum_at.result c.sum_at.ensures in
+    ∙ words_between a.sign a.column.now a.a a.b two c.requires.b_bound c.requires.summed c.sum_at.result c.sum_at.ensures in
     let last = c.clear_within-4.ensures ∙ last_word a.sign a.column.now a.a a.b two c.turned-3.result c.turned-3.ensures in
     last_decides a.sign a.column.now a.a a.b two first c.if-not-clear_within.false middle c.if-not-clear_within-2.false last

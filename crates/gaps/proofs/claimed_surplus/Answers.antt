@@ -75,15 +75,18 @@ loop-i-preserved c =
     let fields = c.args.fields.now in
     let l = c.loop-i in
     let more = c.loop-i-test.true in
-    let few = gap_few fields c.args.nodes c.args.count l.at l.i l.digits l.invariant.2 c.requires.nodes_stand more in
-    (omega arith,
-    elim c.if-letter-eq-EMPTY.branch [
-      then-letter-eq-EMPTY w ↦
-        omega (arith, digits_few (get_or fields (l.at + 2) 0) (few (λ e. omega (arith, w.if-letter-eq-EMPTY.true))), w.more_digits-digits.ensures, w.digits-is)
-    | else-letter-eq-EMPTY w ↦ omega (arith, w.digits-is) ],
-    counting_on surplus_of fields c.args.nodes c.args.count l.at l.i l.digits l.invariant.2 more c.if-letter-eq-EMPTY.digits c.node_size-at.result
-    c.node_size-at.ensures
-    (λ ns d. elim c.if-letter-eq-EMPTY.branch [
-      then-letter-eq-EMPTY w ↦
-        let own = due_those over_surplus fields l.at ns l.i d w.if-letter-eq-EMPTY.true (λ q. omega arith) in omega (arith, w.more_digits-digits.ensures, w.digits-is)
-    | else-letter-eq-EMPTY w ↦ let own = due_others over_surplus fields l.at ns l.i d w.if-letter-eq-EMPTY.false in omega (arith, w.digits-is) ]))
+    let few = gap_few fields c.args.nodes c.args.count l.at l.i l.digits l.invariant.2 c.requires.nodes_stand more in (
+      omega arith,
+      elim c.if-letter-eq-EMPTY.branch [
+        | then-letter-eq-EMPTY w ↦
+            omega (arith, digits_few (get_or fields (l.at + 2) 0) (few (λ e. omega (arith, w.if-letter-eq-EMPTY.true))), w.more_digits-digits.ensures, w.digits-is)
+        | else-letter-eq-EMPTY w ↦ omega (arith, w.digits-is)
+      ],
+      counting_on surplus_of fields c.args.nodes c.args.count l.at l.i l.digits l.invariant.2 more c.if-letter-eq-EMPTY.digits c.node_size-at.result
+          c.node_size-at.ensures
+          (λ ns d. elim c.if-letter-eq-EMPTY.branch [
+            | then-letter-eq-EMPTY w ↦
+                let own = due_those over_surplus fields l.at ns l.i d w.if-letter-eq-EMPTY.true (λ q. omega arith) in omega (arith, w.more_digits-digits.ensures, w.digits-is)
+            | else-letter-eq-EMPTY w ↦ let own = due_others over_surplus fields l.at ns l.i d w.if-letter-eq-EMPTY.false in omega (arith, w.digits-is)
+          ]),
+    )

@@ -37,11 +37,13 @@ pub loop-i-preserved : goal.loop-i-preserved
 loop-i-preserved c =
     let fields = c.args.fields.now in
     let l = c.loop-i in
-    let more = c.loop-i-test.true in
-    (omega arith,
-    elim c.if-letter-eq-EMPTY.branch [ then-letter-eq-EMPTY w ↦ omega arith | else-letter-eq-EMPTY w ↦ omega arith ],
-    counting_on empty_count fields c.args.nodes c.args.count l.at l.i l.empties l.invariant.2 more c.if-letter-eq-EMPTY.empties c.node_size-at.result
-    c.node_size-at.ensures
-    (λ ns d. elim c.if-letter-eq-EMPTY.branch [
-      then-letter-eq-EMPTY w ↦ let own = due_those over_empties fields l.at ns l.i d w.if-letter-eq-EMPTY.true (λ q. omega arith) in omega (arith, w.empties-is)
-    | else-letter-eq-EMPTY w ↦ let own = due_others over_empties fields l.at ns l.i d w.if-letter-eq-EMPTY.false in omega (arith, w.empties-is) ]))
+    let more = c.loop-i-test.true in (
+      omega arith,
+      elim c.if-letter-eq-EMPTY.branch [ then-letter-eq-EMPTY w ↦ omega arith | else-letter-eq-EMPTY w ↦ omega arith ],
+      counting_on empty_count fields c.args.nodes c.args.count l.at l.i l.empties l.invariant.2 more c.if-letter-eq-EMPTY.empties c.node_size-at.result
+          c.node_size-at.ensures
+          (λ ns d. elim c.if-letter-eq-EMPTY.branch [
+            | then-letter-eq-EMPTY w ↦ let own = due_those over_empties fields l.at ns l.i d w.if-letter-eq-EMPTY.true (λ q. omega arith) in omega (arith, w.empties-is)
+            | else-letter-eq-EMPTY w ↦ let own = due_others over_empties fields l.at ns l.i d w.if-letter-eq-EMPTY.false in omega (arith, w.empties-is)
+          ]),
+    )

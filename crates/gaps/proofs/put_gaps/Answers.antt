@@ -104,15 +104,18 @@ loop-i-preserved c =
     let long = l.invariant.1 in
     let n = c.if-letter-eq-EMPTY.fields in
     let b = c.if-letter-eq-EMPTY.a in
-    let size = c.node_size-at.ensures in
-    (omega arith,
-    elim c.if-letter-eq-EMPTY.branch [
-      then-letter-eq-EMPTY w ↦ ap length w.fields-is ∙ length-set l.fields (l.at + 2) _ ∙ long
-    | else-letter-eq-EMPTY w ↦ ap length w.fields-is ∙ long ],
-    elim c.if-letter-eq-EMPTY.branch [
-      then-letter-eq-EMPTY w ↦
-        puts_here a.fields.now a.choice.now a.nodes a.count l.fields l.at l.i l.a l.invariant.2 more n b c.node_size-at.result size
-        w.if-letter-eq-EMPTY.true w.fields-is w.a-is
-    | else-letter-eq-EMPTY w ↦
-        puts_past a.fields.now a.choice.now a.nodes a.count l.fields l.at l.i l.a l.invariant.2 more n b c.node_size-at.result size
-        w.if-letter-eq-EMPTY.false w.fields-is w.a-is ])
+    let size = c.node_size-at.ensures in (
+      omega arith,
+      elim c.if-letter-eq-EMPTY.branch [
+        | then-letter-eq-EMPTY w ↦ ap length w.fields-is ∙ length-set l.fields (l.at + 2) _ ∙ long
+        | else-letter-eq-EMPTY w ↦ ap length w.fields-is ∙ long
+      ],
+      elim c.if-letter-eq-EMPTY.branch [
+        | then-letter-eq-EMPTY w ↦
+            puts_here a.fields.now a.choice.now a.nodes a.count l.fields l.at l.i l.a l.invariant.2 more n b c.node_size-at.result size
+            w.if-letter-eq-EMPTY.true w.fields-is w.a-is
+        | else-letter-eq-EMPTY w ↦
+            puts_past a.fields.now a.choice.now a.nodes a.count l.fields l.at l.i l.a l.invariant.2 more n b c.node_size-at.result size
+            w.if-letter-eq-EMPTY.false w.fields-is w.a-is
+      ],
+    )

@@ -103,20 +103,23 @@ loop-i-preserved c =
     let high = c.if-letter-eq-LEAF.high in
     let empties = c.if-letter-eq-EMPTY.empties in
     let joined : (ns : List NodeLine) (d : Due f l.at ns l.i) → Joined a.cues f l.at ns l.i d l.low l.high low high =
-        λ ns d. elim c.if-letter-eq-LEAF.branch [
-          then-letter-eq-LEAF w ↦
-            cue_joined a.cues f l.at ns l.i d l.low l.high low high w.if-letter-eq-LEAF.true (omega (arith, w.lesser-low.ensures, w.low-is))
-            (omega (arith, w.greater-high.ensures, w.high-is))
-        | else-letter-eq-LEAF w ↦ none_joined a.cues f l.at ns l.i d l.low l.high low high w.if-letter-eq-LEAF.false w.low-is w.high-is ] in
+    λ ns d. elim c.if-letter-eq-LEAF.branch [
+      | then-letter-eq-LEAF w ↦
+          cue_joined a.cues f l.at ns l.i d l.low l.high low high w.if-letter-eq-LEAF.true (omega (arith, w.lesser-low.ensures, w.low-is))
+          (omega (arith, w.greater-high.ensures, w.high-is))
+      | else-letter-eq-LEAF w ↦ none_joined a.cues f l.at ns l.i d l.low l.high low high w.if-letter-eq-LEAF.false w.low-is w.high-is
+    ] in
     let counted : (ns : List NodeLine) → Due f l.at ns l.i → empties + empty_count (drop (l.i + 1) ns) ≡ l.empties + empty_count (drop l.i ns) =
-        λ ns d. elim c.if-letter-eq-EMPTY.branch [
-          then-letter-eq-EMPTY w ↦ let own = due_those over_empties f l.at ns l.i d w.if-letter-eq-EMPTY.true (λ q. omega arith) in omega (arith, w.empties-is)
-        | else-letter-eq-EMPTY w ↦ let own = due_others over_empties f l.at ns l.i d w.if-letter-eq-EMPTY.false in omega (arith, w.empties-is) ] in
-    (omega arith,
-    elim c.if-letter-eq-EMPTY.branch [ then-letter-eq-EMPTY w ↦ omega (arith, w.empties-is) | else-letter-eq-EMPTY w ↦ omega (arith, w.empties-is) ],
-    elim c.if-letter-eq-LEAF.branch [ then-letter-eq-LEAF w ↦ omega (arith, w.lesser-low.ensures, w.low-is) | else-letter-eq-LEAF w ↦ omega (arith, w.low-is) ],
-    sums_on a.cues f a.from a.count l.at l.i l.low l.high l.empties l.invariant.3 more low high empties c.node_size-at.result c.node_size-at.ensures
-    (λ ns d. record { least = (joined ns d).0; greatest = (joined ns d).1; number = counted ns d }))
+    λ ns d. elim c.if-letter-eq-EMPTY.branch [
+      | then-letter-eq-EMPTY w ↦ let own = due_those over_empties f l.at ns l.i d w.if-letter-eq-EMPTY.true (λ q. omega arith) in omega (arith, w.empties-is)
+      | else-letter-eq-EMPTY w ↦ let own = due_others over_empties f l.at ns l.i d w.if-letter-eq-EMPTY.false in omega (arith, w.empties-is)
+    ] in (
+      omega arith,
+      elim c.if-letter-eq-EMPTY.branch [ then-letter-eq-EMPTY w ↦ omega (arith, w.empties-is) | else-letter-eq-EMPTY w ↦ omega (arith, w.empties-is) ],
+      elim c.if-letter-eq-LEAF.branch [ then-letter-eq-LEAF w ↦ omega (arith, w.lesser-low.ensures, w.low-is) | else-letter-eq-LEAF w ↦ omega (arith, w.low-is) ],
+      sums_on a.cues f a.from a.count l.at l.i l.low l.high l.empties l.invariant.3 more low high empties c.node_size-at.result c.node_size-at.ensures
+          (λ ns d. record { least = (joined ns d).0; greatest = (joined ns d).1; number = counted ns d }),
+    )
 
 pub returns : goal.returns
 returns c =

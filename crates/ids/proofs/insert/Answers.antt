@@ -7,7 +7,7 @@ pub offset_bounds-slots-p : goal.offset_bounds-slots-p
 offset_bounds-slots-p c =
     let a = c.args in
     let in_table : c.in-Free.p < length a.slots.now =
-        (id_puts a.ids.now a.slots.now a.count c.requires.0 c.requires.3).spot c.in-Free.p (sym c.in-Free.is ∙ c.walk_to.ensures) in
+    (id_puts a.ids.now a.slots.now a.count c.requires.0 c.requires.3).spot c.in-Free.p (sym c.in-Free.is ∙ c.walk_to.ensures) in
     search rules
 
 pub bounds-slots-p : goal.bounds-slots-p

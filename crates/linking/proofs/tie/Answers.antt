@@ -16,5 +16,5 @@ mark_from-requires-clause-graph c =
 pub returns-clause-joined : goal.returns-clause-joined
 returns-clause-joined c =
     λ es labels lines spelled size.
-        joined size (c.resolve-lost.ensures.resolved es labels lines spelled size) lines (c.pair.ensures.twins es size (lines_defined lines))
-        c.link_of-link.ensures c.mark_from.ensures c.wrong_line.result c.wrong_line.ensures
+    joined size (c.resolve-lost.ensures.resolved es labels lines spelled size) lines (c.pair.ensures.twins es size (lines_defined lines))
+    c.link_of-link.ensures c.mark_from.ensures c.wrong_line.result c.wrong_line.ensures

@@ -28,8 +28,8 @@ loop-at-preserved c =
     let l = c.loop-at in
     let found : c.if-store_link.missing ≡ (l.missing || k.result) =
     elim c.if-store_link.branch [
-      then-store_link w ↦ flag_raised l.missing w.if-store_link.true w.missing-is
-    | else-store_link w ↦ flag_stays l.missing w.if-store_link.false w.missing-is
+      | then-store_link w ↦ flag_raised l.missing w.if-store_link.true w.missing-is
+      | else-store_link w ↦ flag_stays l.missing w.if-store_link.false w.missing-is
     ] in (
       k.auto.links ∙ l.invariant.0,
       k.auto.used ∙ l.invariant.1,

@@ -82,5 +82,5 @@ returns-clause-resolved c =
     let l = c.loop-e in
     let same = l.invariant.0 ∙ length_front c.args.starts.now c.clear.new.slots c.args.cues c.clear.auto.slots in
     λ es labels lines spelled size.
-        let w = lines_written lines spelled size in
-        resolved w (l.invariant.3 es w) c.loop-e-test.false (omega (arith, same, c.requires.count_in_bounds.1))
+    let w = lines_written lines spelled size in
+    resolved w (l.invariant.3 es w) c.loop-e-test.false (omega (arith, same, c.requires.count_in_bounds.1))

@@ -16,7 +16,7 @@ taken : {starts links labels : List ℕ} {cues count : ℕ} {before : List ℕ} 
     → Turning starts links labels cues count before b whole left fields next last w
     → (w.depth ≡ 0 → ⊥) → (l : ℕ) → l ≡ get_or links (get_or next (w.depth - 1) 0) 0 → (after : List ℕ) (r : Walk)
     → ((get_or next (w.depth - 1) 0 < get_or last (w.depth - 1) 0) × (after ≡ set next (w.depth - 1) (get_or next (w.depth - 1) 0 + 1)) × (r ≡ w))
-      ⊎ ((get_or last (w.depth - 1) 0 ≤ get_or next (w.depth - 1) 0) × (after ≡ next) × (r ≡ record { end = w.end; nodes = w.nodes; depth = w.depth - 1 }))
+    ⊎ ((get_or last (w.depth - 1) 0 ≤ get_or next (w.depth - 1) 0) × (after ≡ next) × (r ≡ record { end = w.end; nodes = w.nodes; depth = w.depth - 1 }))
     → Due starts links labels cues count before b whole left l fields after last r
 taken g some l e after r = ⊎_elim (λ x. turning_more g some l e after r x.0 x.1 x.2) (λ x. turning_last g some l e after r x.0 x.1 x.2)
 

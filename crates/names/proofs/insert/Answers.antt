@@ -11,7 +11,7 @@ pub offset_bounds-slots-p : goal.offset_bounds-slots-p
 offset_bounds-slots-p c =
     let a = c.args in
     let in_table : c.in-Free.p < length a.slots.now =
-        (name_puts a.text.now a.starts.now a.ends.now a.slots.now a.count c.requires.0 c.requires.4).spot c.in-Free.p (sym c.in-Free.is ∙ c.walk_to.ensures) in
+    (name_puts a.text.now a.starts.now a.ends.now a.slots.now a.count c.requires.0 c.requires.4).spot c.in-Free.p (sym c.in-Free.is ∙ c.walk_to.ensures) in
     search rules
 
 pub bounds-slots-p : goal.bounds-slots-p

@@ -35,8 +35,7 @@ returns-then-text-next-ne44 c =
 pub name_end-to-requires : goal.name_end-to-requires
 name_end-to-requires c =
     let a = c.args in
-    let f = line_feeds a.text.now a.at a.past (c.requires a.at) c.if-past-at.false in
-    (
+    let f = line_feeds a.text.now a.at a.past (c.requires a.at) c.if-past-at.false in (
       name_comma,
       name_feeds a.text.now a.number a.at f c.in-Number.value c.in-Number.next (sym c.in-Number.is ∙ c.number_at.ensures) c.if-value-number.false c.if-text-next-ne44.false,
     )

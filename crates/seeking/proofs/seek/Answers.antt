@@ -17,12 +17,13 @@ returns-then-b-eq0-clause-sought c =
     let d = c.loop-set.choice in
     let holds = in_row a.states.now in
     let fits : PoolFits a.k (length d) a.pool.now =
-        subst (λ (n : ℕ). PoolFits a.k n a.pool.now) (sym c.loop-set.invariant.0.same_length) c.requires.pool_fits.0 in
+    subst (λ (n : ℕ). PoolFits a.k n a.pool.now) (sym c.loop-set.invariant.0.same_length) c.requires.pool_fits.0 in
     let because : Against holds a.k a.spare a.pool.now c.match-test.set d =
-        elim c.match-test.branch [
-          in-Because w ↦ entry_against holds a.k a.spare a.pool.now c.test.result c.match-test.set d w.in-Because.is w.set-is fits c.test.ensures.says
-        | in-None+in-Because-too_long w ↦
-            length_against holds a.k a.spare a.pool.now w.too_long.result c.match-test.set d w.in-Because-too_long.is w.set-is w.too_long.ensures ] in
+    elim c.match-test.branch [
+      | in-Because w ↦ entry_against holds a.k a.spare a.pool.now c.test.result c.match-test.set d w.in-Because.is w.set-is fits c.test.ensures.says
+      | in-None+in-Because-too_long w ↦
+          length_against holds a.k a.spare a.pool.now w.too_long.result c.match-test.set d w.in-Because-too_long.is w.set-is w.too_long.ensures
+    ] in
     ended holds a.k a.spare a.pool.now a.choice.now a.why.now d c.loop-set.why c.loop-set.invariant.0 c.match-test.set because c.skip-b.result
     c.skip-b.new.choice c.skip-b.new.why c.if-b-eq0.true c.skip-b.ensures.skips
 
@@ -32,15 +33,17 @@ loop-set-preserved c =
     let d = c.loop-set.choice in
     let holds = in_row a.states.now in
     let fits : PoolFits a.k (length d) a.pool.now =
-        subst (λ (n : ℕ). PoolFits a.k n a.pool.now) (sym c.loop-set.invariant.0.same_length) c.requires.pool_fits.0 in
+    subst (λ (n : ℕ). PoolFits a.k n a.pool.now) (sym c.loop-set.invariant.0.same_length) c.requires.pool_fits.0 in
     let because : Against holds a.k a.spare a.pool.now c.match-test.set d =
-        elim c.match-test.branch [
-          in-Because w ↦ entry_against holds a.k a.spare a.pool.now c.test.result c.match-test.set d w.in-Because.is w.set-is fits c.test.ensures.says
-        | in-None+in-Because-too_long w ↦
-            length_against holds a.k a.spare a.pool.now w.too_long.result c.match-test.set d w.in-Because-too_long.is w.set-is w.too_long.ensures ] in
-    (moved holds a.k a.spare a.pool.now a.choice.now a.why.now d c.loop-set.why c.loop-set.invariant.0 c.match-test.set because c.skip-b.result
-    c.skip-b.new.choice c.skip-b.new.why c.if-b-eq0.false c.skip-b.ensures.nearer.1 c.skip-b.auto.why c.skip-b.ensures.skips,
-    search rules,
-    search rules,
-    search rules,
-    c.test.ensures.columns_2)
+    elim c.match-test.branch [
+      | in-Because w ↦ entry_against holds a.k a.spare a.pool.now c.test.result c.match-test.set d w.in-Because.is w.set-is fits c.test.ensures.says
+      | in-None+in-Because-too_long w ↦
+          length_against holds a.k a.spare a.pool.now w.too_long.result c.match-test.set d w.in-Because-too_long.is w.set-is w.too_long.ensures
+    ] in (
+      moved holds a.k a.spare a.pool.now a.choice.now a.why.now d c.loop-set.why c.loop-set.invariant.0 c.match-test.set because c.skip-b.result
+          c.skip-b.new.choice c.skip-b.new.why c.if-b-eq0.false c.skip-b.ensures.nearer.1 c.skip-b.auto.why c.skip-b.ensures.skips,
+      search rules,
+      search rules,
+      search rules,
+      c.test.ensures.columns_2,
+    )

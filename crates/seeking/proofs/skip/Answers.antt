@@ -14,16 +14,17 @@ pub returns-then-not-advance-clause-skips : goal.returns-then-not-advance-clause
 returns-then-not-advance-clause-skips c = λ passing w r known.
     let a = c.args in
     let on : next_of a.k c.learn-b.result a.choice.now ≡ over =
-        c.advance.ensures ∙ ap (λ (r : Bool). advanced r c.advance.new.choice) c.if-not-advance.true in
+    c.advance.ensures ∙ ap (λ (r : Bool). advanced r c.advance.new.choice) c.if-not-advance.true in
     none_left_lem passing a.k a.choice.now a.set c.learn-b.result a.why.now c.learn-b.new.why c.learn-b.ensures on w r known
 
 pub returns-clause-nearer : goal.returns-clause-nearer
 returns-clause-nearer c =
     let a = c.args in
     let d = c.advance.new.choice in
-    let on : next_of a.k c.learn-b.result a.choice.now ≡ next d = c.advance.ensures ∙ ap (λ (r : Bool). advanced r d) c.if-not-advance.false in
-    (blame_inside a.k a.set c.learn-b.result a.choice.now a.why.now c.learn-b.new.why c.learn-b.ensures,
-    nearer a.k c.learn-b.result a.choice.now d on)
+    let on : next_of a.k c.learn-b.result a.choice.now ≡ next d = c.advance.ensures ∙ ap (λ (r : Bool). advanced r d) c.if-not-advance.false in (
+      blame_inside a.k a.set c.learn-b.result a.choice.now a.why.now c.learn-b.new.why c.learn-b.ensures,
+      nearer a.k c.learn-b.result a.choice.now d on,
+    )
 
 pub returns-clause-skips : goal.returns-clause-skips
 returns-clause-skips c = λ passing w r known.

@@ -35,11 +35,10 @@ returns-then-text-to-ne32 c =
     λ at w. task_last c.args.text.now at c.args.id c.args.next w c.if-text-next-ne32.false _ c.name_end-to.ensures c.if-to-from.false c.if-text-to-ne32.true
 
 pub method_line-requires : goal.method_line-requires
-method_line-requires c =
-    (
-      c.requires.0,
-      headed c.args.text.now c.requires.0 c.args.id c.args.next c.requires.1 c.if-text-next-ne32.false _ c.name_end-to.ensures c.if-to-from.false c.if-text-to-ne32.false,
-    )
+method_line-requires c = (
+  c.requires.0,
+  headed c.args.text.now c.requires.0 c.args.id c.args.next c.requires.1 c.if-text-next-ne32.false _ c.name_end-to.ensures c.if-to-from.false c.if-text-to-ne32.false,
+)
 
 pub returns : goal.returns
 returns c =

@@ -32,8 +32,8 @@ returns-clause-demand1 c =
       answer = ap reported j.ensures.value;
       states = j.ensures.states_after;
       nodes =
-        filled_left n c.count_of.result j.new.work c.fill.new.nodes (nodes_after n found) j.result (answer_of found) c.fill.ensures c.count_of.ensures
-        j.ensures.value (records_filled s n w t j.new.work found (check_comes s n w t) j.ensures.records_held);
+          filled_left n c.count_of.result j.new.work c.fill.new.nodes (nodes_after n found) j.result (answer_of found) c.fill.ensures c.count_of.ensures
+          j.ensures.value (records_filled s n w t j.new.work found (check_comes s n w t) j.ensures.records_held);
       work = c.clear_work.ensures ∙ ap (λ (m : ℕ). replicate {A = ℕ} m 0) j.auto.work;
     }
 

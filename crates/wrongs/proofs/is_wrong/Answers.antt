@@ -34,7 +34,7 @@ returns-else-marks-e-eq0 c =
     (omega (arith, c.if-used-e-gt1.false))
     (no_parent a.twin.now a.used.now a.marks.now a.lost a.root a.e
     (elim c.else-root-e.branch [
-      else-root-e-via-then-root-e+else-used-e-gt0 w ↦ inl (omega (arith, ltb-false))
-    | else-root-e-via-else-root-e w ↦ inr w.if-root-e.false
+      | else-root-e-via-then-root-e+else-used-e-gt0 w ↦ inl (omega (arith, ltb-false))
+      | else-root-e-via-else-root-e w ↦ inr w.if-root-e.false
     ]))
     c.if-marks-e-eq0.false

@@ -43,6 +43,7 @@ loop-s-preserved c =
     let at : get_or gs c.lowest-s.result 0 ≡ get_or gs (head_d (members_of l.rest) 32) 0 = ap (λ (n : ℕ). get_or gs n 0) c.lowest-s.ensures in
     going_on l.invariant (omega arith) max (λ w s ss. refl) c.if-high-index.high c.others-rest.result
     (elim c.if-high-index.branch [
-      then-high-index w ↦ omega (arith, w.if-high-index.true, w.high-is, at)
-    | else-high-index w ↦ omega (arith, w.if-high-index.false, w.high-is, at) ])
+      | then-high-index w ↦ omega (arith, w.if-high-index.true, w.high-is, at)
+      | else-high-index w ↦ omega (arith, w.if-high-index.false, w.high-is, at)
+    ])
     c.others-rest.ensures

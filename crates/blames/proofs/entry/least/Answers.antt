@@ -43,6 +43,7 @@ loop-s-preserved c =
     let at : get_or gs c.lowest-s.result 0 ≡ get_or gs (head_d (members_of l.rest) 32) 0 = ap (λ (n : ℕ). get_or gs n 0) c.lowest-s.ensures in
     going_on l.invariant (omega arith) min (λ w s ss. refl) c.if-index-low.low c.others-rest.result
     (elim c.if-index-low.branch [
-      then-index-low w ↦ omega (arith, w.if-index-low.true, w.low-is, at)
-    | else-index-low w ↦ omega (arith, w.if-index-low.false, w.low-is, at) ])
+      | then-index-low w ↦ omega (arith, w.if-index-low.true, w.low-is, at)
+      | else-index-low w ↦ omega (arith, w.if-index-low.false, w.low-is, at)
+    ])
     c.others-rest.ensures

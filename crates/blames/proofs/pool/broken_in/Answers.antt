@@ -23,16 +23,20 @@ pub keeps_entry-requires-clause-k_bound : goal.keeps_entry-requires-clause-k_bou
 keeps_entry-requires-clause-k_bound c =
     let a = c.args in
     let p = c.requires.k_bound in
-    let place = get_or a.turns.now c.loop-i.i 0 in
-    (p.0, p.1, p.2,
-    subst (λ (y : Entry). y.letter ≢ 0 → EntryFits a.k (length a.choice.now) y) (sym c.entry_at-x.ensures)
-    (p.3 (a.first + place) (inside a.pool.now a.first a.count place c.requires.count_in_bounds.0 c.if-place-count.true)))
+    let place = get_or a.turns.now c.loop-i.i 0 in (
+      p.0,
+      p.1,
+      p.2,
+      subst (λ (y : Entry). y.letter ≢ 0 → EntryFits a.k (length a.choice.now) y) (sym c.entry_at-x.ensures)
+          (p.3 (a.first + place) (inside a.pool.now a.first a.count place c.requires.count_in_bounds.0 c.if-place-count.true)),
+    )
 
 pub returns-then-not-keeps_entry-clause-broken : goal.returns-then-not-keeps_entry-clause-broken
 returns-then-not-keeps_entry-clause-broken c =
     let a = c.args in
-    let place = get_or a.turns.now c.loop-i.i 0 in
-    (inside a.pool.now a.first a.count place c.requires.count_in_bounds.0 c.if-place-count.true,
-    omega (arith, c.requires.count_in_bounds.1),
-    ap (λ (y : Entry). entry_keeps (in_row a.states.now) y a.choice.now) (sym c.entry_at-x.ensures) ∙ sym c.keeps_entry.ensures.value
-    ∙ c.if-not-keeps_entry.true)
+    let place = get_or a.turns.now c.loop-i.i 0 in (
+      inside a.pool.now a.first a.count place c.requires.count_in_bounds.0 c.if-place-count.true,
+      omega (arith, c.requires.count_in_bounds.1),
+      ap (λ (y : Entry). entry_keeps (in_row a.states.now) y a.choice.now) (sym c.entry_at-x.ensures) ∙ sym c.keeps_entry.ensures.value
+          ∙ c.if-not-keeps_entry.true,
+    )

@@ -51,8 +51,7 @@ first_broken_of-requires-clause-constraints_here c =
     let v = c.requires.node_ready in
     let w = standing c.requires.node_ready.2 (sym c.names_method.ensures ∙ c.if-not-names_method.false) in
     let p = c.method_place-place in
-    let n = none_noted w p.result p.ensures c.if-subtasks-eq0.true in
-    (
+    let n = none_noted w p.result p.ensures c.if-subtasks-eq0.true in (
       (method_at v.0.methods c.args.x.label).constraints,
       (method_found w p.result p.ensures).constraints,
       new_tested w p.result p.ensures c.args.work.now n (span_of c.span_at.result) c.span_at.ensures c.args.held v.2.counted,
@@ -109,8 +108,7 @@ first_broken_of-requires-2-clause-constraints_here c =
     let v = c.requires.node_ready in
     let w = standing c.requires.node_ready.2 (sym c.names_method.ensures ∙ c.if-not-names_method.false) in
     let p = c.method_place-place in
-    let n = c.subtask_nodes in
-    (
+    let n = c.subtask_nodes in (
       (method_at v.0.methods c.args.x.label).constraints,
       (method_found w p.result p.ensures).constraints,
       new_tested w p.result p.ensures n.new.work n.ensures (span_of c.span_at-2.result) c.span_at-2.ensures c.args.held v.2.counted,

@@ -74,18 +74,20 @@ loop-n-preserved c =
     let f = a.fields.now in
     let l = c.loop-n in
     let e = c.enter_node in
-    let more = c.loop-n-test.true in
-    (e.ensures.columns,
-    e.ensures.fits,
-    counting_on empty_count f a.nodes a.header.nodes l.at l.n l.first l.invariant.2 more c.if-letter-eq-EMPTY.first c.node_size-at.result
-    c.node_size-at.ensures
-    (λ ns d. elim c.if-letter-eq-EMPTY.branch [
-      then-letter-eq-EMPTY w ↦ let own = due_those over_empties f l.at ns l.n d w.if-letter-eq-EMPTY.true (λ q. omega arith) in omega (arith, w.first-is)
-    | else-letter-eq-EMPTY w ↦ let own = due_others over_empties f l.at ns l.n d w.if-letter-eq-EMPTY.false in omega (arith, w.first-is) ]),
-    λ k u r z passing breaks all.
-        e.ensures.sound k u (visited r l.n l.at l.first _ more (l.invariant.2 k.nodes (nodes_stand r)) z) passing breaks
-        (l.invariant.3 k u r z passing breaks all),
-    e.auto.pool ∙ l.invariant.4,
-    e.auto.counts ∙ l.invariant.5,
-    e.auto.columns ∙ l.invariant.6,
-    e.auto.built ∙ l.invariant.7)
+    let more = c.loop-n-test.true in (
+      e.ensures.columns,
+      e.ensures.fits,
+      counting_on empty_count f a.nodes a.header.nodes l.at l.n l.first l.invariant.2 more c.if-letter-eq-EMPTY.first c.node_size-at.result
+          c.node_size-at.ensures
+          (λ ns d. elim c.if-letter-eq-EMPTY.branch [
+            | then-letter-eq-EMPTY w ↦ let own = due_those over_empties f l.at ns l.n d w.if-letter-eq-EMPTY.true (λ q. omega arith) in omega (arith, w.first-is)
+            | else-letter-eq-EMPTY w ↦ let own = due_others over_empties f l.at ns l.n d w.if-letter-eq-EMPTY.false in omega (arith, w.first-is)
+          ]),
+      λ k u r z passing breaks all.
+          e.ensures.sound k u (visited r l.n l.at l.first _ more (l.invariant.2 k.nodes (nodes_stand r)) z) passing breaks
+          (l.invariant.3 k u r z passing breaks all),
+      e.auto.pool ∙ l.invariant.4,
+      e.auto.counts ∙ l.invariant.5,
+      e.auto.columns ∙ l.invariant.6,
+      e.auto.built ∙ l.invariant.7,
+    )

@@ -65,9 +65,10 @@ sum_trees-requires-2-clause-trees_stand c =
     let p = c.requires.visiting in
     let v = p.2 in
     let n = standing v.node (sym c.names_method.ensures ∙ c.if-not-names_method.false) in
-    let h = method_found n c.method_place-place.result c.method_place-place.ensures in
-    (subtrees_of (node_of_tree p.1 c.args.x.n),
-    parts_stand v (omega (arith, c.requires.within.1)) c.node_size.result _ c.node_size.ensures (h.subtasks ∙ sym n.node.count))
+    let h = method_found n c.method_place-place.result c.method_place-place.ensures in (
+      subtrees_of (node_of_tree p.1 c.args.x.n),
+      parts_stand v (omega (arith, c.requires.within.1)) c.node_size.result _ c.node_size.ensures (h.subtasks ∙ sym n.node.count),
+    )
 
 pub enter_lines-requires-clause-k_bound : goal.enter_lines-requires-clause-k_bound
 enter_lines-requires-clause-k_bound c = (few_cues c.requires.visiting.2, c.requires.within.0, c.requires.within.1, search rules)
@@ -87,9 +88,9 @@ returns-clause-sound c = λ k t v passing breaks all.
     let n = standing v.node (sym c.names_method.ensures ∙ c.if-not-names_method.false) in
     let h = method_found n c.method_place-place.result c.method_place-place.ensures in
     let own : PartSays c.args.k x.first (lines_of y) c.part_at-own.result =
-        subst (PartSays c.args.k x.first (lines_of y)) (sym c.part_at-own.ensures) (c.sum_trees.ensures (more y no_tree) (whole_stands v few)).0 in
+    subst (PartSays c.args.k x.first (lines_of y)) (sym c.part_at-own.ensures) (c.sum_trees.ensures (more y no_tree) (whole_stands v few)).0 in
     let parts =
-        c.sum_trees-2.ensures (subtrees_of y)
-        (parts_stand v few c.node_size.result _ c.node_size.ensures (h.subtasks ∙ sym n.node.count)) in
+    c.sum_trees-2.ensures (subtrees_of y)
+    (parts_stand v few c.node_size.result _ c.node_size.ensures (h.subtasks ∙ sym n.node.count)) in
     c.enter_lines.ensures.sound (in_row c.args.states.now) passing (method_at k.methods x.label).constraints h.constraints
     (entries_sound v n.node few _ _ own parts passing breaks) all

@@ -67,18 +67,19 @@ pub loop-j-preserved : goal.loop-j-preserved
 loop-j-preserved c =
     let l = c.loop-j in
     let p = c.part_of-part.ensures in
-    let room : 3 * l.j + 2 < length l.sums = omega (arith, c.requires.cues_bound.1, l.invariant.0) in
-    (simp length-set l.invariant.0,
-    λ ts w.
-        let x = tree_due (l.invariant.1 ts w) c.loop-j-test.true in
-        let s = c.sum_lines-sum.ensures (lines_of x.this) (its_lines x c.after_at-after.ensures) in
-        let says : PartSays c.args.cues l.before (lines_of x.this) c.part_of-part.result = record {
-          low = p.0 ∙ s.0;
-          high = p.1 ∙ s.1;
-          set = λ i. p.2 i ∙ ap (λ (m : ℕ). in_run l.before m i) s.2;
-        } in
-        summing_on (l.invariant.1 ts w) x room c.part_of-part.result says c.after_at-after.result c.sum_lines-sum.result.next
-        c.sum_lines-sum.result.empties c.after_at-after.ensures s.3 s.2)
+    let room : 3 * l.j + 2 < length l.sums = omega (arith, c.requires.cues_bound.1, l.invariant.0) in (
+      simp length-set l.invariant.0,
+      λ ts w.
+          let x = tree_due (l.invariant.1 ts w) c.loop-j-test.true in
+          let s = c.sum_lines-sum.ensures (lines_of x.this) (its_lines x c.after_at-after.ensures) in
+          let says : PartSays c.args.cues l.before (lines_of x.this) c.part_of-part.result = record {
+            low = p.0 ∙ s.0;
+            high = p.1 ∙ s.1;
+            set = λ i. p.2 i ∙ ap (λ (m : ℕ). in_run l.before m i) s.2;
+          } in
+          summing_on (l.invariant.1 ts w) x room c.part_of-part.result says c.after_at-after.result c.sum_lines-sum.result.next
+          c.sum_lines-sum.result.empties c.after_at-after.ensures s.3 s.2,
+    )
 
 pub returns : goal.returns
 returns c = λ ts w. summing_ends (c.loop-j.invariant.1 ts w) c.loop-j-test.false
