@@ -1,9 +1,8 @@
 -- `advance`: the next choice within b gaps is the next within i. Assumes nothing.
-use mathlib.Core.Path.{◌≡◌, refl, sym, ap, ◌∙◌}
-use Prim.Native.Nat.{ℕ, ◌-◌, ◌≤◌}
+use mathlib.Core.Path.{refl, sym, ap, ◌∙◌}
+use Prim.Native.Nat.{◌-◌}
 use native.Mathlib.Omega.{arith}
-use lib.ListN.{length, length-set}
-use Rattle.choices.specs.Searching.{next, next_of}
+use Rattle.choices.specs.Searching.{next}
 use Rattle.choices.proofs.Turns.{carry_on, carry_ends}
 use Rattle.choices.proofs.advance.Goals as goal
 

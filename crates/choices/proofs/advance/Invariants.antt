@@ -1,10 +1,8 @@
 -- `advance`: the next choice within b gaps is the next within i. Assumes nothing.
-use mathlib.Core.Path.{◌≡◌, refl, sym, ap, ◌∙◌}
-use Prim.Native.Nat.{ℕ, ◌-◌, ◌≤◌}
-use native.Mathlib.Omega.{arith}
-use lib.ListN.{length, length-set}
-use Rattle.choices.specs.Searching.{next, next_of}
-use Rattle.choices.proofs.Turns.{carry_on, carry_ends}
+use mathlib.Core.Path.{◌≡◌}
+use Prim.Native.Nat.{◌≤◌}
+use lib.ListN.{length}
+use Rattle.choices.specs.Searching.{next_of}
 use Rattle.choices.proofs.advance.Given as goal
 
 abbrev pub invariant-loop-i : goal.invariant-loop-i

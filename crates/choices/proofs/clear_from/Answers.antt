@@ -1,10 +1,10 @@
 -- `clear_from`: the list is zero from `from` to i. Assumes nothing.
-use mathlib.Core.Path.{◌≡◌, refl, ap, ◌∙◌}
+use mathlib.Core.Path.{ap, ◌∙◌}
 use mathlib.Core.List.{List}
-use Prim.Native.Nat.{ℕ, ◌-◌, ◌≤◌, ◌<◌}
+use Prim.Native.Nat.{ℕ, ◌<◌}
 use native.Mathlib.Omega.{arith}
 use lib.ListN.{length, set, length-set}
-use Rattle.choices.proofs.Turns.{zeroed, zeroed_start, zeroed_next, zeroed_all}
+use Rattle.choices.proofs.Turns.{zeroed_next}
 use Rattle.choices.proofs.clear_from.Goals as goal
 
 pub loop-i-preserved : goal.loop-i-preserved

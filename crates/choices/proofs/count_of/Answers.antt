@@ -1,10 +1,10 @@
 -- `count_of`: n is the power of the gaps passed, at most 1,000,000. Assumes nothing.
 use mathlib.Core.Path.{◌≡◌, sym, ap, ◌∙◌}
-use Prim.Native.Nat.{ℕ, ◌+◌, ◌*◌, ◌-◌, ◌≤◌}
+use Prim.Native.Nat.{ℕ, ◌+◌, ◌*◌}
 use native.Mathlib.Omega.{arith}
 use Rattle.rules.specs.Gaps.{power}
 use Rattle.choices.proofs.Count.{power_zero}
-use Rattle.choices.proofs.Turns.{product_small, power_next, counted_over, counted}
+use Rattle.choices.proofs.Turns.{power_next, counted_over}
 use Rattle.std.proofs.Common.{rules}
 use Rattle.choices.proofs.count_of.Goals as goal
 

@@ -1,10 +1,7 @@
 -- `count_of`: n is the power of the gaps passed, at most 1,000,000. Assumes nothing.
-use mathlib.Core.Path.{◌≡◌, sym, ap, ◌∙◌}
-use Prim.Native.Nat.{ℕ, ◌+◌, ◌*◌, ◌-◌, ◌≤◌}
-use native.Mathlib.Omega.{arith}
+use mathlib.Core.Path.{◌≡◌}
+use Prim.Native.Nat.{◌-◌, ◌≤◌}
 use Rattle.rules.specs.Gaps.{power}
-use Rattle.choices.proofs.Count.{power_zero}
-use Rattle.choices.proofs.Turns.{product_small, power_next, counted_over, counted}
 use Rattle.choices.proofs.count_of.Given as goal
 
 abbrev pub invariant-loop-i : goal.invariant-loop-i

@@ -1,9 +1,8 @@
 -- `learn`: the gaps of the set that are below s are a reason (Stands). Assumes nothing.
-use mathlib.Core.Path.{◌≡◌, refl, ◌∙◌}
-use Prim.Native.Nat.{◌-◌, ◌≤◌}
+use mathlib.Core.Path.{refl, ◌∙◌}
+use Prim.Native.Nat.{◌-◌}
 use native.Mathlib.Omega.{arith}
-use lib.ListN.{length, length-set}
-use Rattle.choices.proofs.Reasoning.{Stands, passed, widened, learnt, learnt_none}
+use Rattle.choices.proofs.Reasoning.{passed, widened, learnt}
 use Rattle.choices.proofs.learn.Goals as goal
 
 pub returns-then-choice-s : goal.returns-then-choice-s

@@ -1,9 +1,8 @@
 -- `learn`: the gaps of the set that are below s are a reason (Stands). Assumes nothing.
-use mathlib.Core.Path.{◌≡◌, refl, ◌∙◌}
-use Prim.Native.Nat.{◌-◌, ◌≤◌}
-use native.Mathlib.Omega.{arith}
-use lib.ListN.{length, length-set}
-use Rattle.choices.proofs.Reasoning.{Stands, passed, widened, learnt, learnt_none}
+use mathlib.Core.Path.{◌≡◌}
+use Prim.Native.Nat.{◌≤◌}
+use lib.ListN.{length}
+use Rattle.choices.proofs.Reasoning.{Stands}
 use Rattle.choices.proofs.learn.Given as goal
 
 abbrev pub invariant-loop-s : goal.invariant-loop-s

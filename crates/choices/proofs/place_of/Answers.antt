@@ -1,10 +1,5 @@
 -- `place_of`: n is the place of the gaps passed. Assumes nothing.
-use mathlib.Core.Path.{◌≡◌, refl, ap, ◌∙◌}
-use Prim.Native.Nat.{◌-◌, ◌≤◌}
 use native.Mathlib.Omega.{arith}
-use lib.ListN.{length, take}
-use lib.Seq.{take_all}
-use Rattle.choices.specs.Searching.{place}
 use Rattle.choices.proofs.Turns.{place_next, place_fits}
 use Rattle.choices.proofs.place_of.Goals as goal
 

@@ -1,9 +1,5 @@
 -- `line_size`: the items from here on (Items). Assumes nothing.
-use Rattle.rules.specs.Case.{Valued}
-use Rattle.rules.specs.Fields.{line_fields}
-use Rattle.fields.specs.Standing.{Stands}
-use Rattle.sizes.specs.Sizes.{IsLine}
-use Rattle.sizes.proofs.Items.{Passing, letter_here, passing_starts, item_due, passing_ends}
+use Rattle.sizes.proofs.Items.{letter_here, passing_starts, item_due, passing_ends}
 use native.Mathlib.Omega.{arith}
 use Rattle.sizes.proofs.line_size.Goals as goal
 

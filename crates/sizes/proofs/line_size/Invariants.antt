@@ -3,8 +3,7 @@ use Rattle.rules.specs.Case.{Valued}
 use Rattle.rules.specs.Fields.{line_fields}
 use Rattle.fields.specs.Standing.{Stands}
 use Rattle.sizes.specs.Sizes.{IsLine}
-use Rattle.sizes.proofs.Items.{Passing, letter_here, passing_starts, item_due, passing_ends}
-use native.Mathlib.Omega.{arith}
+use Rattle.sizes.proofs.Items.{Passing}
 use Rattle.sizes.proofs.line_size.Given as goal
 
 abbrev pub invariant-loop-rest : goal.invariant-loop-rest

@@ -1,13 +1,5 @@
 -- `past_lines`: the lines from here on (Lines). Assumes nothing.
-use Prim.Native.Nat.{◌-◌}
-use mathlib.Core.Path.{◌≡◌}
-use mathlib.Core.List.{List}
-use lib.ListN.{length}
-use Rattle.rules.specs.Case.{Valued}
-use Rattle.rules.specs.Fields.{lines_fields}
-use Rattle.fields.specs.Standing.{Stands}
-use Rattle.sizes.specs.Sizes.{AreLines}
-use Rattle.sizes.proofs.Lines.{Going, going_starts, line_due, going_ends}
+use Rattle.sizes.proofs.Lines.{line_due}
 use native.Mathlib.Omega.{arith}
 use Rattle.sizes.proofs.past_lines.Goals as goal
 

@@ -7,8 +7,7 @@ use Rattle.rules.specs.Case.{Valued}
 use Rattle.rules.specs.Fields.{lines_fields}
 use Rattle.fields.specs.Standing.{Stands}
 use Rattle.sizes.specs.Sizes.{AreLines}
-use Rattle.sizes.proofs.Lines.{Going, going_starts, line_due, going_ends}
-use native.Mathlib.Omega.{arith}
+use Rattle.sizes.proofs.Lines.{Going}
 use Rattle.sizes.proofs.past_lines.Given as goal
 
 abbrev pub invariant-loop-i : goal.invariant-loop-i

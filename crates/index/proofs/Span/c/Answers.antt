@@ -1,6 +1,5 @@
 -- The code is the definition. Assumes nothing.
 use Rattle.rules.specs.Index as rules
-use Rattle.std.proofs.Common.{rules}
 use Rattle.index.proofs.Span.c.Goals as goal
 
 pub returns : goal.returns
