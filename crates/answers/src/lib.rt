@@ -3,61 +3,58 @@
 
 ghost use Rattle.std.specs.Prelude.{◌≤◌, ◌<◌, length};
 
-use libc::STDOUT_FILENO;
 use records::{ENDS, LABELS, LETTERS, PLACES, STARTS};
 use replies::Reply;
 use rules::{NODES, WORK};
 
+const STDOUT: i32 = 1;
+
 fn print_field(n: u32) {
-    io::write_all(STDOUT_FILENO, b",");
-    io::print_decimal(STDOUT_FILENO, n as u64);
+    io::write_all(STDOUT, b",");
+    io::print_decimal(STDOUT, n as u64);
 }
 
 fn print_fields(numbers: &[u32]) {
-    let mut i: usize = 0;
-    while i < numbers.len() {
-        print_field(numbers[i]);
-        i += 1;
+    for n in numbers {
+        print_field(*n);
     }
 }
 
 // The answer: `Y,k,n` and what more the call tells of an acceptance, or `R,number,line,item`, and a line feed.
 pub fn print_answer(r: Reply, more: &[u32]) {
     if r.number == 0 {
-        io::write_all(STDOUT_FILENO, b"Y");
+        io::write_all(STDOUT, b"Y");
         print_field(r.cues);
         print_field(r.nodes);
         print_fields(more);
     } else {
-        io::write_all(STDOUT_FILENO, b"R");
+        io::write_all(STDOUT, b"R");
         print_field(r.number);
         print_field(r.line);
         print_field(r.item);
     }
-    io::write_all(STDOUT_FILENO, b"\n");
+    io::write_all(STDOUT, b"\n");
 }
 
 // Record i: `T` and its five numbers.
 fn print_record(work: &[u32], i: usize)
     requires { (i < 3000) × (16384 ≤ length work.now) }
 {
-    io::write_all(STDOUT_FILENO, b"T");
+    io::write_all(STDOUT, b"T");
     print_field(work[LETTERS + i]);
     print_field(work[LABELS + i]);
     print_field(work[PLACES + i]);
     print_field(work[STARTS + i]);
     print_field(work[ENDS + i]);
-    io::write_all(STDOUT_FILENO, b"\n");
+    io::write_all(STDOUT, b"\n");
 }
 
 // The records of so many nodes.
 fn print_each(work: &[u32], count: usize)
     requires { (count ≤ 3000) × (16384 ≤ length work.now) }
 {
-    let mut i: usize = 0;
-    while i < count {
+    for i in 0..count {
         print_record(work, i);
-        i += 1;
     }
 }
 
@@ -71,12 +68,10 @@ pub fn print_records(work: &[u32], nodes: u32) {
 
 // The place of the first byte from there on that is not zero, or the length of the output.
 fn first_dirt(output: &[u8], from: usize) -> usize {
-    let mut at = from;
-    while at < output.len() {
+    for at in from..output.len() {
         if output[at] != 0 {
             return at;
         }
-        at += 1;
     }
     output.len()
 }
@@ -84,15 +79,15 @@ fn first_dirt(output: &[u8], from: usize) -> usize {
 fn print_dirt(output: &[u8], from: usize) {
     let at = first_dirt(output, from);
     if at < output.len() {
-        io::write_all(STDOUT_FILENO, b"dirty ");
-        io::print_decimal(STDOUT_FILENO, at as u64);
-        io::write_all(STDOUT_FILENO, b"\n");
+        io::write_all(STDOUT, b"dirty ");
+        io::print_decimal(STDOUT, at as u64);
+        io::write_all(STDOUT, b"\n");
     }
 }
 
 // The bytes of an output up to the length answered; then, if any byte behind them is not zero, the place of the first.
 pub fn print_text(output: &[u8], length: u32) {
     let n = arguments::lesser(length as usize, output.len());
-    io::write_all(STDOUT_FILENO, &output[..n]);
+    io::write_all(STDOUT, &output[..n]);
     print_dirt(output, n);
 }

@@ -2,11 +2,11 @@
 // rows 1 to 5 of 01's table; the tree and the constraints are not judged here.
 #![tactic(auto)]
 
-use libc::STDIN_FILENO;
+const STDIN: i32 = 0;
 
 // The buffer holds one byte more than a case may have, so that a longer input is not cut to a fitting length.
 fn main() {
     let mut buffer = io::large_buffer();
-    let n = io::read_full(STDIN_FILENO, &mut buffer);
+    let n = io::read_full(STDIN, &mut buffer);
     printing::print_reply(replies::as_reply(replay::replay_text(&buffer[..n])));
 }

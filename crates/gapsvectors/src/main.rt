@@ -9,6 +9,7 @@ ghost use Rattle.std.specs.Prelude.{◌+◌, ◌≤◌};
 use finder::Discovery;
 use rules::{STATES, WORK};
 use state::WORDS;
+use std::rt::{Env, Files};
 
 // The most that is lent; the core takes the length of the node list alone.
 const MOST_STATES: usize = STATES * WORDS + 32;
@@ -38,22 +39,20 @@ fn find_text(text: &[u8], states_len: usize, nodes_len: usize, work_len: usize) 
 }
 
 // The case of the file that argument i names, its bytes up to one more than a case may have, and the lengths that follow its name.
-fn find_argument(i: usize)
+fn find_argument(rt: &(impl Env + Files + Eprint), i: usize)
     requires { i + 3 ≤ 18446744073709551615 }
 {
     let mut buffer = io::large_buffer();
-    let n = arguments::file_at(i, &mut buffer);
-    let states = arguments::number_at(i + 1);
-    let nodes = arguments::number_at(i + 2);
-    let work = arguments::number_at(i + 3);
+    let n = arguments::file_at(rt, i, &mut buffer);
+    let states = arguments::number_at(rt, i + 1);
+    let nodes = arguments::number_at(rt, i + 2);
+    let work = arguments::number_at(rt, i + 3);
     find_text(&buffer[..n], states, nodes, work);
 }
 
-fn main() {
-    let cases = os::arg_count() / 4;
-    let mut done: usize = 0;
-    while done < cases {
-        find_argument(4 * done + 1);
-        done += 1;
+fn main(rt: HostRuntime) {
+    let cases = arguments::count(&rt) / 4;
+    for done in 0..cases {
+        find_argument(&rt, 4 * done + 1);
     }
 }

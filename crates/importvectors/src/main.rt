@@ -10,6 +10,7 @@ ghost use Rattle.std.specs.Prelude.{◌+◌, ◌≤◌};
 use importer::Outcome;
 use rules::{STATES, WORK};
 use state::WORDS;
+use std::rt::{Env, Files};
 
 // The most that is lent; the core takes the length of the node list alone. No text that a form makes is as long as the output.
 const MOST_STATES: usize = STATES * WORDS + 32;
@@ -73,19 +74,19 @@ fn import_texts(
 }
 
 // The three files that argument i and the next two name, and the lengths that follow them. Of each file as much is read as a case may have, and a byte more.
-fn import_argument(i: usize)
+fn import_argument(rt: &(impl Env + Files + Eprint), i: usize)
     requires { i + 6 ≤ 18446744073709551615 }
 {
     let mut text = io::large_buffer();
     let mut names = io::large_buffer();
     let mut form = io::large_buffer();
-    let t = arguments::file_at(i, &mut text);
-    let m = arguments::file_at(i + 1, &mut names);
-    let f = arguments::file_at(i + 2, &mut form);
-    let output = arguments::number_at(i + 3);
-    let states = arguments::number_at(i + 4);
-    let nodes = arguments::number_at(i + 5);
-    let work = arguments::number_at(i + 6);
+    let t = arguments::file_at(rt, i, &mut text);
+    let m = arguments::file_at(rt, i + 1, &mut names);
+    let f = arguments::file_at(rt, i + 2, &mut form);
+    let output = arguments::number_at(rt, i + 3);
+    let states = arguments::number_at(rt, i + 4);
+    let nodes = arguments::number_at(rt, i + 5);
+    let work = arguments::number_at(rt, i + 6);
     import_texts(
         &text[..t],
         &names[..m],
@@ -97,11 +98,9 @@ fn import_argument(i: usize)
     );
 }
 
-fn main() {
-    let cases = os::arg_count() / 7;
-    let mut done: usize = 0;
-    while done < cases {
-        import_argument(7 * done + 1);
-        done += 1;
+fn main(rt: HostRuntime) {
+    let cases = arguments::count(&rt) / 7;
+    for done in 0..cases {
+        import_argument(&rt, 7 * done + 1);
     }
 }

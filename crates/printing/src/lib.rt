@@ -5,9 +5,10 @@ ghost use Rattle.std.specs.Prelude.{◌≡◌, ◌≤◌, length, drop};
 ghost use Rattle.rules.specs.Line.{printed_report};
 ghost use Rattle.replies.specs.Replies.{report_of};
 
-use libc::STDOUT_FILENO;
 use replies::Reply;
 use report::LONGEST;
+
+const STDOUT: i32 = 1;
 
 // The line of a reply, at the end of `out`; answers where it starts.
 fn line_of(r: Reply, out: &mut [u8]) -> usize
@@ -22,5 +23,5 @@ fn line_of(r: Reply, out: &mut [u8]) -> usize
 pub fn print_reply(r: Reply) {
     let mut out = [0u8; LONGEST];
     let n = line_of(r, &mut out);
-    io::write_all(STDOUT_FILENO, &out[n..]);
+    io::write_all(STDOUT, &out[n..]);
 }

@@ -7,10 +7,12 @@
 
 ghost use Rattle.std.specs.Prelude.{◌+◌, ◌≤◌, length};
 
-use libc::STDOUT_FILENO;
 use replies::Reply;
 use rules::{Answer, STATES, WORK};
 use state::WORDS;
+use std::rt::{Env, Files};
+
+const STDOUT: i32 = 1;
 
 // The most that is lent; the core of the check call takes the length of the node list alone.
 const MOST_STATES: usize = STATES * WORDS + 1000;
@@ -21,53 +23,45 @@ const MOST_WORK: usize = WORK + 32;
 fn used(row: &[u64]) -> usize
     ensures { result ≤ length row.now }
 {
-    let mut n = row.len();
-    while 0 < n {
-        if row[n - 1] != 0 {
-            return n;
+    for n in (0..row.len()).rev() {
+        if row[n] != 0 {
+            return n + 1;
         }
-        n -= 1;
     }
     0
 }
 
 // `S`, the number of the state, its words, and a line feed.
 fn print_row(i: usize, row: &[u64]) {
-    io::write_all(STDOUT_FILENO, b"S,");
-    io::print_decimal(STDOUT_FILENO, i as u64);
+    io::write_all(STDOUT, b"S,");
+    io::print_decimal(STDOUT, i as u64);
     let n = used(row);
-    let mut w: usize = 0;
-    while w < n {
-        io::write_all(STDOUT_FILENO, b",");
-        io::print_decimal(STDOUT_FILENO, row[w]);
-        w += 1;
+    for word in &row[..n] {
+        io::write_all(STDOUT, b",");
+        io::print_decimal(STDOUT, *word);
     }
-    io::write_all(STDOUT_FILENO, b"\n");
+    io::write_all(STDOUT, b"\n");
 }
 
 // The rows below the count that the list has.
 fn print_rows(states: &[u64], count: usize) {
-    let mut i: usize = 0;
     let mut from: usize = 0;
-    while i < count {
+    for i in 0..count {
         if states.len() - from < WORDS {
             return;
         }
         let to = from + WORDS;
         print_row(i, &states[from..to]);
         from = to;
-        i += 1;
     }
 }
 
 // The place of the first number from there on that is not zero, or the length of the list.
 fn first_dirt(states: &[u64], from: usize) -> usize {
-    let mut at = from;
-    while at < states.len() {
+    for at in from..states.len() {
         if states[at] != 0 {
             return at;
         }
-        at += 1;
     }
     states.len()
 }
@@ -75,9 +69,9 @@ fn first_dirt(states: &[u64], from: usize) -> usize {
 fn print_dirt(states: &[u64], from: usize) {
     let at = first_dirt(states, from);
     if at < states.len() {
-        io::write_all(STDOUT_FILENO, b"dirty ");
-        io::print_decimal(STDOUT_FILENO, at as u64);
-        io::write_all(STDOUT_FILENO, b"\n");
+        io::write_all(STDOUT, b"dirty ");
+        io::print_decimal(STDOUT, at as u64);
+        io::write_all(STDOUT, b"\n");
     }
 }
 
@@ -118,46 +112,38 @@ fn run_text(text: &[u8], whole: bool, states_len: usize, nodes_len: usize, work_
 }
 
 // Whether the call that argument i names is the check, and not the replay; the word is printed.
-fn is_check(i: usize) -> bool {
+fn is_check(rt: &impl Env, i: usize) -> bool {
     let mut word = io::buffer();
-    arguments::word_at(i, &mut word);
+    arguments::word_at(rt, i, &mut word);
     word[0] == b'c'
 }
 
 // The case of a file, its bytes up to one more than a case may have, and the words that follow its name.
-fn run_file(path: &[u8], i: usize)
+fn run_file(rt: &(impl Env + Files + Eprint), path: &[u8], i: usize)
     requires { i + 4 ≤ 18446744073709551615 }
 {
-    let fd = os::open_read(path);
-    if fd < 0 {
-        os::fail(path);
-        return;
-    }
     let mut buffer = io::large_buffer();
-    let n = io::read_full(fd, &mut buffer);
-    libc::close(fd);
-    io::write_all(STDOUT_FILENO, path);
-    io::write_all(STDOUT_FILENO, b" ");
-    let whole = is_check(i + 1);
-    let states = arguments::number_at(i + 2);
-    let nodes = arguments::number_at(i + 3);
-    let work = arguments::number_at(i + 4);
+    let Some(n) = arguments::read_file(rt, path, &mut buffer) else {
+        return;
+    };
+    let whole = is_check(rt, i + 1);
+    let states = arguments::number_at(rt, i + 2);
+    let nodes = arguments::number_at(rt, i + 3);
+    let work = arguments::number_at(rt, i + 4);
     run_text(&buffer[..n], whole, states, nodes, work);
 }
 
-fn run_argument(i: usize)
+fn run_argument(rt: &(impl Env + Files + Eprint), i: usize)
     requires { i + 4 ≤ 18446744073709551615 }
 {
     let mut path = io::buffer();
-    let n = os::arg(i, &mut path);
-    run_file(&path[..n], i);
+    let n = arguments::argument(rt, i, &mut path);
+    run_file(rt, &path[..n], i);
 }
 
-fn main() {
-    let cases = os::arg_count() / 5;
-    let mut done: usize = 0;
-    while done < cases {
-        run_argument(5 * done + 1);
-        done += 1;
+fn main(rt: HostRuntime) {
+    let cases = arguments::count(&rt) / 5;
+    for done in 0..cases {
+        run_argument(&rt, 5 * done + 1);
     }
 }

@@ -6,8 +6,11 @@
 
 ghost use Rattle.std.specs.Prelude.{◌≤◌, length};
 
-use libc::{STDIN_FILENO, STDOUT_FILENO};
 use state::{State, Stepped, WORDS};
+
+const STDIN: i32 = 0;
+
+const STDOUT: i32 = 1;
 
 // The largest number that a word of a set can be.
 const MOST: u64 = 18446744073709551615;
@@ -62,16 +65,17 @@ fn number_at(text: &[u8], from: usize) -> Number
     ensures { result.next ≤ length text.now }
 {
     let mut value: u64 = 0;
-    let mut at = from;
-    while at < text.len() {
+    for at in from..text.len() {
         let d = digit(text[at]);
         if 9 < d {
             return Number { value, next: at };
         }
         value = with_digit(value, d);
-        at += 1;
     }
-    Number { value, next: at }
+    Number {
+        value,
+        next: text.len(),
+    }
 }
 
 // The place after the bytes that are due at a place. Where others stand it is the end of the text, at which nothing more is found: so a case is
@@ -83,16 +87,12 @@ fn past(text: &[u8], from: usize, bytes: &[u8]) -> usize
     if text.len() - from < bytes.len() {
         return text.len();
     }
-    let mut at = from;
-    let mut i: usize = 0;
-    while i < bytes.len() {
-        if text[at] != bytes[i] {
+    for i in 0..bytes.len() {
+        if text[from + i] != bytes[i] {
             return text.len();
         }
-        at += 1;
-        i += 1;
     }
-    at
+    from + bytes.len()
 }
 
 // The place of the line feed that ends the line of a place, or the end of the text.
@@ -100,14 +100,12 @@ fn line_end(text: &[u8], from: usize) -> usize
     requires { from ≤ length text.now }
     ensures { (from ≤ result) × (result ≤ length text.now) }
 {
-    let mut at = from;
-    while at < text.len() {
+    for at in from..text.len() {
         if text[at] == b'\n' {
             return at;
         }
-        at += 1;
     }
-    at
+    text.len()
 }
 
 // The set of the line that starts with a word: the place is that of the line feed before it, and the word has that line feed too.
@@ -119,12 +117,10 @@ fn set_at(text: &[u8], from: usize, word: &[u8]) -> Line
     let mut words = [0u64; WORDS];
     words[0] = first.value;
     let mut next = first.next;
-    let mut w: usize = 1;
-    while w < WORDS {
+    for w in 1..WORDS {
         let n = number_at(text, past(text, next, b","));
         words[w] = n.value;
         next = n.next;
-        w += 1;
     }
     Line {
         set: State { words },
@@ -162,11 +158,9 @@ fn stepped_at(text: &[u8], from: usize) -> Case
 // The words of a state, a comma before each.
 fn print_state(s: State) {
     let words = s.words;
-    let mut w: usize = 0;
-    while w < WORDS {
-        io::write_all(STDOUT_FILENO, b",");
-        io::print_decimal(STDOUT_FILENO, words[w]);
-        w += 1;
+    for word in &words {
+        io::write_all(STDOUT, b",");
+        io::print_decimal(STDOUT, *word);
     }
 }
 
@@ -174,14 +168,14 @@ fn print_state(s: State) {
 fn print_stepped(r: Stepped, computed: u32) {
     let left = r.state;
     if r.ok {
-        io::write_all(STDOUT_FILENO, b"Y");
+        io::write_all(STDOUT, b"Y");
     } else {
-        io::write_all(STDOUT_FILENO, b"N");
+        io::write_all(STDOUT, b"N");
     }
     print_state(left);
-    io::write_all(STDOUT_FILENO, b"\nmask ");
-    io::print_decimal(STDOUT_FILENO, computed as u64);
-    io::write_all(STDOUT_FILENO, b"\n");
+    io::write_all(STDOUT, b"\nmask ");
+    io::print_decimal(STDOUT, computed as u64);
+    io::write_all(STDOUT, b"\n");
 }
 
 // Runs the case that starts at a place. Answers where the next one starts, or the same place where no whole case stands.
@@ -201,9 +195,9 @@ fn run_case(text: &[u8], from: usize) -> usize
     if text[last] != b'\n' {
         return from;
     }
-    io::write_all(STDOUT_FILENO, b"case ");
-    io::write_all(STDOUT_FILENO, &text[name..end]);
-    io::write_all(STDOUT_FILENO, b"\n");
+    io::write_all(STDOUT, b"case ");
+    io::write_all(STDOUT, &text[name..end]);
+    io::write_all(STDOUT, b"\n");
     print_stepped(stepped, computed);
     last + 1
 }
@@ -223,6 +217,6 @@ fn run_text(text: &[u8]) {
 // The buffer takes 65,536 bytes; a longer input is cut.
 fn main() {
     let mut buffer = io::large_buffer();
-    let n = io::read_full(STDIN_FILENO, &mut buffer);
+    let n = io::read_full(STDIN, &mut buffer);
     run_text(&buffer[..n]);
 }

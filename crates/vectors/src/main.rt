@@ -2,34 +2,25 @@
 // held against the stored expectations, which come from the papers and an independent rendering.
 #![tactic(auto)]
 
-use libc::STDOUT_FILENO;
+use std::rt::{Env, Files};
 
 // The case of a file: its bytes, up to one more than a case may have.
-fn check_file(path: &[u8]) {
-    let fd = os::open_read(path);
-    if fd < 0 {
-        os::fail(path);
-        return;
-    }
+fn check_file(rt: &(impl Files + Eprint), path: &[u8]) {
     let mut buffer = io::large_buffer();
-    let n = io::read_full(fd, &mut buffer);
-    libc::close(fd);
-    io::write_all(STDOUT_FILENO, path);
-    io::write_all(STDOUT_FILENO, b" ");
+    let Some(n) = arguments::read_file(rt, path, &mut buffer) else {
+        return;
+    };
     printing::print_reply(replies::as_reply(verdict::check_text(&buffer[..n])));
 }
 
-fn check_argument(i: usize) {
+fn check_argument(rt: &(impl Env + Files + Eprint), i: usize) {
     let mut path = io::buffer();
-    let n = os::arg(i, &mut path);
-    check_file(&path[..n]);
+    let n = arguments::argument(rt, i, &mut path);
+    check_file(rt, &path[..n]);
 }
 
-fn main() {
-    let count = os::arg_count();
-    let mut i: usize = 1;
-    while i < count {
-        check_argument(i);
-        i += 1;
+fn main(rt: HostRuntime) {
+    for i in 1..arguments::count(&rt) {
+        check_argument(&rt, i);
     }
 }

@@ -8,6 +8,7 @@ ghost use Rattle.std.specs.Prelude.{◌+◌, ◌≤◌};
 
 use rules::{STATES, TEXT, WORK};
 use state::WORDS;
+use std::rt::{Env, Files};
 use writer::Wrote;
 
 // The most that is lent; the core takes the length of the node list alone.
@@ -53,23 +54,21 @@ fn write_text(
 }
 
 // The case of the file that argument i names, its bytes up to one more than a case may have, and the lengths that follow its name.
-fn write_argument(i: usize)
+fn write_argument(rt: &(impl Env + Files + Eprint), i: usize)
     requires { i + 4 ≤ 18446744073709551615 }
 {
     let mut buffer = io::large_buffer();
-    let n = arguments::file_at(i, &mut buffer);
-    let output = arguments::number_at(i + 1);
-    let states = arguments::number_at(i + 2);
-    let nodes = arguments::number_at(i + 3);
-    let work = arguments::number_at(i + 4);
+    let n = arguments::file_at(rt, i, &mut buffer);
+    let output = arguments::number_at(rt, i + 1);
+    let states = arguments::number_at(rt, i + 2);
+    let nodes = arguments::number_at(rt, i + 3);
+    let work = arguments::number_at(rt, i + 4);
     write_text(&buffer[..n], output, states, nodes, work);
 }
 
-fn main() {
-    let cases = os::arg_count() / 5;
-    let mut done: usize = 0;
-    while done < cases {
-        write_argument(5 * done + 1);
-        done += 1;
+fn main(rt: HostRuntime) {
+    let cases = arguments::count(&rt) / 5;
+    for done in 0..cases {
+        write_argument(&rt, 5 * done + 1);
     }
 }

@@ -1,0 +1,10 @@
+-- There is room for the fields of a short case and of any form. Assumes nothing.
+use native.Mathlib.Omega.{arith}
+use Rattle.rules.specs.Verdict.{text_most}
+use Rattle.importer.proofs.texts.make_short.Goals as goal
+
+pub make_text-requires : goal.make_text-requires
+unfolding text_most
+make_text-requires c =
+    let short = c.requires.0 in
+    (omega arith, c.requires.1, omega arith)
