@@ -1,7 +1,7 @@
 -- What the find-the-gaps call finds is what the check accepts of the text with other gaps, and a refusal comes with no records. Assumes nothing.
 use mathlib.Core.Path.{◌≡◌, refl, sym, ◌∙◌, ap, subst}
 use mathlib.Core.Bool.{Bool, true, false}
-use mathlib.Core.List.{List, [], ◌∷◌}
+use mathlib.Core.List.{List}
 use mathlib.Core.Logic.{◌⊎◌, inl, inr}
 use Prim.Native.Nat.{ℕ}
 use lib.Dec.{ltb}
@@ -10,7 +10,7 @@ use Rattle.rules.specs.declared.Answer.TheVariants.{TooManyChoices, NoChoice}
 use Rattle.rules.specs.Result.{Result, found, refused, ◌>>=◌}
 use Rattle.rules.specs.Case.{Case, read_case}
 use Rattle.rules.specs.Tree.{Tree}
-use Rattle.rules.specs.Verdict.{Found, Lent, check_lists, check, reported, answer_of}
+use Rattle.rules.specs.Verdict.{Found, Lent, check_lists, check, reported}
 use Rattle.rules.specs.Gaps.{empty_count, choices, text_with, choice_count, choice_most, few_choices, before_choices, find_gaps}
 use Rattle.rules.proofs.Gaps.Answers.{FirstSays, found_first, from_choices, find_answers}
 use Rattle.verdict.proofs.Records.{Comes, check_comes}

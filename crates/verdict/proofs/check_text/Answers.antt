@@ -1,11 +1,10 @@
 -- The lists are as long as asked. Assumes nothing.
-use Rattle.std.proofs.Common.{◌≡◌, ℕ, List, length, replicate, sym, ap, subst, refl, ◌∙◌}
+use Rattle.std.proofs.Common.{◌≡◌, ℕ, List, length, replicate, ap, subst, ◌∙◌}
 use Rattle.std.proofs.Math.ListN.{length-replicate}
-use Rattle.rules.specs.declared.Answer.{Answer}
 use Rattle.rules.specs.declared.Node.{Node}
 use Rattle.rules.specs.State.{word_count}
 use Rattle.rules.specs.Verdict.{Lent, state_need, node_need, work_need, reported, answer_of, check, check_lists}
-use Rattle.rules.specs.Demands.{Borrowed, lent_by, borrowed, as_asked, Demand2, Demand3}
+use Rattle.rules.specs.Demands.{lent_by, borrowed, as_asked, Demand2, Demand3}
 use Rattle.verdict.proofs.check_text.Goals as goal
 
 -- lists of these lengths are the lists that are asked

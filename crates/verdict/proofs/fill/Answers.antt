@@ -1,5 +1,5 @@
 -- The records stand in front, and `clear_from` makes the rest (Written).
-use Rattle.std.proofs.Common.{◌≡◌, ℕ, List, length, take, arith, ap, ◌∙◌}
+use Rattle.std.proofs.Common.{◌≡◌, List, length, take, arith, ap, ◌∙◌}
 use Rattle.rules.specs.declared.Node.{Node}
 use Rattle.rules.specs.Verdict.{no_node, filled}
 use Rattle.records.specs.Records.{record_at}
