@@ -124,10 +124,6 @@ def main():
                 with open(p, "w", encoding="utf-8", newline="") as f:
                     f.write(now)
     print(f"{len(new)} names, {changed} files")
-    if "--map" in sys.argv:
-        with open("/tmp/w/map.tsv", "w") as f:
-            for n in sorted(new):
-                f.write(f"{n}\t{new[n]}\n")
 
 
 if __name__ == "__main__":
