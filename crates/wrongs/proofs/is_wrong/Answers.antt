@@ -1,9 +1,7 @@
 -- `wrongs::is_wrong` meets its contract. Assumes nothing.
-use mathlib.Core.Logic.{inl, inr}
 use native.Mathlib.Omega.{arith}
 use borrow.Author.Tests.{ltb-true, ltb-false}
 use Rattle.wrongs.proofs.Fails.{fails_twin, fails_used, fails_parent, fails_marks, no_parent, fails_last}
-use Rattle.wrongs.proofs.is_wrong.Goals.{else-root-e-via-then-root-e+else-used-e-gt0, else-root-e-via-else-root-e}
 use Rattle.wrongs.proofs.is_wrong.Goals as goal
 
 pub returns-then-twin-e-gt0 : goal.returns-then-twin-e-gt0
@@ -32,9 +30,5 @@ returns-else-marks-e-eq0 c =
     let a = c.args in
     fails_last a.twin.now a.used.now a.marks.now a.lost a.root a.e (omega (arith, c.if-twin-e-gt0.false))
     (omega (arith, c.if-used-e-gt1.false))
-    (no_parent a.twin.now a.used.now a.marks.now a.lost a.root a.e
-    (elim c.else-root-e.branch [
-      | else-root-e-via-then-root-e+else-used-e-gt0 w ↦ inl (omega (arith, ltb-false))
-      | else-root-e-via-else-root-e w ↦ inr w.if-root-e.false
-    ]))
+    (no_parent a.twin.now a.used.now a.marks.now a.lost a.root a.e (grind (arith, ltb-false)))
     c.if-marks-e-eq0.false
