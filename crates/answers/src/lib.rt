@@ -66,21 +66,12 @@ pub fn print_records(work: &[u32], nodes: u32) {
     print_each(work, arguments::lesser(nodes as usize, NODES));
 }
 
-// The place of the first byte from there on that is not zero, or the length of the output.
-fn first_dirt(output: &[u8], from: usize) -> usize {
-    for at in from..output.len() {
-        if output[at] != 0 {
-            return at;
-        }
-    }
-    output.len()
-}
-
+// The place of the first byte from there on that is not zero, if one isn't.
 fn print_dirt(output: &[u8], from: usize) {
-    let at = first_dirt(output, from);
-    if at < output.len() {
+    let found = output.iter().skip(from).position(|b| *b != 0);
+    if let Some(i) = found {
         io::write_all(STDOUT, b"dirty ");
-        io::print_decimal(STDOUT, at as u64);
+        io::print_decimal(STDOUT, (from + i) as u64);
         io::write_all(STDOUT, b"\n");
     }
 }

@@ -33,10 +33,7 @@ fn is_missing(rt: &impl Env, i: usize) -> bool {
 pub fn argument(rt: &impl Env, i: usize, word: &mut [u8]) -> usize
     ensures { IsPrefixLen result word.new }
 {
-    match rt.arg(i, word) {
-        Ok(n) => n,
-        Err(_) => 0,
-    }
+    rt.arg(i, word).unwrap_or(0)
 }
 
 // The number that a word is: of a longer one the first six digits count.
@@ -101,6 +98,7 @@ fn read_full(file: &mut impl Read, buffer: &mut [u8]) -> usize
     ensures { IsPrefixLen result buffer.new }
 {
     let mut done: usize = 0;
+    // A `while`: each read moves on by as many bytes as it brings.
     while done < buffer.len() {
         match file.read(&mut buffer[done..]) {
             Ok(n) if n > 0 => done += n,
@@ -128,10 +126,7 @@ pub fn file_at(rt: &(impl Env + Files + Eprint), i: usize, buffer: &mut [u8]) ->
 {
     let mut path = io::buffer();
     let n = argument(rt, i, &mut path);
-    match read_file(rt, &path[..n], buffer) {
-        Some(count) => count,
-        None => 0,
-    }
+    read_file(rt, &path[..n], buffer).unwrap_or(0)
 }
 
 // How much is lent of a list of so many elements: what is asked, or all.
@@ -139,5 +134,5 @@ pub fn lesser(asked: usize, all: usize) -> usize
     ensures upper_bound { result ≤ all }
     ensures value { (asked ≤ all → result ≡ asked) × (all ≤ asked → result ≡ all) }
 {
-    if asked < all { asked } else { all }
+    asked.min(all)
 }

@@ -2,5 +2,4 @@
 pub mod Walks
 pub mod Edges
 pub mod Letters
-pub mod Slots
 pub mod Reasons

@@ -1,10 +1,10 @@
--- What a broken entry says of the other choices: those that agree at its positions break it too, and so they fail. A list of zeros holds no
--- entry that says anything. Assumes nothing.
+-- What a broken entry says of the other choices: those that agree at its positions break it too, and so they fail. A list of slots
+-- without an entry says nothing. Assumes nothing.
 use mathlib.Core.Path.{◌≡◌, refl, sym, ap, ap₂, ◌∙◌}
 use mathlib.Core.Logic.{◌≢◌}
 use mathlib.Core.Bool.{Bool, true, false, ◌||◌, true≢false}
 use mathlib.Core.List.{List, [], ◌∷◌, Memᴰ}
-use Prim.Native.Nat.{ℕ, zero, suc, ◌*◌, ◌/◌, ◌%◌, ◌^◌, ◌<◌, min, max}
+use Prim.Native.Nat.{ℕ, zero, suc, ◌/◌, ◌%◌, ◌^◌, ◌<◌, min, max}
 use borrow.Author.Tests.{eqb-true}
 use lib.Dec.{eqb}
 use lib.ListN.{get_or, replicate}
@@ -17,7 +17,7 @@ use Rattle.subsets.specs.Members.{members_of}
 use Rattle.subsets.proofs.Chosen.{chosen_has}
 use Rattle.subsets.proofs.Members.{members_below}
 use Rattle.blames.specs.declared.entry.Entry.{Entry}
-use Rattle.blames.specs.Entries.{lowest, highest, edges, meant, entry_keeps, positions_of, EntryFits, entry_size, entry_at, PoolFits, PoolSound, BrokenEntry}
+use Rattle.blames.specs.Entries.{lowest, highest, edges, meant, entry_keeps, positions_of, EntryFits, no_entry, entry_at, PoolFits, PoolSound, BrokenEntry}
 use Rattle.blames.proofs.Letters.{silent_keeps}
 
 -- ---- choices that agree
@@ -81,7 +81,7 @@ digit_of w i b = eqb-true (w / 2 ^ i % 2) 1 b
 has_letter : (holds : Holds) (x : Entry) (gs : List ℕ) → entry_keeps holds x gs ≡ false → x.letter ≢ 0
 has_letter holds x gs b e = true≢false (sym (silent_keeps holds x gs e) ∙ b)
 
-pub broken_reason : (holds : Holds) (passing : List ℕ → Bool) (k e m : ℕ) (pool gs : List ℕ) → PoolFits k e pool → PoolSound holds passing k e pool
+pub broken_reason : (holds : Holds) (passing : List ℕ → Bool) (k e m : ℕ) (pool : List Entry) (gs : List ℕ) → PoolFits k e pool → PoolSound holds passing k e pool
     → BrokenEntry holds pool gs m → (ds : List ℕ) → Choice k e ds
     → ((s : ℕ) → s < e → m / 2 ^ s % 2 ≡ 1 → get_or ds s 0 ≡ get_or gs s 0) → passing ds ≡ false
 broken_reason holds passing k e m pool gs fits sound b ds choice agree =
@@ -94,17 +94,16 @@ broken_reason holds passing k e m pool gs fits sound b ds choice agree =
 
 -- ---- no entries
 
-all_zero : (n i : ℕ) → ◌≡◌ {A = ℕ} (get_or (replicate n 0) i 0) 0
-all_zero zero i = refl
-all_zero (suc n) zero = refl
-all_zero (suc n) (suc i) = all_zero n i
+none_at : (n i : ℕ) → entry_at (replicate n no_entry) i ≡ no_entry
+none_at zero i = refl
+none_at (suc n) zero = refl
+none_at (suc n) (suc i) = none_at n i
 
-no_letter_lem : (n i : ℕ) → (entry_at (replicate n 0) i).letter ≡ 0
-unfolding entry_at
-no_letter_lem n i = ap (λ (v : ℕ). v % 256) (all_zero n (entry_size * i))
+no_letter_lem : (n i : ℕ) → (entry_at (replicate n no_entry) i).letter ≡ 0
+no_letter_lem n i = ap (λ (x : Entry). x.letter) (none_at n i)
 
-pub pool_none_fits : (k e n : ℕ) → PoolFits k e (replicate n 0)
+pub pool_none_fits : (k e n : ℕ) → PoolFits k e (replicate n no_entry)
 pool_none_fits k e n i inside l = absurd (l (no_letter_lem n i))
 
-pub pool_none_sound : (holds : Holds) (passing : List ℕ → Bool) (k e n : ℕ) → PoolSound holds passing k e (replicate n 0)
-pool_none_sound holds passing k e n i inside gs choice b = absurd (has_letter holds (entry_at (replicate n 0) i) gs b (no_letter_lem n i))
+pub pool_none_sound : (holds : Holds) (passing : List ℕ → Bool) (k e n : ℕ) → PoolSound holds passing k e (replicate n no_entry)
+pool_none_sound holds passing k e n i inside gs choice b = absurd (has_letter holds (entry_at (replicate n no_entry) i) gs b (no_letter_lem n i))

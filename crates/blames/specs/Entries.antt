@@ -1,6 +1,6 @@
 -- A constraint of a node whatever the gaps (02, Card 4): the index that its end part ends at and the one that its start part starts at, each
 -- from a cue and from the gaps of some empty tasks; and what a list of such entries says of a choice of gaps. Assumes nothing.
-use Rattle.std.specs.Prelude.{◌≡◌, Bool, true, false, List, [], ◌∷◌, ◌≢◌, ℕ, ◌+◌, ◌*◌, ◌%◌, ◌^◌, ◌<◌, ◌≤◌, min, max, eqb, length, get_or}
+use Rattle.std.specs.Prelude.{◌≡◌, Bool, true, false, List, [], ◌∷◌, ◌≢◌, ℕ, ◌+◌, ◌*◌, ◌^◌, ◌<◌, ◌≤◌, min, max, eqb, length, get_or}
 use Rattle.std.specs.Int.Bits.{bit_or}
 use Rattle.rules.specs.Index.{Span, Part, part_of, only, of_gap}
 use Rattle.rules.specs.Case.{Constraint, O, B, F, W, constraint_of}
@@ -67,34 +67,28 @@ pub record EntryFits (k e : ℕ) (x : Entry) : Type 0 where
 abbrev pub EntrySound : Holds → (List ℕ → Bool) → ℕ → ℕ → Entry → Type 0
 EntrySound holds passing k e x = (gs : List ℕ) → Choice k e gs → entry_keeps holds x gs ≡ false → passing gs ≡ false
 
--- ---- Entries in a list of numbers: six to each
+-- ---- Entries in a list of slots
 
-unfoldable pub entry_size : ℕ
-entry_size = 6
+-- No entry: what a slot past the list has.
+abbrev pub no_entry : Entry
+no_entry = record { letter = 0; p = 0; end = 0; ends = 0; start = 0; starts = 0 }
 
-unfoldable pub entry_at : List ℕ → ℕ → Entry
-entry_at pool i = record {
-  letter = get_or pool (entry_size * i) 0 % 256;
-  p = get_or pool (entry_size * i + 1) 0;
-  end = get_or pool (entry_size * i + 2) 0;
-  ends = get_or pool (entry_size * i + 3) 0;
-  start = get_or pool (entry_size * i + 4) 0;
-  starts = get_or pool (entry_size * i + 5) 0;
-}
+abbrev pub entry_at : List Entry → ℕ → Entry
+entry_at pool i = get_or pool i no_entry
 
 -- Slot i lies inside the list.
-abbrev pub SlotInside : List ℕ → ℕ → Type 0
-SlotInside pool i = entry_size * i + entry_size ≤ length pool
+abbrev pub SlotInside : List Entry → ℕ → Type 0
+SlotInside pool i = i < length pool
 
 -- Every entry that has a letter fits; every entry is sound.
-abbrev pub PoolFits : ℕ → ℕ → List ℕ → Type 0
+abbrev pub PoolFits : ℕ → ℕ → List Entry → Type 0
 PoolFits k e pool = (i : ℕ) → SlotInside pool i → (entry_at pool i).letter ≢ 0 → EntryFits k e (entry_at pool i)
 
-abbrev pub PoolSound : Holds → (List ℕ → Bool) → ℕ → ℕ → List ℕ → Type 0
+abbrev pub PoolSound : Holds → (List ℕ → Bool) → ℕ → ℕ → List Entry → Type 0
 PoolSound holds passing k e pool = (i : ℕ) → SlotInside pool i → EntrySound holds passing k e (entry_at pool i)
 
 -- An entry in the list is broken with the gaps of a choice, and these are the positions that it goes by.
-pub record BrokenEntry (holds : Holds) (pool : List ℕ) (gs : List ℕ) (m : ℕ) : Type 0 where
+pub record BrokenEntry (holds : Holds) (pool : List Entry) (gs : List ℕ) (m : ℕ) : Type 0 where
   pub slot : ℕ
   pub inside : SlotInside pool slot
   pub broken : entry_keeps holds (entry_at pool slot) gs ≡ false

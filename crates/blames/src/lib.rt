@@ -5,5 +5,5 @@
 mod entry;
 mod pool;
 
-pub use entry::{Entry, keeps_entry};
-pub use pool::{BUCKET, Cause, ORDER, POOL, POSITIONS, fits, in_order, push, test};
+pub use entry::{Entry, SILENT, keeps_entry};
+pub use pool::{BUCKET, POSITIONS, SLOTS, fits, in_order, push, test};

@@ -45,7 +45,7 @@ pub record Column (states : List ℕ) (p n : ℕ) (column : List ℕ) : Type 0 w
   pub at : (s : Sign) (l : ℕ) → l < n → asked s column l ≡ in_row states s p l
   pub summed : Summed column n
 
--- The columns of the first n states, and the set of the propositions whose column is built: what a caller carries from test to test.
+-- The columns of the first n states, and the set of the propositions whose column is built: what holds from test to test.
 pub record Columns (states : List ℕ) (n : ℕ) (columns built : List ℕ) : Type 0 where
   pub fits : n ≤ 64 * state_words
   pub there : word_count * n ≤ length states
@@ -58,3 +58,8 @@ pub record Blank (columns built : List ℕ) : Type 0 where
   pub few : length built ≤ word_count
   pub room : length columns ≡ column_count built * column_words
   pub none : built ≡ replicate (length built) 0
+
+-- What a clause sees of the columns of a run's states: the list of the states, and how many of them are held.
+pub record FirstStates : Type 0 where
+  pub states : List ℕ
+  pub held : ℕ

@@ -14,6 +14,7 @@ ghost use Rattle.columns.specs.Columns.{state_words, sum_at, column_words, colum
 use index::StateNumber;
 use rules::Sign;
 use state::WORDS;
+use std::marker::Model;
 
 // How many words of a column are of states, and how many it has: the definitions' state_words and column_words.
 const STATE_WORDS: usize = 16;
@@ -93,9 +94,7 @@ fn word_of(states: &[u64], p: u32, from: usize, to: usize) -> u64
     let i = (p / 64) as usize;
     let s = p % 64;
     let mut word: u64 = 0;
-    let mut l = to;
-    while from < l {
-        l -= 1;
+    for l in (from..to).rev() {
         word = (word << 1) | ((states[WORDS * l + i] >> s) % 2);
     }
     word
@@ -105,7 +104,7 @@ fn word_of(states: &[u64], p: u32, from: usize, to: usize) -> u64
 fn digit(word: u64) -> u64
     ensures { (result < 2) × (eqb result 1 ≡ not (eqb word 0)) }
 {
-    if word == 0 { 0 } else { 1 }
+    u64::from(word != 0)
 }
 
 // The word that sums up a column's first words for a sign.
@@ -114,9 +113,7 @@ fn summary(column: &[u64], words: usize, sign: Sign) -> u64
     ensures { (w : ℕ) → w < words → not (bit result w) ≡ every 64 (w * 64) (asked sign column.now) }
 {
     let mut sum: u64 = 0;
-    let mut w = words;
-    while 0 < w {
-        w -= 1;
+    for w in (0..words).rev() {
         sum = (sum << 1) | digit(turned(column[w], sign));
     }
     sum
@@ -127,7 +124,7 @@ fn word_end(from: usize, n: usize) -> usize
     requires { (from < n) × (n ≤ 64 * state_words) }
     ensures { (from ≤ result) × (result ≤ from + 64) × (result ≤ n) × ((l : ℕ) → l < n → l < from + 64 → l < result) }
 {
-    if n < from + 64 { n } else { from + 64 }
+    n.min(from + 64)
 }
 
 // Writes the column of p for the first n states.
@@ -138,14 +135,13 @@ fn build(column: &mut [u64], states: &[u64], p: u32, n: usize)
     requires n_in_bounds { word_count * n ≤ length states.now }
     ensures { Column states.now p n column.new }
 {
-    let mut w: usize = 0;
-    while 64 * w < n {
+    let words = n.div_ceil(64);
+    for w in 0..words {
         let from = 64 * w;
         column[w] = word_of(states, p, from, word_end(from, n)) ^ ONES;
-        w += 1;
     }
-    column[STATE_WORDS] = summary(column, w, Sign::Positive);
-    column[STATE_WORDS + 1] = summary(column, w, Sign::Negative);
+    column[STATE_WORDS] = summary(column, words, Sign::Positive);
+    column[STATE_WORDS + 1] = summary(column, words, Sign::Negative);
 }
 
 // Where the column of p starts.
@@ -185,13 +181,13 @@ fn by_column(columns: &[u64], sign: Sign, p: u32, first: StateNumber, past: Stat
     )
 }
 
-// The test state by state.
+// The test state by state. A `while`: a state number has a type of its own, which no range counts through.
 fn by_states(states: &[u64], sign: Sign, p: u32, first: StateNumber, past: StateNumber) -> bool
     requires { word_count * state_of past ≤ length states.now }
     ensures { result ≡ holds_from (in_row states.now) sign p (state_of first) (state_of past) }
 {
     let mut l = first;
-    while l.is_less(past) {
+    while l < past {
         if !rows::holds_at(states, sign, p, l) {
             return false;
         }
@@ -210,34 +206,74 @@ fn pays(words: usize, p: u32, first: StateNumber, past: StateNumber) -> bool
     first.number() as usize + FEW <= past.number() as usize
 }
 
-// Whether "p is in each state l with" first ≤ l < past, or whether it is in none; "no such l, then it holds".
-pub fn test(
-    columns: &mut [u64],
-    built: &mut [u64],
-    states: &[u64],
-    n: usize,
-    sign: Sign,
-    p: u32,
-    first: StateNumber,
-    past: StateNumber,
-) -> bool
-    requires columns { Columns states.now n columns.old built.old }
-    requires past_bound { state_of past ≤ n }
-    ensures value { result ≡ holds_from (in_row states.now) sign p (state_of first) (state_of past) }
-    ensures columns_2 { Columns states.now n columns.new built.new }
-{
-    if !first.is_less(past) {
-        return true;
+// The first states of a run, so many as are held, and the columns that are built of them: what the tests go by. The lists are lent, and stay as
+// they are but for the columns that a test builds. A test is a method, so that a caller carries one value, and no fact of it, from test to test.
+#[derive(Drop)]
+pub struct StateColumns<'a> {
+    states: &'a [u64],
+    held: usize,
+    columns: &'a mut [u64],
+    built: &'a mut [u64],
+}
+
+impl<'a> Model for StateColumns<'a> {
+    ghost use Rattle.columns.specs.Columns.{FirstStates, Columns};
+
+    ghost Value = { FirstStates };
+
+    ghost view = { λ t. record { states = t.states.now; held = t.held } };
+
+    ghost invariant = { λ t. Columns t.states.now t.held t.columns.now t.built.now };
+}
+
+impl<'a> StateColumns<'a> {
+    // In lists that a caller lends, with the columns that are built in them.
+    pub fn new(
+        states: &'a [u64],
+        held: usize,
+        columns: &'a mut [u64],
+        built: &'a mut [u64],
+    ) -> StateColumns<'a>
+        requires { Columns states.now held columns.old built.old }
+        ensures { result ≡ record { states = states.now; held = held } }
+    {
+        StateColumns {
+            states,
+            held,
+            columns,
+            built,
+        }
     }
-    if !first.next().is_less(past) {
-        return rows::holds_at(states, sign, p, first);
+
+    // The list of the states.
+    pub fn states(&self) -> &[u64]
+        ensures value { result.now ≡ self.now.states }
+        ensures there { word_count * self.now.held ≤ length result.now }
+    {
+        self.states
     }
-    if state::holds(built, p) {
-        return by_column(columns, sign, p, first, past);
+
+    // Whether "p is in each state l with" first ≤ l < past, or whether it is in none; "no such l, then it holds".
+    pub fn test(&mut self, sign: Sign, p: u32, first: StateNumber, past: StateNumber) -> bool
+        requires { state_of past ≤ self.old.held }
+        ensures value { result ≡ holds_from (in_row self.old.states) sign p (state_of first) (state_of past) }
+        ensures same { self.new ≡ self.old }
+    {
+        if first >= past {
+            return true;
+        }
+        if first.next() >= past {
+            return rows::holds_at(self.states, sign, p, first);
+        }
+        let columns = &mut *self.columns;
+        let built = &mut *self.built;
+        if state::holds(built, p) {
+            return by_column(columns, sign, p, first, past);
+        }
+        if !pays(built.len(), p, first, past) {
+            return by_states(self.states, sign, p, first, past);
+        }
+        fill(columns, built, self.states, self.held, p);
+        by_column(columns, sign, p, first, past)
     }
-    if !pays(built.len(), p, first, past) {
-        return by_states(states, sign, p, first, past);
-    }
-    fill(columns, built, states, n, p);
-    by_column(columns, sign, p, first, past)
 }

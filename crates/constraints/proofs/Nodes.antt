@@ -26,8 +26,7 @@ use Rattle.rules.proofs.Judgement.Walk.{walk_shows}
 use Rattle.tree.proofs.Directory.{finds_kept}
 use Rattle.tree.specs.Layout.{subtasks_past, rows_from, rows_past, subtasks_from, size, rows, rows_in}
 use Rattle.rows.specs.Rows.{in_row}
-use Rattle.columns.specs.Columns.{state_words, Columns, Blank}
-use Rattle.columns.proofs.Kept.{columns_none}
+use Rattle.columns.specs.Columns.{state_words}
 use Rattle.parts.specs.Spans.{row_span, RowInside, siblings, nodes_in, spans_in}
 use Rattle.constraints.specs.Ready.{Ready, Leaves, names_method, Labels, node_of_tree}
 use Rattle.parts.proofs.Stretches.{states_hold, filled_size}
@@ -104,16 +103,23 @@ module _ {k : Case} {t : Tree} {fields : List ℕ} {header : Header} {plan_line 
       ∙ states_hold k r.state_size s p l (initial_worded k (sound r.read.text k r.read.reads))
       (let e = is_sound.plan_length in omega arith)
 
-  -- No column is built yet.
-  pub columns_start : (columns built : List ℕ) → Blank columns built → Columns states (header.cues + 1) columns built
-  unfolding state_words word_count state_need
-  columns_start columns built blank =
+  -- A column has a bit for each of the states, and they are all there.
+  pub few_states : header.cues + 1 ≤ 64 * state_words
+  unfolding state_words
+  few_states =
+      let few = is_sound.head_good.few_cues in
+      let cues : header.cues ≡ k.head.cues = ap (λ (h : Header). h.cues) r.head in
+      omega arith
+
+  pub states_there : word_count * (header.cues + 1) ≤ length states
+  unfolding word_count state_need
+  states_there =
       let few = is_sound.head_good.few_cues in
       let cues : header.cues ≡ k.head.cues = ap (λ (h : Header). h.cues) r.head in
       let long = r.state_room in
       let all = filled_size r.state_size (flatten (states_of k)) in
       let same = ap length r.states_held in
-      columns_none states (header.cues + 1) columns built (omega arith) (omega arith) blank
+      omega arith
 
 -- ---- a node with a method
 

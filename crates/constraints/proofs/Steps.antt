@@ -9,6 +9,7 @@ use native.Mathlib.Numerals.{add-one}
 use native.Mathlib.Omega.{arith}
 use lib.ListN.{length, get_or, drop, get_or-map, drop_of_length-le}
 use lib.Seq.{sets, drop-cons}
+use Rattle.std.specs.Prelude.{Result, Ok, Err}
 use Rattle.rules.specs.declared.Header.{Header}
 use Rattle.rules.specs.declared.Answer.{Answer}
 use Rattle.rules.specs.Index.{Span, span_of_part}
@@ -22,8 +23,6 @@ use Rattle.rules.proofs.Judgement.Sound.{GoodConstraint}
 use Rattle.fields.specs.Standing.{Stands}
 use Rattle.fields.specs.Directory.{methods_from, node_size}
 use Rattle.tree.specs.Layout.{subtasks_past, subtasks_from, size}
-use Rattle.constraints.specs.declared.method.Kept.{Kept}
-use Rattle.constraints.specs.declared.method.Kept.TheVariants.{All, Broken}
 use Rattle.rows.specs.Rows.{in_row}
 use Rattle.parts.specs.Spans.{row_span, RowInside, siblings, spans_in}
 use Rattle.parts.specs.Tests.{Tested}
@@ -38,13 +37,13 @@ use Rattle.constraints.proofs.Nodes.{is_sound, tree_is, size_is, ready_leaves, n
 -- ---- one node
 
 -- No constraints: nothing is broken.
-none_of : (k : Case) (t : Tree) (line n : ℕ) → constraints_of k (node_of_tree t n) ≡ [] → All ≡ kept_as (broken_of_node k t line n)
+none_of : (k : Case) (t : Tree) (line n : ℕ) → constraints_of k (node_of_tree t n) ≡ [] → Ok tt ≡ kept_as (broken_of_node k t line n)
 unfolding broken_of_node
 none_of k t line n e = sym (ap (λ (ds : List Constraint). kept_as (first_broken_of (holds_in (states_of k)) (parts_of (node_of_tree t n)) line 0 ds)) e)
 
 -- A leaf brings none.
 pub leaf_kept : (k : Case) (t : Tree) (line n letter label : ℕ) → Labels letter label (root_line (node_of_tree t n)) → names_method letter ≡ false
-    → All ≡ kept_as (broken_of_node k t line n)
+    → Ok tt ≡ kept_as (broken_of_node k t line n)
 leaf_kept k t line n letter label l e = none_of k t line n (no_constraints k letter label (node_of_tree t n) l e)
 
 -- Node n, whose line names a method, among what the phases before left.
@@ -103,7 +102,7 @@ module _ {k : Case} {t : Tree} {fields : List ℕ} {header : Header} {plan_line 
     subtasks = get_or fields (place + 2) 0
 
     -- It has no constraints.
-    pub none_follow : (line : ℕ) → get_or fields (place + 3 + subtasks) 0 ≡ 0 → All ≡ kept_as (broken_of_node k t line n)
+    pub none_follow : (line : ℕ) → get_or fields (place + 3 + subtasks) 0 ≡ 0 → Ok tt ≡ kept_as (broken_of_node k t line n)
     none_follow line e = none_of k t line n (node_is.brings ∙ no_length method.constraints (method_found.constraints.counted ∙ e))
       where
         no_length : (ds : List Constraint) → length ds ≡ 0 → ds ≡ []
@@ -164,7 +163,7 @@ module _ {k : Case} {t : Tree} {fields : List ℕ} {header : Header} {plan_line 
             (sets work subtasks_from (siblings work (n + 1) (count_of (subtrees_of (node_of_tree t n))))) states (holds_in (states_of k))
             (placed r n h label node_is) x (good x i))))
 
-        pub new_kept : (line : ℕ) (kept : Kept)
+        pub new_kept : (line : ℕ) (kept : Result (Unit {0}) Answer)
             → kept ≡ kept_as (first_broken_of (in_row states) (span_of_part own (spans_in new)) line 0 method.constraints)
             → kept ≡ kept_as (broken_of_node k t line n)
         unfolding broken_of_node parts_of
@@ -190,11 +189,11 @@ pub record Going (k : Case) (t : Tree) (fields : List ℕ) (header : Header) (pl
   pub lines : Stands fields place (lines_fields (map node_line (drop n k.nodes)))
   pub same : broken_of_tree k t ≡ broken_from k t n
 
-or_else_none : (o later : Option Answer) → All ≡ kept_as o → or_else o later ≡ later
+or_else_none : (o later : Option Answer) → Ok tt ≡ kept_as o → or_else o later ≡ later
 or_else_none none later e = refl
 or_else_none (some a) later e = let z : ◌≡◌ {A = ℕ} 0 1 = cc in absurd (omega arith)
 
-or_else_some : (o later : Option Answer) (a : Answer) → Broken a ≡ kept_as o → or_else o later ≡ some a
+or_else_some : (o later : Option Answer) (a : Answer) → Err a ≡ kept_as o → or_else o later ≡ some a
 or_else_some none later a e = let z : ◌≡◌ {A = ℕ} 0 1 = cc in absurd (omega arith)
 or_else_some (some b) later a e = let same : b ≡ a = cc in ap some same
 
@@ -256,14 +255,14 @@ module _ {k : Case} {t : Tree} {fields : List ℕ} {header : Header} {plan_line 
           ap (first_broken k (holds_in (states_of k)) (k.plan_line + 1 + n)) (drop-cons (preorder t) n (leaf 0 0) (omega arith))
           ∙ ap₂ (λ (l i : ℕ). or_else (broken_of_node k t (k.plan_line + 1 + n) n) (first_broken k (holds_in (states_of k)) l (drop i (preorder t)))) line next
 
-      pub going_breaks : (line : ℕ) (answer : Answer) → line ≡ plan_line + 1 + n → Broken answer ≡ kept_as (broken_of_node k t line n)
-          → Broken answer ≡ kept_as (broken_of_tree k t)
+      pub going_breaks : (line : ℕ) (answer : Answer) → line ≡ plan_line + 1 + n → Err answer ≡ kept_as (broken_of_node k t line n)
+          → Err answer ≡ kept_as (broken_of_tree k t)
       going_breaks line answer e b =
           let at : line ≡ k.plan_line + 1 + n = e ∙ ap (λ (p : ℕ). p + 1 + n) g.ready.plans in
           sym (ap kept_as (g.same ∙ this_node
           ∙ or_else_some (broken_of_node k t (k.plan_line + 1 + n) n) (broken_from k t (n + 1)) answer (b ∙ ap (λ (l : ℕ). kept_as (broken_of_node k t l n)) at)))
 
-      pub going_on : (line : ℕ) (new : List ℕ) (size : ℕ) → line ≡ plan_line + 1 + n → All ≡ kept_as (broken_of_node k t line n) → Leaves work new
+      pub going_on : (line : ℕ) (new : List ℕ) (size : ℕ) → line ≡ plan_line + 1 + n → Ok tt ≡ kept_as (broken_of_node k t line n) → Leaves work new
           → size ≡ node_size (get_or fields place 0) → Going k t fields header plan_line nodes states start new (place + size) (n + 1)
       going_on line new size e b l f =
           let at : line ≡ k.plan_line + 1 + n = e ∙ ap (λ (p : ℕ). p + 1 + n) g.ready.plans in
@@ -277,7 +276,7 @@ module _ {k : Case} {t : Tree} {fields : List ℕ} {header : Header} {plan_line 
                 ∙ or_else_none (broken_of_node k t (k.plan_line + 1 + n) n) (broken_from k t (n + 1)) (b ∙ ap (λ (m : ℕ). kept_as (broken_of_node k t m n)) at);
           }
 
-    pub going_ends : header.nodes ≤ n → All ≡ kept_as (broken_of_tree k t)
+    pub going_ends : header.nodes ≤ n → Ok tt ≡ kept_as (broken_of_tree k t)
     unfolding broken_from first_broken
     going_ends over =
         let len = preorder_length t in

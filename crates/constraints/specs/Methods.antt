@@ -1,18 +1,16 @@
 -- The constraints of a method among the fields, and the answer that they give. Assumes nothing.
-use Rattle.std.specs.Prelude.{◌≡◌, List, map, ℕ, length}
+use Rattle.std.specs.Prelude.{◌≡◌, List, map, ℕ, length, Result, Ok, Err}
 use Rattle.std.proofs.Math.Option.{Option, none, some}
 use Rattle.rules.specs.declared.Answer.{Answer}
 use Rattle.rules.specs.Case.{Constraint, constraint_of}
 use Rattle.rules.specs.Fields.{lines_fields, constraint_line}
 use Rattle.fields.specs.Standing.{Stands}
 use Rattle.constraints.specs.declared.method.Line.{Line}
-use Rattle.constraints.specs.declared.method.Kept.{Kept}
-use Rattle.constraints.specs.declared.method.Kept.TheVariants.{All, Broken}
 
--- The first broken constraint, if there is one.
-abbrev pub kept_as : Option Answer → Kept
-kept_as none = All
-kept_as (some answer) = Broken answer
+-- The answer for the first broken constraint, if there is one.
+abbrev pub kept_as : Option Answer → Result (Unit {0}) Answer
+kept_as none = Ok tt
+kept_as (some answer) = Err answer
 
 -- A method's constraints, so many, stand line by line from a place on.
 pub record ConstraintsHere (fields : List ℕ) (at count : ℕ) (cs : List Constraint) : Type 0 where

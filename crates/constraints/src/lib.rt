@@ -4,5 +4,5 @@
 mod method;
 mod node;
 
-pub use method::{Kept, Line, line_at};
+pub use method::{Line, line_at};
 pub use node::{first_broken, method_place, names_method};

@@ -9,23 +9,17 @@ ghost use Rattle.index.specs.Spans.{span_of};
 ghost use Rattle.fields.specs.Standing.{Stands};
 ghost use Rattle.tree.specs.Layout.{subtasks_past};
 ghost use Rattle.rows.specs.Rows.{in_row};
-ghost use Rattle.columns.specs.Columns.{Columns};
 ghost use Rattle.parts.specs.Spans.{spans_in};
 ghost use Rattle.parts.specs.Tests.{Tested};
 ghost use Rattle.constraints.specs.Methods.{kept_as, ConstraintsHere, meant, Says};
 
+use columns::StateColumns;
 use index::Span;
 use parts::{is_either, keeps};
 use rules::Answer;
 
-// Whether all constraints hold, or the answer for the first broken one.
-#[derive(Clone, Copy)]
-pub enum Kept {
-    All,
-    Broken { answer: Answer },
-}
-
-// A constraint's line: its letter, its numbers, and the place after it.
+// A constraint's line: its letter, its numbers, and the place after it. The letter is the text's, and no enum of kinds: `keeps` and the definition
+// `constraint_of` go by it, a small one as its large one.
 #[derive(Clone, Copy)]
 pub struct Line {
     pub letter: u8,
@@ -35,7 +29,7 @@ pub struct Line {
     pub next: usize,
 }
 
-// "first broken O, B, F, W": 10, 11, 12, 13; a small letter's as its large one's.
+// "first broken O, B, F, W": 10, 11, 12, 13; a small letter's as its large one's, by the test that `line_at` and `keeps` make of a letter.
 fn broken(letter: u8, line: u32, number: u32) -> Answer
     ensures { (first second third : ℕ) → result ≡ broken_at line number (constraint_of letter first second third) }
 {
@@ -92,56 +86,37 @@ pub fn line_at(fields: &[u32], at: usize) -> Line
 }
 
 // Whether a task with this span keeps the constraint of a line.
-fn keeps_line(
-    work: &[u32],
-    columns: &mut [u64],
-    built: &mut [u64],
-    states: &[u64],
-    held: usize,
-    own: Span,
-    d: Line,
-) -> bool
+fn keeps_line(work: &[u32], columns: &mut StateColumns, own: Span, d: Line) -> bool
     requires subtasks_past_in_bounds { subtasks_past ≤ length work.now }
-    requires columns { Columns states.now held columns.old built.old }
-    requires tested { Tested work.now held (span_of own) (meant d) }
-    ensures value { result ≡ keeps (in_row states.now) (span_of_part (span_of own) (spans_in work.now)) (meant d) }
-    ensures columns_2 { Columns states.now held columns.new built.new }
+    requires tested { Tested work.now columns.old.held (span_of own) (meant d) }
+    ensures value { result ≡ keeps (in_row columns.old.states) (span_of_part (span_of own) (spans_in work.now)) (meant d) }
+    ensures same { columns.new ≡ columns.old }
 {
-    keeps(
-        work, columns, built, states, held, own, d.letter, d.first, d.second, d.third,
-    )
+    keeps(work, columns, own, d.letter, d.first, d.second, d.third)
 }
 
-// The first broken one of so many constraints, "each method's in text order", for a node with this line and span.
+// Whether all of so many constraints hold, or the answer for the first broken one, "each method's in text order", for a node with this line and span.
 pub fn first_broken_of(
     fields: &[u32],
     from: usize,
     count: u32,
     line: u32,
     own: Span,
-    held: usize,
-    states: &[u64],
     work: &[u32],
-    columns: &mut [u64],
-    built: &mut [u64],
-) -> Kept
+    columns: &mut StateColumns,
+) -> Result<(), Answer>
     requires subtasks_past_in_bounds { subtasks_past ≤ length work.now }
-    requires columns { Columns states.now held columns.old built.old }
-    requires constraints_here { (cs : List Constraint) × ConstraintsHere fields.now from count cs × Each (Tested work.now held (span_of own)) cs }
-    ensures value { (cs : List Constraint) → ConstraintsHere fields.now from count cs → result ≡ kept_as (first_broken_of (in_row states.now) (span_of_part (span_of own) (spans_in work.now)) line 0 cs) }
-    ensures columns_2 { Columns states.now held columns.new built.new }
+    requires constraints_here { (cs : List Constraint) × ConstraintsHere fields.now from count cs × Each (Tested work.now columns.old.held (span_of own)) cs }
+    ensures value { (cs : List Constraint) → ConstraintsHere fields.now from count cs → result ≡ kept_as (first_broken_of (in_row columns.old.states) (span_of_part (span_of own) (spans_in work.now)) line 0 cs) }
+    ensures same { columns.new ≡ columns.old }
 {
     let mut at = from;
-    let mut number: u32 = 0;
-    while number < count {
+    for number in 0..count {
         let d = line_at(fields, at);
-        if !keeps_line(work, columns, built, states, held, own, d) {
-            return Kept::Broken {
-                answer: broken(d.letter, line, number),
-            };
+        if !keeps_line(work, columns, own, d) {
+            return Err(broken(d.letter, line, number));
         }
         at = d.next;
-        number += 1;
     }
-    Kept::All
+    Ok(())
 }

@@ -3,25 +3,27 @@ ghost use Rattle.std.specs.Prelude.{◌≡◌, ◌+◌, ◌<◌, length, get_or}
 ghost use Rattle.rules.specs.Case.{Case};
 ghost use Rattle.rules.specs.Tree.{Tree};
 ghost use Rattle.fields.specs.Directory.{methods_from};
-ghost use Rattle.columns.specs.Columns.{Columns, Blank};
+ghost use Rattle.columns.specs.Columns.{Blank};
 ghost use Rattle.constraints.specs.Methods.{kept_as};
 ghost use Rattle.constraints.specs.Ready.{Ready, Leaves, names_method, NodeReady, broken_of_node, broken_of_tree};
 
-use crate::method::{Kept, first_broken_of};
+use crate::method::first_broken_of;
+use columns::StateColumns;
 use fields::{METHODS_FROM, node_size};
 use parts::{span_at, subtask_nodes};
-use rules::Header;
+use rules::{Answer, Header};
 
-// The letters D and E, as the fields have them.
+// The letters D and E, as the fields have them: the lent list is one of numbers.
 const D: u32 = b'D' as u32;
 
 const E: u32 = b'E' as u32;
 
 // Whether a node line's letter names a method: "D,m (method m, not empty); E,m,g (empty method m in gap g, 0 to k)".
+#[tactic(auto, unfolding(crate::specs::Ready::names_method))]
 pub fn names_method(letter: u32) -> bool
     ensures { result ≡ names_method letter }
 {
-    if letter == D { true } else { letter == E }
+    letter == D || letter == E
 }
 
 // A node of the claimed tree: its number, that of its line, and the line's letter and first number.
@@ -42,31 +44,27 @@ pub fn method_place(directory: &[u32], method: u32) -> u32
     directory[at]
 }
 
-// The first broken constraint of a node, of so many states. An empty task has constraints too, at its own span.
+// The first broken constraint of a node. An empty task has constraints too, at its own span.
 fn node_kept(
     fields: &[u32],
     x: Named,
-    held: usize,
-    states: &[u64],
     work: &mut [u32],
-    columns: &mut [u64],
-    built: &mut [u64],
-) -> Kept
-    requires node_ready { (k : Case) × (t : Tree) × NodeReady k t fields.now held states.now work.old x.n x.letter x.label }
-    requires columns { Columns states.now held columns.old built.old }
-    ensures value { (k : Case) (t : Tree) → NodeReady k t fields.now held states.now work.old x.n x.letter x.label → result ≡ kept_as (broken_of_node k t x.line x.n) }
+    columns: &mut StateColumns,
+) -> Result<(), Answer>
+    requires { (k : Case) × (t : Tree) × NodeReady k t fields.now columns.old.held columns.old.states work.old x.n x.letter x.label }
+    ensures value { (k : Case) (t : Tree) → NodeReady k t fields.now columns.old.held columns.old.states work.old x.n x.letter x.label → result ≡ kept_as (broken_of_node k t x.line x.n) }
     ensures leaves { Leaves work.old work.new }
-    ensures columns_2 { Columns states.now held columns.new built.new }
+    ensures same { columns.new ≡ columns.old }
 {
     if !names_method(x.letter) {
-        return Kept::All;
+        return Ok(());
     }
     let place = method_place(work, x.label) as usize;
     let subtasks = fields[place + 2];
     let counted = place + 3 + subtasks as usize;
     let count = fields[counted];
     if count == 0 {
-        return Kept::All;
+        return Ok(());
     }
     // A task with no subtasks has no nodes to note. Two calls: so the loop over the constraints is compiled as a function of its own.
     if subtasks == 0 {
@@ -76,11 +74,8 @@ fn node_kept(
             count,
             x.line,
             span_at(work, x.n),
-            held,
-            states,
             work,
             columns,
-            built,
         );
     }
     subtask_nodes(work, x.n, subtasks);
@@ -90,11 +85,8 @@ fn node_kept(
         count,
         x.line,
         span_at(work, x.n),
-        held,
-        states,
         work,
         columns,
-        built,
     )
 }
 
@@ -108,16 +100,16 @@ pub fn first_broken(
     work: &mut [u32],
     columns: &mut [u64],
     built: &mut [u64],
-) -> Kept
+) -> Result<(), Answer>
     requires ready { (k : Case) × (t : Tree) × Ready k t fields.now header plan_line nodes states.now work.old }
     requires blank { Blank columns.old built.old }
     ensures value { (k : Case) (t : Tree) → Ready k t fields.now header plan_line nodes states.now work.old → result ≡ kept_as (broken_of_tree k t) }
     ensures leaves { Leaves work.old work.new }
 {
     let held = header.cues as usize + 1;
+    let mut columns = StateColumns::new(states, held, columns, built);
     let mut at = nodes;
-    let mut n: u32 = 0;
-    while n < header.nodes {
+    for n in 0..header.nodes {
         let letter = fields[at];
         let x = Named {
             n,
@@ -125,14 +117,8 @@ pub fn first_broken(
             letter,
             label: fields[at + 1],
         };
-        let kept = node_kept(fields, x, held, states, work, columns, built);
-        match kept {
-            Kept::Broken { answer } => return Kept::Broken { answer },
-            Kept::All => {
-                at += node_size(letter);
-                n += 1;
-            }
-        }
+        node_kept(fields, x, work, &mut columns)?;
+        at += node_size(letter);
     }
-    Kept::All
+    Ok(())
 }

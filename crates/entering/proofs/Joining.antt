@@ -15,23 +15,23 @@ use Rattle.entering.specs.declared.sums.Part.{Part}
 use Rattle.entering.specs.Parts.{joined, part_in, joined_with, part_of_set}
 
 -- The part of a set that is not empty.
-abbrev pub part_of_some : List ℕ → ℕ → Part
+abbrev pub part_of_some : List Part → ℕ → Part
 part_of_some sums u = joined_with sums (part_in sums (head_d (members_of u) 32)) (tail (members_of u))
 
-some_part : (sums : List ℕ) (own : Part) (u : ℕ) → u ≢ 0 → part_of_some sums u ≡ part_of_set sums own u
+some_part : (sums : List Part) (own : Part) (u : ℕ) → u ≢ 0 → part_of_some sums u ≡ part_of_set sums own u
 unfolding part_of_set
 some_part sums own zero n = absurd (n refl)
 some_part sums own (suc u) n = refl
 
-pub whole_part : (sums : List ℕ) (own : Part) (u : ℕ) → u ≡ 0 → own ≡ part_of_set sums own u
+pub whole_part : (sums : List Part) (own : Part) (u : ℕ) → u ≡ 0 → own ≡ part_of_set sums own u
 unfolding part_of_set
 whole_part sums own u e = ap (part_of_set sums own) (sym e)
 
 -- What is joined, and what remains.
-pub record Joining (sums : List ℕ) (u : ℕ) (part : Part) (rest : ℕ) : Type 0 where
+pub record Joining (sums : List Part) (u : ℕ) (part : Part) (rest : ℕ) : Type 0 where
   pub same : part_of_some sums u ≡ joined_with sums part (members_of rest)
 
-pub joining_starts : (sums : List ℕ) (u : ℕ) {l : ℕ} {part : Part} {rest : ℕ} → l ≡ head_d (members_of u) 32 → part ≡ part_in sums l → members_of rest ≡ tail (members_of u)
+pub joining_starts : (sums : List Part) (u : ℕ) {l : ℕ} {part : Part} {rest : ℕ} → l ≡ head_d (members_of u) 32 → part ≡ part_in sums l → members_of rest ≡ tail (members_of u)
     → Joining sums u part rest
 joining_starts sums u e p r = record { same = ap₂ (joined_with sums) (sym (p ∙ ap (part_in sums) e)) (sym r) }
 
@@ -52,14 +52,14 @@ module _ (rest : ℕ) (some : 0 < length (members_of rest)) where
   pub fewer : (rest' : ℕ) → members_of rest' ≡ tail (members_of rest) → length (members_of rest') < length (members_of rest)
   fewer rest' r = omega (arith, ap length r, ap length first_rest)
 
-  pub joining_on : (sums : List ℕ) (u : ℕ) {part : Part} {l : ℕ} {other both : Part} {rest' : ℕ} → Joining sums u part rest → l ≡ head_d (members_of rest) 32
+  pub joining_on : (sums : List Part) (u : ℕ) {part : Part} {l : ℕ} {other both : Part} {rest' : ℕ} → Joining sums u part rest → l ≡ head_d (members_of rest) 32
       → other ≡ part_in sums l → both ≡ joined part other → members_of rest' ≡ tail (members_of rest) → Joining sums u both rest'
   joining_on sums u {part} j e o b r = record {
     same = j.same ∙ ap (joined_with sums part) first_rest
         ∙ ap₂ (joined_with sums) (ap (joined part) (sym (o ∙ ap (part_in sums) e)) ∙ sym b) (sym r);
   }
 
-pub joining_ends : (sums : List ℕ) (own : Part) (u : ℕ) {part : Part} {rest : ℕ} → u ≢ 0 → Joining sums u part rest → length (members_of rest) ≡ 0
+pub joining_ends : (sums : List Part) (own : Part) (u : ℕ) {part : Part} {rest : ℕ} → u ≢ 0 → Joining sums u part rest → length (members_of rest) ≡ 0
     → part ≡ part_of_set sums own u
 joining_ends sums own u {part} {rest} n j e = sym (sym (some_part sums own u n) ∙ j.same ∙ ap (joined_with sums part) (none (members_of rest) e))
   where

@@ -2,14 +2,13 @@
 use mathlib.Core.Path.{◌≡◌, ap, ◌∙◌}
 use mathlib.Core.Bool.{Bool, true, false}
 use mathlib.Core.List.{List}
-use Prim.Native.Nat.{ℕ}
 use Rattle.rules.specs.Case.{is_either}
 use Rattle.blames.specs.declared.entry.Entry.{Entry}
 use Rattle.constraints.specs.declared.method.Line.{Line}
 use Rattle.entering.specs.declared.sums.Part.{Part}
 use Rattle.entering.specs.Lines.{between_entry, after_entry, before_entry, order_entry, entry_of}
 
-module _ (d : Line) (own : Part) (sums : List ℕ) where
+module _ (d : Line) (own : Part) (sums : List Part) where
   abbrev by_B : Bool → Entry
   by_B b = elim b [ true ↦ before_entry d own sums | false ↦ order_entry d sums ]
 

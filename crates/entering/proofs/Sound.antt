@@ -55,7 +55,7 @@ states_same g h k e x gs agree within t =
 
 -- ---- The test of an entry is its constraint's
 
-module _ {k e : ℕ} {owns : List ℕ → Span} {subs : List ℕ → List Span} {count : ℕ} {own : Part} {sums : List ℕ}
+module _ {k e : ℕ} {owns : List ℕ → Span} {subs : List ℕ → List Span} {count : ℕ} {own : Part} {sums : List Part}
     (w : PartsTell k e owns subs count own sums) (few : e ≤ 32) (h : Header) (gs : List ℕ) (choice : Choice k e gs) where
   abbrev at : Named → Span
   at part = span_of_part (owns gs) (subs gs) part

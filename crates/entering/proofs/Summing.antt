@@ -5,9 +5,9 @@ use mathlib.Core.List.{List, ◌++◌, map}
 use mathlib.Core.List.Memᴰ.{append_left as in_left}
 use mathlib.Core.List.Memᴰ.{append_right as in_right}
 use mathlib.Core.List.{Memᴰ as Mem}
-use Prim.Native.Nat.{ℕ, ◌+◌, ◌-◌, ◌*◌, ◌≤◌, ◌<◌}
+use Prim.Native.Nat.{ℕ, ◌+◌, ◌-◌, ◌≤◌, ◌<◌}
 use native.Mathlib.Omega.{arith}
-use lib.ListN.{length, get_or, set, length-set, length-map}
+use lib.ListN.{length, set, length-map}
 use lib.Seq.{get_or-set_same, get_or-set_other}
 use Rattle.rules.specs.Case.{NodeLine}
 use Rattle.rules.specs.Fields.{lines_fields, node_line}
@@ -24,7 +24,7 @@ use Rattle.records.specs.Records.{NodesStand}
 use Rattle.parts.specs.Spans.{node_after, RowInside}
 use Rattle.constraints.proofs.Held.{RowIs, root_row, preorder_length, count_of}
 use Rattle.entering.specs.declared.sums.Part.{Part}
-use Rattle.entering.specs.Parts.{part_in}
+use Rattle.entering.specs.Parts.{absent, part_in}
 use Rattle.entering.specs.Trees.{TreesStand, PartSays, PartsSaid}
 use Rattle.entering.proofs.Cuts.{lines_join}
 
@@ -90,52 +90,20 @@ module _ {fields work : List ℕ} {n place before count : ℕ} {x : Tree} {xs : 
         few_empties = omega arith;
       }
 
--- ---- A part stored
-
-abbrev pub stored : List ℕ → ℕ → Part → List ℕ
-stored sums j q = set (set (set sums (3 * j) q.low) (3 * j + 1) q.high) (3 * j + 2) q.set
-
-module _ (sums : List ℕ) (j : ℕ) (q : Part) where
-  abbrev one : List ℕ
-  one = set sums (3 * j) q.low
-
-  abbrev two : List ℕ
-  two = set one (3 * j + 1) q.high
-
-  stored_below : (i : ℕ) → i < 3 * j → get_or (stored sums j q) i 0 ≡ get_or sums i 0
-  stored_below i h =
-      get_or-set_other two (3 * j + 2) i q.set 0 (λ e. omega arith) ∙ get_or-set_other one (3 * j + 1) i q.high 0 (λ e. omega arith)
-      ∙ get_or-set_other sums (3 * j) i q.low 0 (λ e. omega arith)
-
-  -- Lists that agree with it up to there have the part.
-  stored_part : 3 * j + 2 < length sums → (new : List ℕ) → ((i : ℕ) → i < 3 * (j + 1) → get_or new i 0 ≡ get_or (stored sums j q) i 0) → part_in new j ≡ q
-  unfolding part_in
-  stored_part h new same =
-      let first = length-set sums (3 * j) q.low in
-      let second = length-set one (3 * j + 1) q.high in
-      let a : get_or new (3 * j) 0 ≡ q.low =
-      same (3 * j) (omega arith) ∙ get_or-set_other two (3 * j + 2) (3 * j) q.set 0 (λ e. omega arith)
-      ∙ get_or-set_other one (3 * j + 1) (3 * j) q.high 0 (λ e. omega arith) ∙ get_or-set_same sums (3 * j) q.low 0 (omega arith) in
-      let b : get_or new (3 * j + 1) 0 ≡ q.high =
-      same (3 * j + 1) (omega arith) ∙ get_or-set_other two (3 * j + 2) (3 * j + 1) q.set 0 (λ e. omega arith)
-      ∙ get_or-set_same one (3 * j + 1) q.high 0 (omega arith) in
-      let c : get_or new (3 * j + 2) 0 ≡ q.set = same (3 * j + 2) (omega arith) ∙ get_or-set_same two (3 * j + 2) q.set 0 (omega arith) in
-      λ i. record { low = a i; high = b i; set = c i }
-
 -- ---- In turn
 
-pub record Summing (fields work : List ℕ) (cues first count : ℕ) (ts : Trees) (sums : List ℕ) (n place before j : ℕ) : Type 0 where
+pub record Summing (fields work : List ℕ) (cues first count : ℕ) (ts : Trees) (sums : List Part) (n place before j : ℕ) : Type 0 where
   pub left : Trees
   pub due : TreesStand fields work n place before (count - j) left
-  pub rest : (new : List ℕ) → ((i : ℕ) → i < 3 * j → get_or new i 0 ≡ get_or sums i 0) → PartsSaid cues before left new j → PartsSaid cues first ts new 0
+  pub rest : (new : List Part) → ((i : ℕ) → i < j → part_in new i ≡ part_in sums i) → PartsSaid cues before left new j → PartsSaid cues first ts new 0
 
-pub summing_starts : {fields work : List ℕ} {first count : ℕ} {ts : Trees} {n place : ℕ} (cues : ℕ) (sums : List ℕ)
+pub summing_starts : {fields work : List ℕ} {first count : ℕ} {ts : Trees} {n place : ℕ} (cues : ℕ) (sums : List Part)
     → TreesStand fields work n place first count ts → Summing fields work cues first count ts sums n place first 0
 summing_starts {fields} {work} {first} {count} {ts} {n} {place} cues sums w =
     let e : count ≡ count - 0 = omega arith in
     record { left = ts; due = subst (λ (c : ℕ). TreesStand fields work n place first c ts) e w; rest = λ new same said. said }
 
-module _ {fields work : List ℕ} {cues first count : ℕ} {ts : Trees} {sums : List ℕ} {n place before j : ℕ}
+module _ {fields work : List ℕ} {cues first count : ℕ} {ts : Trees} {sums : List Part} {n place before j : ℕ}
     (p : Summing fields work cues first count ts sums n place before j) where
   -- The tree that is due, and those after it.
   pub record Due : Type 0 where
@@ -152,9 +120,9 @@ module _ {fields work : List ℕ} {cues first count : ℕ} {ts : Trees} {sums : 
       go (more x xs) e = record { this = x; later = xs; lefts = e; stand = subst (TreesStand fields work n place before (count - j)) e p.due }
 
   -- Its part is stored.
-  pub summing_on : (x : Due) → 3 * j + 2 < length sums → (q : Part) → PartSays cues before (lines_of x.this) q → (after next empties : ℕ) → after ≡ node_after work n
+  pub summing_on : (x : Due) → j < length sums → (q : Part) → PartSays cues before (lines_of x.this) q → (after next empties : ℕ) → after ≡ node_after work n
       → next ≡ place + length (lines_fields (map node_line (lines_of x.this))) → empties ≡ empty_count (lines_of x.this)
-      → Summing fields work cues first count ts (stored sums j q) after next (before + empties) (j + 1)
+      → Summing fields work cues first count ts (set sums j q) after next (before + empties) (j + 1)
   summing_on x inside q says after next empties a b c =
       let node : n + size x.this ≡ after = sym (a ∙ this_after x.stand) in
       let gaps : before + empties_in x.this ≡ before + empties = omega (arith, empties_lines x.this) in
@@ -165,9 +133,9 @@ module _ {fields work : List ℕ} {cues first count : ℕ} {ts : Trees} {sums : 
             (subst (λ (m : ℕ). TreesStand fields work (n + size x.this) next m (count - (j + 1)) x.later) gaps
             (subst (λ (m : ℕ). TreesStand fields work (n + size x.this) next (before + empties_in x.this) m x.later) left (later_stand x.stand b)));
         rest = λ new same said.
-            p.rest new (λ i h. same i (omega arith) ∙ stored_below sums j q i h)
+            p.rest new (λ i h. same i (omega arith) ∙ get_or-set_other sums j i q absent (λ e. omega arith))
             (subst (λ (xs : Trees). PartsSaid cues before xs new j) (sym x.lefts) (
-              subst (PartSays cues before (lines_of x.this)) (sym (stored_part sums j q inside new same)) says,
+              subst (PartSays cues before (lines_of x.this)) (sym (same j (omega arith) ∙ get_or-set_same sums j q absent inside)) says,
               subst (λ (m : ℕ). PartsSaid cues m x.later new (j + 1)) (sym gaps) said,
             ));
       }

@@ -58,7 +58,7 @@ module _ (x : Tree) {k a : ℕ} {p : Part} (w : PartSays k a (lines_of x) p) whe
 
 -- ---- The subtrees
 
-module _ (k e : ℕ) (sums : List ℕ) where
+module _ (k e : ℕ) (sums : List Part) where
   trees_tell : (a : ℕ) (xs : Trees) (i : ℕ) → PartsSaid k a xs sums i → a + empties_in_all xs ≤ e → ProperTrees k xs → (j : ℕ) → j < count_of xs
       → Tells k e (λ gs. get_or (spans (regapped_all gs a xs)) j no_span) (part_in sums (i + j))
   unfolding spans regapped empties_in ProperTree
@@ -95,7 +95,7 @@ subtrees_proper k (empty m g) p = tt
 subtrees_proper k (task m xs) p = p.1
 
 -- The parts of a node and of its subtasks.
-pub node_tells : {k a : ℕ} (e : ℕ) (x : Tree) {own : Part} (sums : List ℕ) → PartSays k a (lines_of x) own → PartsSaid k a (subtrees_of x) sums 0 → ProperTree k x
+pub node_tells : {k a : ℕ} (e : ℕ) (x : Tree) {own : Part} (sums : List Part) → PartSays k a (lines_of x) own → PartsSaid k a (subtrees_of x) sums 0 → ProperTree k x
     → a + empties_in x ≤ e → count_of (subtrees_of x) ≤ 32
     → PartsTell k e (λ gs. span (regapped gs a x)) (λ gs. subtask_spans (regapped gs a x)) (count_of (subtrees_of x)) own sums
 node_tells {k} {a} e x sums w v p b few =

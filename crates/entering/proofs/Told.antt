@@ -71,7 +71,7 @@ module _ {k e : ℕ} where
 
 -- ---- Parts of a task
 
-module _ {k e : ℕ} {owns : List ℕ → Span} {subs : List ℕ → List Span} {count : ℕ} {own : Part} {sums : List ℕ}
+module _ {k e : ℕ} {owns : List ℕ → Span} {subs : List ℕ → List Span} {count : ℕ} {own : Part} {sums : List Part}
     (w : PartsTell k e owns subs count own sums) where
   abbrev sub : ℕ → List ℕ → Span
   sub j gs = get_or (subs gs) j no_span

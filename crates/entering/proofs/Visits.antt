@@ -217,7 +217,7 @@ module _ {k : Case} {t : Tree} {fields : List ℕ} {cues e : ℕ} {states work :
         go (W s u p v) g = tt
 
     -- A broken entry of theirs makes a choice fail.
-    pub entries_sound : e ≤ 32 → (own : Part) (sums : List ℕ) → PartSays cues x.first (lines_of y) own → PartsSaid cues x.first (subtrees_of y) sums 0
+    pub entries_sound : e ≤ 32 → (own : Part) (sums : List Part) → PartSays cues x.first (lines_of y) own → PartsSaid cues x.first (subtrees_of y) sums 0
         → (passing : List ℕ → Bool) → BreaksFail k t passing
         → EntriesSound (in_row states) passing cues e own sums (method_at k.methods x.label).constraints
     unfolding parts_of

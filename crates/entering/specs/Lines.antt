@@ -25,19 +25,19 @@ entry_from d p ends starts = record { letter = d.letter; p = p; end = ends.high;
 abbrev pub no_part : Part
 no_part = record { low = 1; high = 0; set = 0 }
 
-abbrev pub between_entry : Line → Part → List ℕ → Entry
+abbrev pub between_entry : Line → Part → List Part → Entry
 between_entry d own sums = entry_from d d.second (part_of_set sums own d.first) (part_of_set sums own d.third)
 
-abbrev pub after_entry : Line → Part → List ℕ → Entry
+abbrev pub after_entry : Line → Part → List Part → Entry
 after_entry d own sums = entry_from d d.first (part_of_set sums own d.second) no_part
 
-abbrev pub before_entry : Line → Part → List ℕ → Entry
+abbrev pub before_entry : Line → Part → List Part → Entry
 before_entry d own sums = entry_from d d.first no_part (part_of_set sums own d.second)
 
-abbrev pub order_entry : Line → List ℕ → Entry
+abbrev pub order_entry : Line → List Part → Entry
 order_entry d sums = entry_from d 0 (part_in sums d.first) (part_in sums d.second)
 
-unfoldable pub entry_of : Line → Part → List ℕ → Entry
+unfoldable pub entry_of : Line → Part → List Part → Entry
 entry_of d own sums =
     elim (is_either d.letter 87 119) [
       | true ↦ between_entry d own sums
@@ -49,6 +49,6 @@ entry_of d own sums =
     ]
 
 -- The entries of constraints are sound where they fit.
-abbrev pub EntriesSound : Holds → (List ℕ → Bool) → ℕ → ℕ → Part → List ℕ → List Constraint → Type 0
+abbrev pub EntriesSound : Holds → (List ℕ → Bool) → ℕ → ℕ → Part → List Part → List Constraint → Type 0
 EntriesSound holds passing k e own sums cs =
     (d : Line) → Mem (meant d) cs → EntryFits k e (entry_of d own sums) → EntrySound holds passing k e (entry_of d own sums)

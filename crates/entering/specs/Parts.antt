@@ -1,5 +1,5 @@
--- The parts of a task: those of its subtasks in a list of numbers, three to each, and that of a set of subtasks. Assumes nothing.
-use Rattle.std.specs.Prelude.{◌≡◌, ℕ, zero, suc, ◌+◌, ◌*◌, ◌<◌, ◌≤◌, min, max, length, get_or}
+-- The parts of a task: those of its subtasks in a list, and that of a set of subtasks. Assumes nothing.
+use Rattle.std.specs.Prelude.{◌≡◌, ℕ, zero, suc, ◌<◌, ◌≤◌, min, max, length, get_or}
 use mathlib.Core.List.{List, [], ◌∷◌, head_d, tail}
 use Rattle.std.specs.Int.Bits.{bit_or}
 use Rattle.rules.specs.Index.{Span}
@@ -11,17 +11,21 @@ use Rattle.entering.specs.Entering.{Tells}
 unfoldable pub joined : Part → Part → Part
 joined p q = record { low = min p.low q.low; high = max p.high q.high; set = bit_or p.set q.set }
 
+-- What a subtask has that is not there.
+abbrev pub absent : Part
+absent = record { low = 0; high = 0; set = 0 }
+
 -- The part of subtask j.
-unfoldable pub part_in : List ℕ → ℕ → Part
-part_in sums j = record { low = get_or sums (3 * j) 0; high = get_or sums (3 * j + 1) 0; set = get_or sums (3 * j + 2) 0 }
+abbrev pub part_in : List Part → ℕ → Part
+part_in sums j = get_or sums j absent
 
 -- A part with those of some subtasks, one at a time.
-abbrev pub joined_with : List ℕ → Part → List ℕ → Part
+abbrev pub joined_with : List Part → Part → List ℕ → Part
 joined_with sums p [] = p
 joined_with sums p (m ∷ ms) = joined_with sums (joined p (part_in sums m)) ms
 
 -- The part of a set of subtasks: "0 is the whole task".
-unfoldable pub part_of_set : List ℕ → Part → ℕ → Part
+unfoldable pub part_of_set : List Part → Part → ℕ → Part
 part_of_set sums own zero = own
 part_of_set sums own (suc u) = joined_with sums (part_in sums (head_d (members_of (suc u)) 32)) (tail (members_of (suc u)))
 
@@ -30,7 +34,7 @@ unfoldable pub no_span : Span
 no_span = record { start = 0; end = 0 }
 
 -- The parts tell the spans that a task and its subtasks have with every choice.
-pub record PartsTell (k e : ℕ) (owns : List ℕ → Span) (subs : List ℕ → List Span) (count : ℕ) (own : Part) (sums : List ℕ) : Type 0 where
+pub record PartsTell (k e : ℕ) (owns : List ℕ → Span) (subs : List ℕ → List Span) (count : ℕ) (own : Part) (sums : List Part) : Type 0 where
   pub few : count ≤ 32
   pub counted : (gs : List ℕ) → length (subs gs) ≡ count
   pub whole : Tells k e owns own

@@ -35,6 +35,6 @@ pub record PartSays (cues a : ℕ) (ns : List NodeLine) (p : Part) : Type 0 wher
   pub set : (s : ℕ) → bit p.set s ≡ in_run a (empty_count ns) s
 
 -- The parts from number j on say what trees do that come after a empty tasks.
-abbrev pub PartsSaid : ℕ → ℕ → Trees → List ℕ → ℕ → Type 0
+abbrev pub PartsSaid : ℕ → ℕ → Trees → List Part → ℕ → Type 0
 PartsSaid cues a no_tree sums j = Unit {0}
 PartsSaid cues a (more x xs) sums j = PartSays cues a (lines_of x) (part_in sums j) × PartsSaid cues (a + empties_in x) xs sums (j + 1)

@@ -1,23 +1,23 @@
 // The constraints of one node as entries, from the parts of its task and its subtasks.
-ghost use Rattle.std.specs.Prelude.{◌≡◌, Bool, List, ℕ, ◌+◌, ◌≤◌, length};
+ghost use Rattle.std.specs.Prelude.{◌≡◌, Bool, List, ℕ, ◌<◌, ◌≤◌, length};
 ghost use Rattle.rules.specs.Case.{Constraint};
 ghost use Rattle.rules.specs.Constraint.{Holds};
 ghost use Rattle.rules.specs.Refusals.{Each};
 ghost use Rattle.rules.specs.Gaps.{Within};
-ghost use Rattle.columns.specs.Columns.{Columns};
 ghost use Rattle.constraints.specs.Methods.{ConstraintsHere, meant};
 ghost use Rattle.blames.specs.Entries.{EntryFits, EntrySound, PoolFits, PoolSound};
 ghost use Rattle.entering.specs.Lines.{InSums, entry_of, EntriesSound};
 
-use crate::sums::{Part, part_at, part_of_set};
-use blames::Entry;
+use crate::sums::{Part, SUBTASKS, part_of_set};
+use blames::{Entry, POSITIONS, SLOTS};
+use columns::StateColumns;
 use constraints::Line;
 use parts::is_either;
 
 // The entry of a constraint: O takes the end of one subtask and the start of another; B the start of its set, F the end; W the end of one set and
 // the start of another.
-fn entry_of(d: Line, own: Part, sums: &[u32]) -> Entry
-    requires { (96 ≤ length sums.now) × InSums (meant d) }
+fn entry_of(d: Line, own: Part, sums: &[Part; SUBTASKS]) -> Entry
+    requires { InSums (meant d) }
     ensures { result ≡ entry_of d own sums.now }
 {
     let letter = d.letter;
@@ -55,8 +55,8 @@ fn entry_of(d: Line, own: Part, sums: &[u32]) -> Entry
             starts: u.set,
         };
     }
-    let t = part_at(sums, d.first);
-    let v = part_at(sums, d.second);
+    let t = sums[d.first as usize];
+    let v = sums[d.second as usize];
     Entry {
         letter,
         p: 0,
@@ -68,39 +68,28 @@ fn entry_of(d: Line, own: Part, sums: &[u32]) -> Entry
 }
 
 // Whether no empty task touches an entry, and it holds: then it holds with every choice.
-fn is_settled(
-    x: Entry,
-    choice: &[u32],
-    k: u32,
-    states: &[u64],
-    columns: &mut [u64],
-    built: &mut [u64],
-) -> bool
-    requires k_bound { (k ≤ 1000) × Within k choice.now × (length choice.now ≤ 19) × EntryFits k (length choice.now) x }
-    requires columns { Columns states.now (k + 1) columns.old built.old }
-    ensures { Columns states.now (k + 1) columns.new built.new }
+fn is_settled(x: Entry, choice: &[u32], k: u32, columns: &mut StateColumns) -> bool
+    requires { (k ≤ 1000) × (k < columns.old.held) × Within k choice.now × (length choice.now ≤ 19) × EntryFits k (length choice.now) x }
+    ensures { columns.new ≡ columns.old }
 {
     if x.ends | x.starts == 0 {
-        return blames::keeps_entry(x, choice, k, states, columns, built);
+        return blames::keeps_entry(x, choice, k, columns);
     }
     false
 }
 
 // An entry put among the others, if it fits and is not settled already.
 fn enter(
-    pool: &mut [u32],
-    counts: &mut [u32],
+    pool: &mut [Entry; SLOTS],
+    counts: &mut [u32; POSITIONS],
     k: u32,
     choice: &[u32],
     x: Entry,
-    states: &[u64],
-    columns: &mut [u64],
-    built: &mut [u64],
+    columns: &mut StateColumns,
 )
-    requires k_bound { (k ≤ 1000) × Within k choice.now × (length choice.now ≤ 19) }
-    requires columns_2 { Columns states.now (k + 1) columns.old built.old }
-    requires pool_len { (length pool.old ≡ 14592) × (length counts.old ≡ 19) × PoolFits k (length choice.now) pool.old }
-    ensures columns { Columns states.now (k + 1) columns.new built.new }
+    requires k_bound { (k ≤ 1000) × (k < columns.old.held) × Within k choice.now × (length choice.now ≤ 19) }
+    requires pool_fits { PoolFits k (length choice.now) pool.old }
+    ensures same { columns.new ≡ columns.old }
     ensures fits { PoolFits k (length choice.now) pool.new }
     ensures sound { (holds : Holds) (passing : List ℕ → Bool) → (EntryFits k (length choice.now) x → EntrySound holds passing k (length choice.now) x) → PoolSound holds passing k (length choice.now) pool.old → PoolSound holds passing k (length choice.now) pool.new }
 {
@@ -108,7 +97,7 @@ fn enter(
     if !blames::fits(k, positions, x) {
         return;
     }
-    if is_settled(x, choice, k, states, columns, built) {
+    if is_settled(x, choice, k, columns) {
         return;
     }
     blames::push(pool, counts, k, positions, x);
@@ -120,30 +109,25 @@ pub fn enter_lines(
     from: usize,
     count: u32,
     own: Part,
-    sums: &[u32],
+    sums: &[Part; SUBTASKS],
     k: u32,
     choice: &[u32],
-    pool: &mut [u32],
-    counts: &mut [u32],
-    states: &[u64],
-    columns: &mut [u64],
-    built: &mut [u64],
+    pool: &mut [Entry; SLOTS],
+    counts: &mut [u32; POSITIONS],
+    columns: &mut StateColumns,
 )
-    requires k_bound { (k ≤ 1000) × Within k choice.now × (length choice.now ≤ 19) × (96 ≤ length sums.now) }
+    requires k_bound { (k ≤ 1000) × (k < columns.old.held) × Within k choice.now × (length choice.now ≤ 19) }
     requires constraints_here { (cs : List Constraint) × ConstraintsHere fields.now from count cs × Each InSums cs }
-    requires columns_2 { Columns states.now (k + 1) columns.old built.old }
-    requires pool_len { (length pool.old ≡ 14592) × (length counts.old ≡ 19) × PoolFits k (length choice.now) pool.old }
-    ensures columns { Columns states.now (k + 1) columns.new built.new }
+    requires pool_fits { PoolFits k (length choice.now) pool.old }
+    ensures same { columns.new ≡ columns.old }
     ensures fits { PoolFits k (length choice.now) pool.new }
     ensures sound { (holds : Holds) (passing : List ℕ → Bool) (cs : List Constraint) → ConstraintsHere fields.now from count cs → EntriesSound holds passing k (length choice.now) own sums.now cs → PoolSound holds passing k (length choice.now) pool.old → PoolSound holds passing k (length choice.now) pool.new }
 {
     let mut at = from;
-    let mut number: u32 = 0;
-    while number < count {
+    for number in 0..count {
         let d = constraints::line_at(fields, at);
         let x = entry_of(d, own, sums);
-        enter(pool, counts, k, choice, x, states, columns, built);
+        enter(pool, counts, k, choice, x, columns);
         at = d.next;
-        number += 1;
     }
 }

@@ -1,22 +1,23 @@
 // The constraints of the claimed tree's nodes as entries, node by node.
-ghost use Rattle.std.specs.Prelude.{◌≡◌, Bool, List, ℕ, ◌+◌, ◌≤◌, length};
+ghost use Rattle.std.specs.Prelude.{◌≡◌, Bool, List, ℕ, ◌<◌, ◌≤◌, length};
 ghost use Rattle.rules.specs.Case.{Case};
 ghost use Rattle.rules.specs.Tree.{Tree};
 ghost use Rattle.rules.specs.Gaps.{empty_count, Within};
 ghost use Rattle.rows.specs.Rows.{in_row};
-ghost use Rattle.columns.specs.Columns.{Columns};
 ghost use Rattle.constraints.specs.Ready.{Ready};
 ghost use Rattle.blames.specs.Entries.{PoolFits, PoolSound};
 ghost use Rattle.entering.specs.Entering.{BreaksFail};
 ghost use Rattle.entering.specs.Visits.{Visiting};
 
 use crate::lines::enter_lines;
-use crate::sums::{part_at, sum_trees};
+use crate::sums::{ABSENT, SUBTASKS, sum_trees};
+use blames::{Entry, POSITIONS, SLOTS};
+use columns::StateColumns;
 use fields::node_size;
 use rules::Header;
 
-// A node whose constraints are entered: its number, where its line stands, the line's letter and first number, and how many empty tasks come
-// before it.
+// A node whose constraints are entered: its number, where its line stands, the line's letter (as the fields have it, which the specs speak of) and
+// first number, and how many empty tasks come before it.
 #[derive(Clone, Copy)]
 struct Visited {
     n: u32,
@@ -27,7 +28,7 @@ struct Visited {
 }
 
 // The letter E, as the fields have it.
-const EMPTY: u32 = 69;
+const EMPTY: u32 = b'E' as u32;
 
 // The entries of one node, of a case with k cues.
 fn enter_node(
@@ -36,19 +37,16 @@ fn enter_node(
     k: u32,
     choice: &[u32],
     work: &[u32],
-    pool: &mut [u32],
-    counts: &mut [u32],
-    states: &[u64],
-    columns: &mut [u64],
-    built: &mut [u64],
+    pool: &mut [Entry; SLOTS],
+    counts: &mut [u32; POSITIONS],
+    columns: &mut StateColumns,
 )
-    requires visiting { (c : Case) × (t : Tree) × Visiting c t fields.now k (length choice.now) states.now work.now x }
-    requires within { Within k choice.now × (length choice.now ≤ 19) }
-    requires columns_2 { Columns states.now (k + 1) columns.old built.old }
-    requires pool_len { (length pool.old ≡ 14592) × (length counts.old ≡ 19) × PoolFits k (length choice.now) pool.old }
-    ensures columns { Columns states.now (k + 1) columns.new built.new }
+    requires visiting { (c : Case) × (t : Tree) × Visiting c t fields.now k (length choice.now) columns.old.states work.now x }
+    requires within { (k < columns.old.held) × Within k choice.now × (length choice.now ≤ 19) }
+    requires pool_fits { PoolFits k (length choice.now) pool.old }
+    ensures same { columns.new ≡ columns.old }
     ensures fits { PoolFits k (length choice.now) pool.new }
-    ensures sound { (c : Case) (t : Tree) → Visiting c t fields.now k (length choice.now) states.now work.now x → (passing : List ℕ → Bool) → BreaksFail c t passing → PoolSound (in_row states.now) passing k (length choice.now) pool.old → PoolSound (in_row states.now) passing k (length choice.now) pool.new }
+    ensures sound { (c : Case) (t : Tree) → Visiting c t fields.now k (length choice.now) columns.old.states work.now x → (passing : List ℕ → Bool) → BreaksFail c t passing → PoolSound (in_row columns.old.states) passing k (length choice.now) pool.old → PoolSound (in_row columns.old.states) passing k (length choice.now) pool.new }
 {
     if !constraints::names_method(x.letter) {
         return;
@@ -60,10 +58,10 @@ fn enter_node(
     if count == 0 {
         return;
     }
-    let mut whole = [0u32; 3];
+    let mut whole = [ABSENT; 1];
     sum_trees(fields, work, x.n, x.at, x.first, 1, k, &mut whole);
-    let own = part_at(&whole, 0);
-    let mut sums = [0u32; 96];
+    let own = whole[0];
+    let mut sums = [ABSENT; SUBTASKS];
     sum_trees(
         fields,
         work,
@@ -84,9 +82,7 @@ fn enter_node(
         choice,
         pool,
         counts,
-        states,
         columns,
-        built,
     );
 }
 
@@ -96,26 +92,22 @@ pub fn enter_all(
     header: Header,
     plan_line: u32,
     nodes: usize,
-    states: &[u64],
     work: &[u32],
     choice: &[u32],
-    pool: &mut [u32],
-    counts: &mut [u32],
-    columns: &mut [u64],
-    built: &mut [u64],
+    pool: &mut [Entry; SLOTS],
+    counts: &mut [u32; POSITIONS],
+    columns: &mut StateColumns,
 )
-    requires ready { (k : Case) × (t : Tree) × Ready k t fields.now header plan_line nodes states.now work.now × (empty_count k.nodes ≡ length choice.now) }
-    requires within { Within header.cues choice.now × (length choice.now ≤ 19) }
-    requires columns_2 { Columns states.now (header.cues + 1) columns.old built.old }
-    requires pool_len { (length pool.old ≡ 14592) × (length counts.old ≡ 19) × PoolFits header.cues (length choice.now) pool.old }
-    ensures columns { Columns states.now (header.cues + 1) columns.new built.new }
+    requires ready { (k : Case) × (t : Tree) × Ready k t fields.now header plan_line nodes columns.old.states work.now × (empty_count k.nodes ≡ length choice.now) }
+    requires within { (header.cues < columns.old.held) × Within header.cues choice.now × (length choice.now ≤ 19) }
+    requires pool_fits { PoolFits header.cues (length choice.now) pool.old }
+    ensures same { columns.new ≡ columns.old }
     ensures fits { PoolFits header.cues (length choice.now) pool.new }
-    ensures sound { (k : Case) (t : Tree) → Ready k t fields.now header plan_line nodes states.now work.now → empty_count k.nodes ≡ length choice.now → (passing : List ℕ → Bool) → BreaksFail k t passing → PoolSound (in_row states.now) passing header.cues (length choice.now) pool.old → PoolSound (in_row states.now) passing header.cues (length choice.now) pool.new }
+    ensures sound { (k : Case) (t : Tree) → Ready k t fields.now header plan_line nodes columns.old.states work.now → empty_count k.nodes ≡ length choice.now → (passing : List ℕ → Bool) → BreaksFail k t passing → PoolSound (in_row columns.old.states) passing header.cues (length choice.now) pool.old → PoolSound (in_row columns.old.states) passing header.cues (length choice.now) pool.new }
 {
     let mut at = nodes;
-    let mut n: u32 = 0;
     let mut first: u32 = 0;
-    while n < header.nodes {
+    for n in 0..header.nodes {
         let letter = fields[at];
         let x = Visited {
             n,
@@ -124,22 +116,10 @@ pub fn enter_all(
             label: fields[at + 1],
             first,
         };
-        enter_node(
-            fields,
-            x,
-            header.cues,
-            choice,
-            work,
-            pool,
-            counts,
-            states,
-            columns,
-            built,
-        );
+        enter_node(fields, x, header.cues, choice, work, pool, counts, columns);
         if letter == EMPTY {
             first += 1;
         }
         at += node_size(letter);
-        n += 1;
     }
 }

@@ -1,9 +1,9 @@
 // The parts of a task's subtasks, from the node lines below each; and the part of a set of subtasks.
-ghost use Rattle.std.specs.Prelude.{◌≡◌, ℕ, ◌+◌, ◌*◌, ◌<◌, ◌≤◌, length};
+ghost use Rattle.std.specs.Prelude.{◌≡◌, ℕ, ◌+◌, ◌≤◌, length};
 ghost use Rattle.rules.specs.State.{bit};
 ghost use Rattle.rules.specs.Tree.{Trees};
 ghost use Rattle.gaps.specs.Sums.{in_run};
-ghost use Rattle.entering.specs.Parts.{joined, part_in, part_of_set};
+ghost use Rattle.entering.specs.Parts.{joined, part_of_set};
 ghost use Rattle.entering.specs.Trees.{TreesStand, PartsSaid};
 
 use gaps::Sum;
@@ -15,6 +15,16 @@ pub struct Part {
     pub high: u32,
     pub set: u32,
 }
+
+// What a subtask has that is not there.
+pub const ABSENT: Part = Part {
+    low: 0,
+    high: 0,
+    set: 0,
+};
+
+// How many subtasks a method has at most: the members of a set of them.
+pub const SUBTASKS: usize = 32;
 
 // The part that node lines say, which come after `first` empty tasks.
 pub fn part_of(sum: Sum, first: u32) -> Part
@@ -29,6 +39,7 @@ pub fn part_of(sum: Sum, first: u32) -> Part
 }
 
 // The parts of so many trees, as those of a task's subtasks, the first of them node `node`, whose line stands at `at`, after `first` empty tasks.
+// A slice: the whole task's own part stands in a list of one.
 pub fn sum_trees(
     fields: &[u32],
     work: &[u32],
@@ -37,40 +48,22 @@ pub fn sum_trees(
     first: u32,
     count: u32,
     cues: u32,
-    sums: &mut [u32],
+    sums: &mut [Part],
 )
-    requires cues_bound { (cues ≤ 1000) × (3 * count ≤ length sums.old) }
+    requires cues_bound { (cues ≤ 1000) × (count ≤ length sums.old) }
     requires trees_stand { (ts : Trees) × TreesStand fields.now work.now node at first count ts }
     ensures { (ts : Trees) → TreesStand fields.now work.now node at first count ts → PartsSaid cues first ts sums.new 0 }
 {
     let mut n = node;
     let mut place = at;
     let mut before = first;
-    let mut j: usize = 0;
-    while j < count as usize {
+    for j in 0..count as usize {
         let after = parts::after_at(work, n);
         let sum = gaps::sum_lines(fields, place, (after - n) as usize, cues);
-        let part = part_of(sum, before);
-        sums[3 * j] = part.low;
-        sums[3 * j + 1] = part.high;
-        sums[3 * j + 2] = part.set;
+        sums[j] = part_of(sum, before);
         n = after;
         place = sum.next;
         before += sum.empties;
-        j += 1;
-    }
-}
-
-// The part of subtask j.
-pub fn part_at(sums: &[u32], j: u32) -> Part
-    requires { 3 * j + 2 < length sums.now }
-    ensures { result ≡ part_in sums.now j }
-{
-    let i = 3 * j as usize;
-    Part {
-        low: sums[i],
-        high: sums[i + 1],
-        set: sums[i + 2],
     }
 }
 
@@ -79,24 +72,23 @@ fn join(a: Part, b: Part) -> Part
     ensures { result ≡ joined a b }
 {
     Part {
-        low: gaps::lesser(a.low, b.low),
-        high: gaps::greater(a.high, b.high),
+        low: a.low.min(b.low),
+        high: a.high.max(b.high),
         set: a.set | b.set,
     }
 }
 
-// The part of a set of subtasks, of a task whose own is `own`: "0 is the whole task".
-pub fn part_of_set(sums: &[u32], own: Part, u: u32) -> Part
-    requires { 96 ≤ length sums.now }
+// The part of a set of subtasks, of a task whose own is `own`: "0 is the whole task". A `while`: it goes on by the set that is left.
+pub fn part_of_set(sums: &[Part; SUBTASKS], own: Part, u: u32) -> Part
     ensures { result ≡ part_of_set sums.now own u }
 {
     if u == 0 {
         return own;
     }
-    let mut part = part_at(sums, subsets::lowest(u));
+    let mut part = sums[subsets::lowest(u) as usize];
     let mut rest = subsets::others(u);
     while 0 < subsets::size(rest) {
-        part = join(part, part_at(sums, subsets::lowest(rest)));
+        part = join(part, sums[subsets::lowest(rest) as usize]);
         rest = subsets::others(rest);
     }
     part

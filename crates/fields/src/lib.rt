@@ -14,9 +14,9 @@ pub const METHODS_FROM: usize = 1024;
 // How many places the directory has.
 pub const DIRECTORY: usize = 3072;
 
-// How many fields a node line has.
+// How many fields a node line has. Its letter is a number of the list that C lends, so no enum.
 pub fn node_size(letter: u32) -> usize
     ensures { result ≡ node_size letter }
 {
-    if letter == 68 { 2 } else { 3 }
+    if letter == u32::from(b'D') { 2 } else { 3 }
 }

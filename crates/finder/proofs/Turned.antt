@@ -5,6 +5,7 @@ use mathlib.Core.List.{List}
 use Prim.Native.Nat.{ℕ, ◌-◌, ◌^◌, ◌≤◌, ◌<◌}
 use native.Mathlib.Omega.{arith}
 use lib.ListN.{length}
+use Rattle.std.specs.Prelude.{Option, IsSome, IsNone}
 use Rattle.rules.specs.declared.Header.{Header}
 use Rattle.rules.specs.Case.{Case}
 use Rattle.rules.specs.Gaps.{empty_count, power, Within, ChoiceOf, choice_count, choice_most}
@@ -55,7 +56,7 @@ module _ {k : Case} {first text fields : List ℕ} {at : Opened} {states work ch
   -- ---- After a choice that failed
 
   module _ (size : ℕ) (d why' states' work' : List ℕ) (t : TurnsOut k size choice Failed d why' states' work') (m : ℕ) (all : m ≡ 2 ^ length d - 1)
-      (r : ℕ) (f after : List ℕ)
+      (r : Option ℕ) (f after : List ℕ)
       (skips : (p : List ℕ → Bool) → Within at.header.cues d → Reason p at.header.cues (length d) m d → Known p at.header.cues why' d
       → Skipped p at.header.cues d r f after) where
     skipped : Skipped (passing k) k.head.cues d r f after
@@ -67,16 +68,16 @@ module _ {k : Case} {first text fields : List ℕ} {at : Opened} {states work ch
     upto : GoesOn (passing k) k.head.cues first d why'
     upto = goes_on_lem (passing k) k.head.cues first choice d why why' g.goes t.0
 
-    pub none_after : r ≡ 0 → AllFail (passing k) (on_from k.head.cues first)
+    pub none_after : IsNone r → AllFail (passing k) (on_from k.head.cues first)
     none_after z =
         fails_on (passing k) k.head.cues first d upto.skips (skipped_none (passing k) k.head.cues d f after r z skipped)
 
-    pub some_after : (r ≡ 0 → ⊥) → GoesOn (passing k) k.head.cues first f after
+    pub some_after : IsSome r → GoesOn (passing k) k.head.cues first f after
     some_after n =
         goes_on_lem (passing k) k.head.cues first d f why' after upto (skipped_some (passing k) k.head.cues d f after r n skipped)
 
     -- Fewer are left, whichever header says how many cues there are.
-    pub fewer_after : (r ≡ 0 → ⊥) → Nearer at.header.cues d r f → (header : Header) → header ≡ k.head
+    pub fewer_after : IsSome r → Nearer at.header.cues d r f → (header : Header) → header ≡ k.head
         → length (on_from header.cues f) < length (on_from header.cues choice)
     fewer_after n near header e =
         omega (

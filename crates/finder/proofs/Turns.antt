@@ -1,10 +1,11 @@
 -- One turn of the search after another: where it stands, and how it ends. Assumes nothing.
-use mathlib.Core.Path.{◌≡◌, refl, sym, ap, ◌∙◌, subst}
-use mathlib.Core.Bool.{Bool, true}
+use mathlib.Core.Path.{◌≡◌, sym, ap, ◌∙◌, subst}
+use mathlib.Core.Bool.{Bool, true, false≢true}
 use mathlib.Core.List.{List}
-use Prim.Native.Nat.{ℕ, zero, suc, ◌+◌, ◌≤◌, ◌<◌}
+use Prim.Native.Nat.{ℕ, ◌+◌, ◌≤◌, ◌<◌}
 use native.Mathlib.Omega.{arith}
 use lib.ListN.{length, replicate, length-append, length-replicate}
+use Rattle.std.specs.Prelude.{Option, Some, None, IsSome, IsNone, Result, Ok, Err}
 use Rattle.rules.specs.declared.Answer.{Answer}
 use Rattle.rules.specs.declared.Answer.TheVariants.{NoChoice}
 use Rattle.rules.specs.Result.{found}
@@ -17,8 +18,6 @@ use Rattle.choices.specs.Reasons.{Known}
 use Rattle.choices.proofs.Skipping.{skips_self, skips_on}
 use Rattle.seeking.specs.Seeking.{GoesOn, Skipped, Nearer}
 use Rattle.judge.specs.declared.Opened.{Opened}
-use Rattle.judge.specs.declared.Opening.{Opening}
-use Rattle.judge.specs.declared.Opening.TheVariants.{Case as CaseOpen, Refused as CaseRefused}
 use Rattle.judge.specs.Phases.{Answers, Claimed, Passes, OpensAs}
 use Rattle.finder.specs.declared.Attempt.{Attempt}
 use Rattle.finder.specs.declared.Attempt.TheVariants.{Accepted, Failed, Over}
@@ -52,16 +51,17 @@ module _ (p : List ℕ → Bool) (cues : ℕ) where
   pub goes_fewer : (c d why : List ℕ) → GoesOn p cues c d why → length (on_from cues d) ≤ length (on_from cues c)
   goes_fewer c d why x = let s = x.skips in omega (arith, ap length s.split, length-append s.skipped (on_from cues d))
 
-  pub skipped_none : (c d why : List ℕ) (r : ℕ) → r ≡ 0 → Skipped p cues c r d why → AllFail p (on_from cues c)
-  skipped_none c d why r e s = subst (λ (x : ℕ). Skipped p cues c x d why) e s
+  pub skipped_none : (c d why : List ℕ) (r : Option ℕ) → IsNone r → Skipped p cues c r d why → AllFail p (on_from cues c)
+  skipped_none c d why None e s = s
+  skipped_none c d why (Some b) e s = absurd (false≢true (sym e))
 
-  pub skipped_some : (c d why : List ℕ) (r : ℕ) → (r ≡ 0 → ⊥) → Skipped p cues c r d why → GoesOn p cues c d why
-  skipped_some c d why zero n s = absurd (n refl)
-  skipped_some c d why (suc r) n s = s
+  pub skipped_some : (c d why : List ℕ) (r : Option ℕ) → IsSome r → Skipped p cues c r d why → GoesOn p cues c d why
+  skipped_some c d why None e s = absurd (false≢true e)
+  skipped_some c d why (Some b) e s = s
 
-pub nearer_some : (cues : ℕ) (c d : List ℕ) (r : ℕ) → (r ≡ 0 → ⊥) → Nearer cues c r d → length (on_from cues d) < length (on_from cues c)
-nearer_some cues c d zero n s = absurd (n refl)
-nearer_some cues c d (suc r) n s = s.0
+pub nearer_some : (cues : ℕ) (c d : List ℕ) (r : Option ℕ) → IsSome r → Nearer cues c r d → length (on_from cues d) < length (on_from cues c)
+nearer_some cues c d None e n = absurd (false≢true e)
+nearer_some cues c d (Some b) e n = n.2
 
 -- ---- How a turn came out
 
@@ -83,16 +83,16 @@ pub same_case : {text fields states work now states' work' : List ℕ} {o at : O
 same_case x y = let p = x.reads in let q = y.reads in cc
 
 module _ {text fields states work : List ℕ} {o : Opened} {k : Case} (first : Passes text fields o states work k) (now : List ℕ) (size : ℕ)
-    (states' work' : List ℕ) (r : Opening) (told : OpensAs text now size r states' work') where
-  pub opened_again : (at : Opened) → r ≡ CaseOpen at → Passes text now at states' work' k
+    (states' work' : List ℕ) (r : Result Opened Answer) (told : OpensAs text now size r states' work') where
+  pub opened_again : (at : Opened) → r ≡ Ok at → Passes text now at states' work' k
   opened_again at e =
-      let (l, p) = subst (λ (x : Opening). OpensAs text now size x states' work') e told in
+      let (l, p) = subst (λ (x : Result Opened Answer). OpensAs text now size x states' work') e told in
       subst (λ (x : Case). Passes text now at states' work' x) (same_case first p) p
 
   -- So it is not refused.
-  pub never_refused : (a : Answer) → r ≡ CaseRefused a → ⊥
+  pub never_refused : (a : Answer) → r ≡ Err a → ⊥
   never_refused a e =
-      let (refuses, zeros) = subst (λ (x : Opening). OpensAs text now size x states' work') e told in
+      let (refuses, zeros) = subst (λ (x : Result Opened Answer). OpensAs text now size x states' work') e told in
       let rest : Case → Tree → Found Tree = λ l t. found (l, t) in
       let p = first.rows rest in
       let q = refuses rest in

@@ -2,8 +2,9 @@
 // first with which the text would be accepted what its check leaves. The columns of the node records are left in the work space.
 #![tactic(auto)]
 
-ghost use Rattle.std.specs.Prelude.{◌≡◌, true, List, ◌+◌, ◌≤◌, ◌<◌, min, length, replicate};
+ghost use Rattle.std.specs.Prelude.{◌≡◌, true, List, ◌+◌, ◌*◌, ◌<◌, ◌≤◌, min, length, replicate};
 ghost use Rattle.rules.specs.declared.Answer.TheVariants.{NoChoice};
+ghost use Rattle.rules.specs.State.{word_count};
 ghost use Rattle.rules.specs.Case.{Case, Valued};
 ghost use Rattle.rules.specs.Print.{lines_text};
 ghost use Rattle.rules.specs.Verdict.{text_most, state_need, work_need, check_lists};
@@ -12,16 +13,16 @@ ghost use Rattle.rules.proofs.Judgement.Rows.{from_text, from_tree};
 ghost use Rattle.rules.proofs.Gaps.Lengths.{surplus};
 ghost use Rattle.choices.specs.Reasons.{Known};
 ghost use Rattle.fields.specs.Directory.{Roomy};
-ghost use Rattle.columns.specs.Columns.{Blank};
+ghost use Rattle.columns.specs.Columns.{column_words};
 ghost use Rattle.output.specs.Output.{HasLines};
 ghost use Rattle.seeking.specs.Seeking.{Sought};
 ghost use Rattle.judge.specs.Phases.{Answers, Cleared, Claimed, Passes, from_claimed};
 ghost use Rattle.finder.specs.Finding.{checked_with, passing, from_choices, from_count, from_gaps, Finds, Tried, LimitedBy, Printable, BaseOf, SpareOf, digits_most, Spacious, TurnsOut};
 
-use blames::{ORDER, POOL, POSITIONS};
-use columns::PER_WORD;
+use blames::{POSITIONS, SILENT, SLOTS};
+use columns::{PER_WORD, StateColumns};
 use fields::FIELDS;
-use judge::{Admission, Opened, Opening};
+use judge::Opened;
 use rules::{Answer, NODES, TEXT};
 
 // Room for the fields of a text of fewer than twice as many bytes, and for a short text.
@@ -35,14 +36,15 @@ const DIGITS: usize = 57;
 // "15, that power is over 1,000,000"
 const CHOICES: u32 = 1000000;
 
-// What the call answers, and how many choices it tried, 0 for a refusal.
+// What the call answers, and how many choices it tried, 0 for a refusal: so the definitions' tried_after and the C struct have it.
 #[derive(Clone, Copy)]
 pub struct Discovery {
     pub answer: Answer,
     pub tried: u32,
 }
 
-// What one turn of the search comes to: a choice whose text is accepted; one that is refused; or none is left.
+// What one turn of the search comes to: a choice whose text is accepted; one that is refused; or none is left. Three outcomes, and none of them an
+// error: plainer than an Option in an Option.
 #[derive(Clone, Copy)]
 enum Attempt {
     Accepted { answer: Answer },
@@ -63,10 +65,8 @@ fn surplus_of(choice: &[u32], k: u32) -> u32
     ensures { result ≡ surplus choice.now }
 {
     let mut digits: u32 = 0;
-    let mut s: usize = 0;
-    while s < choice.len() {
-        digits += gaps::more_digits(choice[s]);
-        s += 1;
+    for gap in choice {
+        digits += gaps::more_digits(*gap);
     }
     digits
 }
@@ -90,34 +90,19 @@ fn check_print(
     judge::judge_text(&output[..length], states, work, fields)
 }
 
-// The same with an output of its own, for a short text and for any.
-fn check_short(
+// The same with an output of its own of so many bytes: of a short text, and of any.
+fn check_within<const SIZE: usize>(
     fields: &mut [u32],
     end: usize,
     cues: u32,
     states: &mut [u64],
     work: &mut [u32],
 ) -> Answer
-    requires has_lines { (xs : List Valued) × HasLines cues fields.old end xs × (length (lines_text xs) ≤ 4096) × Roomy (lines_text xs) fields.old }
-    requires state_need_in_bounds { (state_need ≤ length states.old) × (work_need ≤ length work.old) }
+    requires has_lines { (xs : List Valued) × HasLines cues fields.old end xs × (length (lines_text xs) ≤ SIZE) × Roomy (lines_text xs) fields.old }
+    requires state_need_in_bounds { (state_need ≤ length states.old) × (work_need ≤ length work.old) × (SIZE ≤ text_most) }
     ensures { (xs : List Valued) → HasLines cues fields.old end xs → Answers (from_text from_tree (lines_text xs)) (length states.old) result states.new work.new }
 {
-    let mut output = [0u8; SHORT];
-    check_print(fields, end, cues, &mut output, states, work)
-}
-
-fn check_any(
-    fields: &mut [u32],
-    end: usize,
-    cues: u32,
-    states: &mut [u64],
-    work: &mut [u32],
-) -> Answer
-    requires has_lines { (xs : List Valued) × HasLines cues fields.old end xs × (length (lines_text xs) ≤ text_most) × Roomy (lines_text xs) fields.old }
-    requires state_need_in_bounds { (state_need ≤ length states.old) × (work_need ≤ length work.old) }
-    ensures { (xs : List Valued) → HasLines cues fields.old end xs → Answers (from_text from_tree (lines_text xs)) (length states.old) result states.new work.new }
-{
-    let mut output = [0u8; TEXT];
+    let mut output = [0u8; SIZE];
     check_print(fields, end, cues, &mut output, states, work)
 }
 
@@ -149,9 +134,9 @@ fn try_choice(
     let sum = gaps::sum_lines(fields, nodes, count, cues);
     let end = sum.next;
     if length <= SHORT {
-        return check_short(fields, end, cues, states, work);
+        return check_within::<SHORT>(fields, end, cues, states, work);
     }
-    check_any(fields, end, cues, states, work)
+    check_within::<TEXT>(fields, end, cues, states, work)
 }
 
 // The one choice that there is with no empty task, or with no cue: every gap 0.
@@ -186,35 +171,31 @@ fn seek_with(
     spare: u32,
     choice: &mut [u32],
     why: &mut [u32],
-    states: &[u64],
     work: &[u32],
-    columns: &mut [u64],
-    built: &mut [u64],
+    columns: &mut StateColumns,
 ) -> bool
-    requires claimed { (k : Case) × Claimed k fields.now o states.now work.now × ChoiceOf k choice.old }
-    requires choice_len_bound { (length choice.old ≤ 19) × (length why.old ≡ length choice.old) × Blank columns.old built.old }
+    requires claimed { (k : Case) × Claimed k fields.now o columns.old.states work.now × ChoiceOf k choice.old }
+    requires choice_len_bound { (length choice.old ≤ 19) × (length why.old ≡ length choice.old) × (o.header.cues < columns.old.held) }
     ensures within { result ≡ true → Within o.header.cues choice.new }
-    ensures sought { (k : Case) → Claimed k fields.now o states.now work.now → ChoiceOf k choice.old → SpareOf k spare → Known (passing k) k.head.cues why.old choice.old → Sought (passing k) k.head.cues choice.old result choice.new why.new }
+    ensures sought { (k : Case) → Claimed k fields.now o columns.old.states work.now → ChoiceOf k choice.old → SpareOf k spare → Known (passing k) k.head.cues why.old choice.old → Sought (passing k) k.head.cues choice.old result choice.new why.new }
 {
     let header = o.header;
     let line = o.plan_line;
     let nodes = o.nodes;
-    let mut pool = [0u32; POOL];
+    let mut pool = [SILENT; SLOTS];
     let mut counts = [0u32; POSITIONS];
-    let mut order = [0u32; ORDER];
+    let mut order = [0u8; SLOTS];
     blames::in_order(&mut order);
     entering::enter_all(
         fields,
         header,
         line,
         nodes,
-        states,
         work,
         choice,
         &mut pool,
         &mut counts,
         columns,
-        built,
     );
     seeking::seek(
         choice,
@@ -224,9 +205,7 @@ fn seek_with(
         &mut order,
         header.cues,
         spare,
-        states,
         columns,
-        built,
     )
 }
 
@@ -236,37 +215,13 @@ const FEW_WORDS: usize = 1;
 // And in any other: with all of them the call would need more than 512 KiB of stack. A proposition past them is tested state by state.
 const MANY_WORDS: usize = 4;
 
-// The same with columns of its own: of a small model, and of any other.
-fn seek_few(
-    fields: &[u32],
-    o: Opened,
-    spare: u32,
-    choice: &mut [u32],
-    why: &mut [u32],
-    states: &[u64],
-    work: &[u32],
-) -> bool
-    requires claimed { (k : Case) × Claimed k fields.now o states.now work.now × ChoiceOf k choice.old }
-    requires choice_len_bound { (length choice.old ≤ 19) × (length why.old ≡ length choice.old) }
-    ensures within { result ≡ true → Within o.header.cues choice.new }
-    ensures sought { (k : Case) → Claimed k fields.now o states.now work.now → ChoiceOf k choice.old → SpareOf k spare → Known (passing k) k.head.cues why.old choice.old → Sought (passing k) k.head.cues choice.old result choice.new why.new }
-{
-    let mut columns = [0u64; FEW_WORDS * PER_WORD];
-    let mut built = [0u64; FEW_WORDS];
-    seek_with(
-        fields,
-        o,
-        spare,
-        choice,
-        why,
-        states,
-        work,
-        &mut columns,
-        &mut built,
-    )
-}
+// How many numbers their columns are.
+const FEW_COLUMNS: usize = FEW_WORDS * PER_WORD;
 
-fn seek_many(
+const MANY_COLUMNS: usize = MANY_WORDS * PER_WORD;
+
+// The same with columns of its own, for so many words of propositions: of a small model, and of any other.
+fn seek_within<const WORDS: usize, const COLUMNS: usize>(
     fields: &[u32],
     o: Opened,
     spare: u32,
@@ -277,22 +232,15 @@ fn seek_many(
 ) -> bool
     requires claimed { (k : Case) × Claimed k fields.now o states.now work.now × ChoiceOf k choice.old }
     requires choice_len_bound { (length choice.old ≤ 19) × (length why.old ≡ length choice.old) }
+    requires columns { (WORDS ≤ word_count) × (COLUMNS ≡ 64 * WORDS * column_words) }
     ensures within { result ≡ true → Within o.header.cues choice.new }
     ensures sought { (k : Case) → Claimed k fields.now o states.now work.now → ChoiceOf k choice.old → SpareOf k spare → Known (passing k) k.head.cues why.old choice.old → Sought (passing k) k.head.cues choice.old result choice.new why.new }
 {
-    let mut columns = [0u64; MANY_WORDS * PER_WORD];
-    let mut built = [0u64; MANY_WORDS];
-    seek_with(
-        fields,
-        o,
-        spare,
-        choice,
-        why,
-        states,
-        work,
-        &mut columns,
-        &mut built,
-    )
+    let mut columns = [0u64; COLUMNS];
+    let mut built = [0u64; WORDS];
+    let held = o.header.cues as usize + 1;
+    let mut columns = StateColumns::new(states, held, &mut columns, &mut built);
+    seek_with(fields, o, spare, choice, why, work, &mut columns)
 }
 
 fn seek_on(
@@ -312,9 +260,9 @@ fn seek_on(
     let header = o.header;
     let propositions = header.propositions as usize;
     if propositions <= 64 * FEW_WORDS {
-        seek_few(fields, o, spare, choice, why, states, work)
+        seek_within::<FEW_WORDS, FEW_COLUMNS>(fields, o, spare, choice, why, states, work)
     } else {
-        seek_many(fields, o, spare, choice, why, states, work)
+        seek_within::<MANY_WORDS, MANY_COLUMNS>(fields, o, spare, choice, why, states, work)
     }
 }
 
@@ -360,6 +308,7 @@ fn find_first(
     ensures { (k : Case) → Passes text.now fields.old o states.old work.old k → BaseOf k base → ChoiceOf k choice.old → choice_count k ≤ choice_most → Finds (λ n. from_choices n k) (Tried k) (length states.old) result states.new work.new }
 {
     let mut at = o;
+    // A `loop`: each turn goes on from the choice that the step has come to.
     loop {
         let header = at.header;
         let k = header.cues;
@@ -377,16 +326,12 @@ fn find_first(
             Attempt::Failed => {}
         }
         let all = subsets::all(choice.len() as u32);
-        if seeking::skip(choice, why, k, all) == 0 {
+        if seeking::skip(choice, why, k, all).is_none() {
             return none_passes(states, k, choice.len());
         }
         match judge::open_text(text, states, work, fields) {
-            Opening::Case { case } => {
-                at = case;
-            }
-            Opening::Refused { answer } => {
-                return Discovery { answer, tried: 0 };
-            }
+            Ok(opened) => at = opened,
+            Err(answer) => return Discovery { answer, tried: 0 },
         }
     }
 }
@@ -449,25 +394,18 @@ fn find_text(text: &[u8], states: &mut [u64], work: &mut [u32], fields: &mut [u3
     ensures { Finds (λ n. from_text (from_claimed (from_gaps n)) text.now) (LimitedBy text.now) (length states.old) result states.new work.new }
 {
     match judge::open_text(text, states, work, fields) {
-        Opening::Case { case } => find_choices(text, fields, case, states, work),
-        Opening::Refused { answer } => Discovery { answer, tried: 0 },
+        Ok(opened) => find_choices(text, fields, opened, states, work),
+        Err(answer) => Discovery { answer, tried: 0 },
     }
 }
 
-// The same with room for the fields of a text that is short with the gaps of any choice; and with room for those of any text.
-fn find_short(text: &[u8], states: &mut [u64], work: &mut [u32]) -> Discovery
-    requires { Cleared text.now states.old work.old × (length text.now + digits_most < 4096) }
+// The same with room of its own for so many fields: those of a text that is short with the gaps of any choice, and those of any text.
+fn find_within<const SIZE: usize>(text: &[u8], states: &mut [u64], work: &mut [u32]) -> Discovery
+    requires cleared { Cleared text.now states.old work.old }
+    requires spacious { Spacious (length text.now) (replicate SIZE 0) × (SIZE ≤ FIELDS) }
     ensures { Finds (λ n. from_text (from_claimed (from_gaps n)) text.now) (LimitedBy text.now) (length states.old) result states.new work.new }
 {
-    let mut fields = [0u32; SMALL];
-    find_text(text, states, work, &mut fields)
-}
-
-fn find_any(text: &[u8], states: &mut [u64], work: &mut [u32]) -> Discovery
-    requires { Cleared text.now states.old work.old }
-    ensures { Finds (λ n. from_text (from_claimed (from_gaps n)) text.now) (LimitedBy text.now) (length states.old) result states.new work.new }
-{
-    let mut fields = [0u32; FIELDS];
+    let mut fields = [0u32; SIZE];
     find_text(text, states, work, &mut fields)
 }
 
@@ -476,9 +414,9 @@ fn find_lent(text: &[u8], states: &mut [u64], work: &mut [u32]) -> Discovery
     ensures { Finds (λ n. from_text (from_claimed (from_gaps n)) text.now) (LimitedBy text.now) (length states.old) result states.new work.new }
 {
     if text.len() < 2 * SMALL - DIGITS {
-        return find_short(text, states, work);
+        return find_within::<SMALL>(text, states, work);
     }
-    find_any(text, states, work)
+    find_within::<FIELDS>(text, states, work)
 }
 
 // All rows. The state list is zero before anything is checked.
@@ -487,7 +425,7 @@ pub fn find(text: &[u8], states: &mut [u64], work: &mut [u32], node_room: usize)
 {
     rows::clear(states);
     match judge::admit(text, states.len(), node_room, work.len()) {
-        Admission::Passed => find_lent(text, states, work),
-        Admission::Refused { answer } => Discovery { answer, tried: 0 },
+        Ok(()) => find_lent(text, states, work),
+        Err(answer) => Discovery { answer, tried: 0 },
     }
 }

@@ -5,7 +5,7 @@ use mathlib.Core.List.{List, [], ◌∷◌, ◌++◌, append-nil, append_assoc}
 use Prim.Native.Nat.{ℕ, suc, ◌+◌, ◌-◌, ◌≤◌, ◌<◌}
 use native.Mathlib.Omega.{arith}
 use lib.ListN.{length, set, length-set}
-use Rattle.rules.specs.declared.Header.{Header}
+use Rattle.std.specs.Prelude.{Ok, Err}
 use Rattle.rules.specs.declared.Answer.{Answer}
 use Rattle.rules.specs.Result.{found, refused}
 use Rattle.rules.specs.Case.{Case, Read}
@@ -13,9 +13,8 @@ use Rattle.rules.specs.Naming.{Names}
 use Rattle.rules.specs.Form.{FormLine, task_line, with_task, back_lines}
 use Rattle.links.specs.Links.{Lines, Spelled}
 use Rattle.forms.specs.declared.backs.After.{After}
-use Rattle.forms.specs.declared.backs.After.TheVariants.{Taken, End, Refused}
-use Rattle.forms.specs.declared.backs.Backs.TheVariants.{Read as BacksOf, Refused as BacksRefused}
-use Rattle.forms.specs.Held.{MethodsHere, Tasks, Methods, AfterIs, BacksAre}
+use Rattle.forms.specs.declared.backs.After.TheVariants.{Taken, End}
+use Rattle.forms.specs.Held.{AfterIs, BacksAre}
 use Rattle.forms.proofs.Grown.{one_more, lines_task, spelled_task}
 
 -- Lines put ahead of others.
@@ -58,7 +57,7 @@ module _ (k : Case) (ns : Names) (form : List ℕ) (cues from : ℕ) (cs : List 
 
   module _ (ids labels places : List ℕ) (at e : ℕ) (p : SoFar k ns form cues from cs ids labels places at e) (ids' labels' places' : List ℕ) where
     so_far_more : length ids ≡ 3000 → length labels ≡ 3000 → length places ≡ 3000 → (next : ℕ)
-        → AfterIs k ns form e at ids labels places (Taken next) ids' labels' places'
+        → AfterIs k ns form e at ids labels places (Ok (Taken next)) ids' labels' places'
         → SoFar k ns form cues from cs ids' labels' places' next (e + 1)
     so_far_more ids_long labels_long places_long next (id, m, end, subtasks, is, ls, ps, few, spells, short, step) =
         record {
@@ -82,8 +81,8 @@ module _ (k : Case) (ns : Names) (form : List ℕ) (cues from : ℕ) (cs : List 
         regrouped : cs ++ p.tasks ++ (x ∷ []) ≡ cs ++ (p.tasks ++ (x ∷ []))
         regrouped = append_assoc cs p.tasks (x ∷ [])
 
-    so_far_end : e ≤ 3000 → (next : ℕ) → AfterIs k ns form e at ids labels places (End next) ids' labels' places'
-        → BacksAre k ns form cues from cs (BacksOf e next) ids' labels' places'
+    so_far_end : e ≤ 3000 → (next : ℕ) → AfterIs k ns form e at ids labels places (Ok (End next)) ids' labels' places'
+        → BacksAre k ns form cues from cs (Ok (record { count = e; next = next })) ids' labels' places'
     so_far_end most next (is, ls, ps, step) = (
       p.tasks,
       p.size,
@@ -98,15 +97,10 @@ module _ (k : Case) (ns : Names) (form : List ℕ) (cues from : ℕ) (cs : List 
         fourth : e + 3 + 1 ≡ e + 4
         fourth = omega arith
 
-    so_far_refused : (answer : Answer) → AfterIs k ns form e at ids labels places (Refused answer) ids' labels' places' → all ≡ refused answer
+    so_far_refused : (answer : Answer) → AfterIs k ns form e at ids labels places (Err answer) ids' labels' places' → all ≡ refused answer
     so_far_refused answer h = p.same ∙ ap (ahead p.tasks) h
 
 -- ---- For every case that the names and the methods fit
-
--- What the code asks of a case.
-abbrev pub Modelled : Header → List ℕ → List ℕ → List ℕ → List ℕ → List ℕ → List ℕ → List ℕ → List ℕ → List ℕ → Case → Names → Type 0
-Modelled header names task_starts task_ends task_slots method_starts method_ends method_slots fields directory k ns =
-    Tasks k ns header names task_starts task_ends task_slots × Methods k ns header names method_starts method_ends method_slots × MethodsHere k fields directory
 
 pub record Backing (Fits : Case → Names → Type 0) (form : List ℕ) (cues from : ℕ) (ids₀ labels₀ ids labels places : List ℕ) (at e : ℕ) : Type 0 where
   pub most : e ≤ 3000
@@ -128,34 +122,34 @@ module _ (Fits : Case → Names → Type 0) (form : List ℕ) (cues from : ℕ) 
         so_far = λ k ns t cs size lines. so_far_none k ns form cues from cs ids₀ labels₀ places size lines;
       }
 
-  module _ (ids labels places : List ℕ) (at e : ℕ) (p : Backing Fits form cues from ids₀ labels₀ ids labels places at e)
-      (r : After) (ids' labels' places' : List ℕ)
-      (h : (k : Case) (ns : Names) → Fits k ns → AfterIs k ns form e at ids labels places r ids' labels' places') where
-    told : (s : After) → r ≡ s → (k : Case) (ns : Names) → Fits k ns → AfterIs k ns form e at ids labels places s ids' labels' places'
-    told s q k ns t = subst (λ (x : After). AfterIs k ns form e at ids labels places x ids' labels' places') q (h k ns t)
+  module _ (ids labels places : List ℕ) (at e : ℕ) (p : Backing Fits form cues from ids₀ labels₀ ids labels places at e) (ids' labels' places' : List ℕ) where
+    module _ (r : After) (h : (k : Case) (ns : Names) → Fits k ns → AfterIs k ns form e at ids labels places (Ok r) ids' labels' places') where
+      told : (s : After) → r ≡ s → (k : Case) (ns : Names) → Fits k ns → AfterIs k ns form e at ids labels places (Ok s) ids' labels' places'
+      told s q k ns t = subst (λ (x : After). AfterIs k ns form e at ids labels places (Ok x) ids' labels' places') q (h k ns t)
 
-    pub backing_few : ((k : Case) × (ns : Names) × Fits k ns) → (next : ℕ) → r ≡ Taken next → e < 3000
-    backing_few (k, ns, t) next q = (told (Taken next) q k ns t).7
+      pub backing_few : ((k : Case) × (ns : Names) × Fits k ns) → (next : ℕ) → r ≡ Taken next → e < 3000
+      backing_few (k, ns, t) next q = (told (Taken next) q k ns t).7
 
-    pub backing_more : ((k : Case) × (ns : Names) × Fits k ns) → (next : ℕ) → r ≡ Taken next
-        → Backing Fits form cues from ids₀ labels₀ ids' labels' places' next (e + 1)
-    backing_more (k, ns, t) next q =
-        let w = told (Taken next) q k ns t in
-        let few = w.7 in
-        record {
-          most = omega arith;
-          ids_long = ap length w.4 ∙ (length-set ids e w.0 ∙ p.ids_long);
-          labels_long = ap length w.5 ∙ (length-set labels e w.1 ∙ p.labels_long);
-          places_long = ap length w.6 ∙ (length-set places e w.2 ∙ p.places_long);
-          so_far = λ k ns t cs size lines. so_far_more k ns form cues from cs ids labels places at e (p.so_far k ns t cs size lines) ids' labels' places'
-              p.ids_long p.labels_long p.places_long next (told (Taken next) q k ns t);
-        }
+      pub backing_more : ((k : Case) × (ns : Names) × Fits k ns) → (next : ℕ) → r ≡ Taken next
+          → Backing Fits form cues from ids₀ labels₀ ids' labels' places' next (e + 1)
+      backing_more (k, ns, t) next q =
+          let w = told (Taken next) q k ns t in
+          let few = w.7 in
+          record {
+            most = omega arith;
+            ids_long = ap length w.4 ∙ (length-set ids e w.0 ∙ p.ids_long);
+            labels_long = ap length w.5 ∙ (length-set labels e w.1 ∙ p.labels_long);
+            places_long = ap length w.6 ∙ (length-set places e w.2 ∙ p.places_long);
+            so_far = λ k ns t cs size lines. so_far_more k ns form cues from cs ids labels places at e (p.so_far k ns t cs size lines) ids' labels' places'
+                p.ids_long p.labels_long p.places_long next (told (Taken next) q k ns t);
+          }
 
-    module _ (k : Case) (ns : Names) (t : Fits k ns) (cs : List FormLine) (size : length cs ≡ cues) (lines : Lines cs cues ids₀ labels₀) where
-      pub backing_end : (next : ℕ) → r ≡ End next → BacksAre k ns form cues from cs (BacksOf e next) ids' labels' places'
-      backing_end next q =
+      pub backing_end : (k : Case) (ns : Names) → Fits k ns → (cs : List FormLine) → length cs ≡ cues → Lines cs cues ids₀ labels₀ → (next : ℕ) → r ≡ End next
+          → BacksAre k ns form cues from cs (Ok (record { count = e; next = next })) ids' labels' places'
+      backing_end k ns t cs size lines next q =
           so_far_end k ns form cues from cs ids labels places at e (p.so_far k ns t cs size lines) ids' labels' places' p.most next (told (End next) q k ns t)
 
-      pub backing_refused : (answer : Answer) → r ≡ Refused answer → BacksAre k ns form cues from cs (BacksRefused answer) ids' labels' places'
-      backing_refused answer q =
-          so_far_refused k ns form cues from cs ids labels places at e (p.so_far k ns t cs size lines) ids' labels' places' answer (told (Refused answer) q k ns t)
+    pub backing_refused : (k : Case) (ns : Names) → Fits k ns → (cs : List FormLine) → length cs ≡ cues → Lines cs cues ids₀ labels₀ → (answer : Answer)
+        → AfterIs k ns form e at ids labels places (Err answer) ids' labels' places' → BacksAre k ns form cues from cs (Err answer) ids' labels' places'
+    backing_refused k ns t cs size lines answer h =
+        so_far_refused k ns form cues from cs ids labels places at e (p.so_far k ns t cs size lines) ids' labels' places' answer h

@@ -5,7 +5,7 @@ use mathlib.Core.List.{List, [], ◌∷◌, ◌++◌, append-nil, append_assoc}
 use Prim.Native.Nat.{ℕ, suc, ◌+◌, ◌-◌, ◌≤◌, ◌<◌}
 use native.Mathlib.Omega.{arith}
 use lib.ListN.{length, set, length-set}
-use Rattle.rules.specs.declared.Header.{Header}
+use Rattle.std.specs.Prelude.{Ok, Err}
 use Rattle.rules.specs.declared.Answer.{Answer}
 use Rattle.rules.specs.Result.{Result, found, refused}
 use Rattle.rules.specs.Case.{Case}
@@ -13,9 +13,8 @@ use Rattle.rules.specs.Naming.{Names}
 use Rattle.rules.specs.Form.{FormLine, cue_line, Fronts, with_cue, front_lines}
 use Rattle.links.specs.Links.{Lines}
 use Rattle.forms.specs.declared.fronts.Ahead.{Ahead}
-use Rattle.forms.specs.declared.fronts.Ahead.TheVariants.{Taken, Root, Refused}
-use Rattle.forms.specs.declared.fronts.Fronts.TheVariants.{Read as FrontsOf, Refused as FrontsRefused}
-use Rattle.forms.specs.Held.{Tasks, AheadIs, FrontsAre}
+use Rattle.forms.specs.declared.fronts.Ahead.TheVariants.{Taken, Root}
+use Rattle.forms.specs.Held.{AheadIs, FrontsAre}
 use Rattle.forms.proofs.Grown.{one_more, lines_cue}
 
 -- Lines put ahead of others.
@@ -64,7 +63,7 @@ module _ (k : Case) (ns : Names) (form : List ℕ) (from : ℕ) where
       }
 
   module _ (ids labels : List ℕ) (at e : ℕ) (p : SoFar k ns form from ids labels at e) (ids' labels' : List ℕ) where
-    so_far_more : length ids ≡ 3000 → length labels ≡ 3000 → (next : ℕ) → AheadIs k ns form e at ids labels (Taken next) ids' labels'
+    so_far_more : length ids ≡ 3000 → length labels ≡ 3000 → (next : ℕ) → AheadIs k ns form e at ids labels (Ok (Taken next)) ids' labels'
         → SoFar k ns form from ids' labels' next (e + 1)
     so_far_more ids_long labels_long next (id, a, is, ls, few, step) =
         record {
@@ -82,15 +81,13 @@ module _ (k : Case) (ns : Names) (form : List ℕ) (from : ℕ) where
         x : FormLine
         x = cue_line (e + 2) id a (e + 1)
 
-    so_far_root : e ≤ 3000 → length ids ≡ 3000 → length labels ≡ 3000 → (root next : ℕ) → AheadIs k ns form e at ids labels (Root root next) ids' labels'
-        → FrontsAre k ns form from (FrontsOf e root next) ids' labels'
-    so_far_root most ids_long labels_long root next (is, ls, step) = (
+    so_far_root : e ≤ 3000 → (root next : ℕ) → AheadIs k ns form e at ids labels (Ok (Root root next)) ids' labels'
+        → FrontsAre k ns form from (Ok (record { cues = e; root = root; next = next })) ids' labels'
+    so_far_root most root next (is, ls, step) = (
       p.cues,
       p.size,
       subst (λ (l : List ℕ). Lines p.cues e ids' l) (sym ls) (subst (λ (l : List ℕ). Lines p.cues e l labels) (sym is) p.lines),
       most,
-      ap length is ∙ ids_long,
-      ap length ls ∙ labels_long,
       p.same
           ∙ (ap (ahead p.cues) (step (3000 - e))
           ∙ (ap (λ (cs : List FormLine). found (record { cues = cs; root = root; left = 3000 - e; next = e + 2 + 1; place = next })) (append-nil p.cues)
@@ -100,14 +97,10 @@ module _ (k : Case) (ns : Names) (form : List ℕ) (from : ℕ) where
         third : e + 2 + 1 ≡ e + 3
         third = omega arith
 
-    so_far_refused : (answer : Answer) → AheadIs k ns form e at ids labels (Refused answer) ids' labels' → all ≡ refused answer
+    so_far_refused : (answer : Answer) → AheadIs k ns form e at ids labels (Err answer) ids' labels' → all ≡ refused answer
     so_far_refused answer h = p.same ∙ ap (ahead p.cues) h
 
 -- ---- For every case that the names fit
-
--- What the code asks of a case.
-abbrev pub Modelled : Header → List ℕ → List ℕ → List ℕ → List ℕ → Case → Names → Type 0
-Modelled header names starts ends slots k ns = Tasks k ns header names starts ends slots
 
 pub record Fronting (Fits : Case → Names → Type 0) (form : List ℕ) (from : ℕ) (ids labels : List ℕ) (at e : ℕ) : Type 0 where
   pub most : e ≤ 3000
@@ -120,30 +113,30 @@ module _ (Fits : Case → Names → Type 0) (form : List ℕ) (from : ℕ) where
   fronting_starts ids labels i l =
       record { most = omega arith; ids_long = i; labels_long = l; so_far = λ k ns t. so_far_none k ns form from ids labels }
 
-  module _ (ids labels : List ℕ) (at e : ℕ) (p : Fronting Fits form from ids labels at e) (r : Ahead) (ids' labels' : List ℕ)
-      (h : (k : Case) (ns : Names) → Fits k ns → AheadIs k ns form e at ids labels r ids' labels') where
-    told : (s : Ahead) → r ≡ s → (k : Case) (ns : Names) → Fits k ns → AheadIs k ns form e at ids labels s ids' labels'
-    told s q k ns t = subst (λ (x : Ahead). AheadIs k ns form e at ids labels x ids' labels') q (h k ns t)
+  module _ (ids labels : List ℕ) (at e : ℕ) (p : Fronting Fits form from ids labels at e) (ids' labels' : List ℕ) where
+    module _ (r : Ahead) (h : (k : Case) (ns : Names) → Fits k ns → AheadIs k ns form e at ids labels (Ok r) ids' labels') where
+      told : (s : Ahead) → r ≡ s → (k : Case) (ns : Names) → Fits k ns → AheadIs k ns form e at ids labels (Ok s) ids' labels'
+      told s q k ns t = subst (λ (x : Ahead). AheadIs k ns form e at ids labels (Ok x) ids' labels') q (h k ns t)
 
-    pub fronting_few : ((k : Case) × (ns : Names) × Fits k ns) → (next : ℕ) → r ≡ Taken next → e < 3000
-    fronting_few (k, ns, t) next q = (told (Taken next) q k ns t).4
+      pub fronting_few : ((k : Case) × (ns : Names) × Fits k ns) → (next : ℕ) → r ≡ Taken next → e < 3000
+      fronting_few (k, ns, t) next q = (told (Taken next) q k ns t).4
 
-    pub fronting_more : ((k : Case) × (ns : Names) × Fits k ns) → (next : ℕ) → r ≡ Taken next → Fronting Fits form from ids' labels' next (e + 1)
-    fronting_more (k, ns, t) next q =
-        let w = told (Taken next) q k ns t in
-        let few = w.4 in
-        record {
-          most = omega arith;
-          ids_long = ap length w.2 ∙ (length-set ids e w.0 ∙ p.ids_long);
-          labels_long = ap length w.3 ∙ (length-set labels e w.1 ∙ p.labels_long);
-          so_far = λ k ns t. so_far_more k ns form from ids labels at e (p.so_far k ns t) ids' labels' p.ids_long p.labels_long next (told (Taken next) q k ns t);
-        }
+      pub fronting_more : ((k : Case) × (ns : Names) × Fits k ns) → (next : ℕ) → r ≡ Taken next → Fronting Fits form from ids' labels' next (e + 1)
+      fronting_more (k, ns, t) next q =
+          let w = told (Taken next) q k ns t in
+          let few = w.4 in
+          record {
+            most = omega arith;
+            ids_long = ap length w.2 ∙ (length-set ids e w.0 ∙ p.ids_long);
+            labels_long = ap length w.3 ∙ (length-set labels e w.1 ∙ p.labels_long);
+            so_far = λ k ns t. so_far_more k ns form from ids labels at e (p.so_far k ns t) ids' labels' p.ids_long p.labels_long next (told (Taken next) q k ns t);
+          }
 
-    pub fronting_root : (k : Case) (ns : Names) → Fits k ns → (root next : ℕ) → r ≡ Root root next → FrontsAre k ns form from (FrontsOf e root next) ids' labels'
-    fronting_root k ns t root next q =
-        so_far_root k ns form from ids labels at e (p.so_far k ns t) ids' labels' p.most p.ids_long p.labels_long root next (told (Root root next) q k ns t)
+      pub fronting_root : (k : Case) (ns : Names) → Fits k ns → (root next : ℕ) → r ≡ Root root next
+          → FrontsAre k ns form from (Ok (record { cues = e; root = root; next = next })) ids' labels'
+      fronting_root k ns t root next q =
+          so_far_root k ns form from ids labels at e (p.so_far k ns t) ids' labels' p.most root next (told (Root root next) q k ns t)
 
-    pub fronting_refused : (k : Case) (ns : Names) → Fits k ns → (answer : Answer) → r ≡ Refused answer
-        → FrontsAre k ns form from (FrontsRefused answer) ids' labels'
-    fronting_refused k ns t answer q =
-        so_far_refused k ns form from ids labels at e (p.so_far k ns t) ids' labels' answer (told (Refused answer) q k ns t)
+    pub fronting_refused : (k : Case) (ns : Names) → Fits k ns → (answer : Answer) → AheadIs k ns form e at ids labels (Err answer) ids' labels'
+        → FrontsAre k ns form from (Err answer) ids' labels'
+    fronting_refused k ns t answer h = so_far_refused k ns form from ids labels at e (p.so_far k ns t) ids' labels' answer h

@@ -5,3 +5,4 @@ pub mod FrontTurns
 pub mod BackLines
 pub mod BackTurns
 pub mod Whole
+pub mod Answered

@@ -7,6 +7,7 @@ use Prim.Native.Nat.{ℕ, ◌+◌, ◌≤◌, ◌<◌}
 use native.Mathlib.Omega.{arith}
 use lib.Dec.{eqb, leb, ltb}
 use lib.ListN.{length, get_or}
+use Rattle.std.specs.Prelude.{Some, None, Option as Found}
 use borrow.Author.Tests.{eq-eqb, ne_eqb, lt-ltb, le-ltb, le-leb, lt-leb}
 use Rattle.rules.specs.declared.Header.{Header}
 use Rattle.rules.specs.declared.Answer.TheVariants.{WrongName}
@@ -19,8 +20,6 @@ use Rattle.fields.specs.Standing.{Stands}
 use Rattle.fields.specs.Directory.{methods_from, directory_size}
 use Rattle.fields.proofs.Standing.{stands_inside, stands_at, stands_as}
 use Rattle.fields.proofs.Lines.{method_fields_lem}
-use Rattle.probing.specs.declared.Found.{Found}
-use Rattle.probing.specs.declared.Found.TheVariants.{At, Nothing}
 use Rattle.probing.specs.Probing.{first}
 use Rattle.probing.proofs.First.{first_at}
 use Rattle.names.specs.Names.{same_name}
@@ -32,10 +31,10 @@ pub apart : {A : Type 0} → ◌≡◌ {A = ℕ} 0 1 → A
 apart z = absurd (omega arith)
 
 -- What is found is the one thing that it is.
-pub at_low : (t i most : ℕ) → t < most → At t ≡ At i → i < most
+pub at_low : (t i most : ℕ) → t < most → Some t ≡ Some i → i < most
 at_low t i most h e = let same : t ≡ i = cc in omega arith
 
-pub nothing_low : (i most : ℕ) → Nothing ≡ At i → i < most
+pub nothing_low : (i most : ℕ) → None ≡ Some i → i < most
 nothing_low i most e = apart (cc)
 
 -- ---- A method's line
@@ -80,11 +79,11 @@ module _ (k : Case) (fields directory : List ℕ) (h : MethodsHere k fields dire
 
 -- ---- A name
 
-listed_some : (o : Option ℕ) {e : ℕ} → At e ≡ as_found o → o ≡ some e
+listed_some : (o : Option ℕ) {e : ℕ} → Some e ≡ as_found o → o ≡ some e
 listed_some (some d) q = cc
 listed_some none q = apart (cc)
 
-listed_none : (o : Option ℕ) → Nothing ≡ as_found o → o ≡ none
+listed_none : (o : Option ℕ) → None ≡ as_found o → o ≡ none
 listed_none (some d) q = apart (cc)
 listed_none none q = refl
 
@@ -93,25 +92,25 @@ serves_is serves n e x q = ap (λ (y : Bool). elim y as (λ z. Result ℕ) [ tru
 
 -- The tasks' names.
 module _ (k : Case) (ns : Names) (hd : Header) (text starts ends slots : List ℕ) (s : Tasks k ns hd text starts ends slots) (name : List ℕ) where
-  abbrev among : Found
+  abbrev among : Found ℕ
   among = first (same_name text starts ends name) (hd.actions + hd.compounds)
 
-  told : (r : Found) → r ≡ among → r ≡ as_found (listed_at ns.tasks name)
+  told : (r : Found ℕ) → r ≡ among → r ≡ as_found (listed_at ns.tasks name)
   told r e = find_listed text starts ends slots ns.tasks s.listed (hd.actions + hd.compounds) (sym s.count) name r e
 
-  pub task_low : {t : ℕ} → At t ≡ among → t < hd.actions + hd.compounds
+  pub task_low : {t : ℕ} → Some t ≡ among → t < hd.actions + hd.compounds
   task_low {t} e = (first_at (same_name text starts ends name) (hd.actions + hd.compounds) t (sym e)).0
 
   module _ (n : ℕ) where
-    pub no_task : Nothing ≡ among → (action_named k ns n name ≡ refused (WrongName n 0)) × (compound_named k ns n name ≡ refused (WrongName n 0))
+    pub no_task : None ≡ among → (action_named k ns n name ≡ refused (WrongName n 0)) × (compound_named k ns n name ≡ refused (WrongName n 0))
     unfolding action_named compound_named
     no_task e =
-        let o = listed_none (listed_at ns.tasks name) (told Nothing e) in
+        let o = listed_none (listed_at ns.tasks name) (told None e) in
         (ap (used_as (λ t. ltb t k.head.actions) n) o, ap (used_as (λ t. leb k.head.actions t) n) o)
 
-    module _ (t : ℕ) (e : At t ≡ among) where
+    module _ (t : ℕ) (e : Some t ≡ among) where
       o : listed_at ns.tasks name ≡ some t
-      o = listed_some (listed_at ns.tasks name) (told (At t) e)
+      o = listed_some (listed_at ns.tasks name) (told (Some t) e)
 
       pub an_action_lem : t < hd.actions → (action_named k ns n name ≡ found t) × (compound_named k ns n name ≡ refused (WrongName n 0))
       unfolding action_named compound_named
@@ -135,29 +134,29 @@ module _ (k : Case) (ns : Names) (hd : Header) (text starts ends slots : List �
 
 -- The methods'.
 module _ (k : Case) (ns : Names) (hd : Header) (text starts ends slots : List ℕ) (s : Methods k ns hd text starts ends slots) (name : List ℕ) where
-  abbrev among_methods : Found
+  abbrev among_methods : Found ℕ
   among_methods = first (same_name text starts ends name) hd.methods
 
-  told_method : (r : Found) → r ≡ among_methods → r ≡ as_found (listed_at ns.methods name)
+  told_method : (r : Found ℕ) → r ≡ among_methods → r ≡ as_found (listed_at ns.methods name)
   told_method r e = find_listed text starts ends slots ns.methods s.listed hd.methods (sym s.count) name r e
 
-  pub method_low : {m : ℕ} → At m ≡ among_methods → m < hd.methods
+  pub method_low : {m : ℕ} → Some m ≡ among_methods → m < hd.methods
   method_low {m} e = (first_at (same_name text starts ends name) hd.methods m (sym e)).0
 
-  pub model_low : {m : ℕ} → At m ≡ among_methods → m < k.head.methods
+  pub model_low : {m : ℕ} → Some m ≡ among_methods → m < k.head.methods
   model_low {m} e = let low = method_low e in let same = ap (λ (x : Header). x.methods) s.head in omega arith
 
   module _ (n t : ℕ) (ids : List ℕ) where
-    pub no_method_lem : Nothing ≡ among_methods → method_named k ns n t name ids ≡ refused (WrongName n 0)
+    pub no_method_lem : None ≡ among_methods → method_named k ns n t name ids ≡ refused (WrongName n 0)
     unfolding method_named
     no_method_lem e =
-        ap (used_as (λ m. suits (method_at k.methods m) t (length ids)) n) (listed_none (listed_at ns.methods name) (told_method Nothing e))
+        ap (used_as (λ m. suits (method_at k.methods m) t (length ids)) n) (listed_none (listed_at ns.methods name) (told_method None e))
 
-    pub a_method : (m : ℕ) → At m ≡ among_methods → (x : Bool) → suits (method_at k.methods m) t (length ids) ≡ x
+    pub a_method : (m : ℕ) → Some m ≡ among_methods → (x : Bool) → suits (method_at k.methods m) t (length ids) ≡ x
         → method_named k ns n t name ids ≡ elim x [ true ↦ found m | false ↦ refused (WrongName n 0) ]
     unfolding method_named
     a_method m e x q =
-        ap (used_as (λ i. suits (method_at k.methods i) t (length ids)) n) (listed_some (listed_at ns.methods name) (told_method (At m) e))
+        ap (used_as (λ i. suits (method_at k.methods i) t (length ids)) n) (listed_some (listed_at ns.methods name) (told_method (Some m) e))
         ∙ serves_is (λ i. suits (method_at k.methods i) t (length ids)) n m x q
 
 -- Both names of a compound line: the task's, and then the method's.

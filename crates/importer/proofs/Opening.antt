@@ -13,8 +13,7 @@ use Rattle.rules.proofs.Judgement.Sound.{sound}
 use Rattle.fields.specs.Directory.{directory_size}
 use Rattle.judge.specs.declared.Opened.{Opened}
 use Rattle.judge.specs.Phases.{Opens}
-use Rattle.importer.specs.declared.made.Made.{Made}
-use Rattle.importer.specs.declared.made.Made.TheVariants.{Refused}
+use Rattle.std.specs.Prelude.{Err, Result as Returned}
 use Rattle.importer.specs.Importing.{CaseHere, made_beside, made_text, MadeIs}
 
 pub case_here : (k : Case) (fields : List ℕ) (o : Opened) (initial : ℕ) (work : List ℕ) → Opens k fields o initial work → CaseHere k o.header o.nodes fields work
@@ -38,10 +37,10 @@ case_here k fields o initial work x =
     }
 
 module _ (size : ℕ) (text names form : List ℕ) where
-  pub text_made : (k : Case) → read_case text ≡ found k → (r : Made) (output : List ℕ) → MadeIs (made_beside size k names form) size r output → MadeIs (made_text size text names form) size r output
+  pub text_made : (k : Case) → read_case text ≡ found k → (r : Returned ℕ Answer) (output : List ℕ) → MadeIs (made_beside size k names form) size r output → MadeIs (made_text size text names form) size r output
   unfolding made_text
   text_made k e r output m = subst (λ (x : Result Case). MadeIs (x >>= λ l. made_beside size l names form) size r output) (sym e) m
 
-  pub text_refused : (a : Answer) → read_case text ≡ refused a → (output : List ℕ) → MadeIs (made_text size text names form) size (Refused a) output
+  pub text_refused : (a : Answer) → read_case text ≡ refused a → (output : List ℕ) → MadeIs (made_text size text names form) size (Err a) output
   unfolding made_text
-  text_refused a e output = subst (λ (x : Result Case). MadeIs (x >>= λ l. made_beside size l names form) size (Refused a) output) (sym e) refl
+  text_refused a e output = subst (λ (x : Result Case). MadeIs (x >>= λ l. made_beside size l names form) size (Err a) output) (sym e) refl

@@ -2,10 +2,12 @@
 use mathlib.Core.Path.{◌≡◌, refl, sym, ap, subst, ◌∙◌}
 use mathlib.Core.Bool.{Bool, true, false}
 use mathlib.Core.List.{List}
-use Prim.Native.Nat.{ℕ, zero, suc, ◌*◌, ◌≤◌, ◌<◌}
+use Prim.Native.Nat.{ℕ, zero, suc, ◌≤◌, ◌<◌}
 use native.Mathlib.Omega.{arith}
 use borrow.Author.Tests.{lt-ltb, le-ltb}
-use lib.ListN.{length, get_or, take, drop, replicate, length-replicate}
+use lib.ListN.{length, get_or, take, drop, replicate}
+use Rattle.std.specs.Prelude.{Ok, Err, Result as Returned, None, Some}
+use Rattle.rules.specs.declared.Answer.{Answer}
 use Rattle.rules.specs.declared.Answer.TheVariants.{ShortOutput, WrongId}
 use Rattle.rules.specs.Result.{Result, found, refused, ◌>>◌}
 use Rattle.rules.specs.Case.{Case}
@@ -23,9 +25,7 @@ use Rattle.linking.specs.Linking.{Joined}
 use Rattle.making.specs.Making.{Makes}
 use Rattle.making.proofs.Cases.{form_cued, form_tasked}
 use Rattle.output.proofs.Cases.{case_text}
-use Rattle.importer.specs.declared.made.Made.{Made}
-use Rattle.importer.specs.declared.made.Made.TheVariants.{Text, Refused}
-use Rattle.importer.specs.Importing.{FormHeld, Unlinked, made_of, MadeIs, PutMade}
+use Rattle.importer.specs.Importing.{FormHeld, made_of, MadeIs, PutMade}
 
 -- ---- The output
 
@@ -34,17 +34,17 @@ module _ (size : ℕ) (made : List ℕ) where
   abbrev room : Bool → Result (Unit {0})
   room b = elim b as (λ b. Result (Unit {0})) [ true ↦ refused (ShortOutput (length made)) | false ↦ found tt ]
 
-  pub put_short : (n : ℕ) (output : List ℕ) → n ≡ length made → size < n → PutMade made size (Refused (ShortOutput n)) output
+  pub put_short : (n : ℕ) (output : List ℕ) → n ≡ length made → size < n → PutMade made size (Err (ShortOutput n)) output
   put_short n output e h =
-      subst (λ (x : Result (Unit {0})). MadeIs (x >> found made) size (Refused (ShortOutput n)) output)
+      subst (λ (x : Result (Unit {0})). MadeIs (x >> found made) size (Err (ShortOutput n)) output)
       (sym (ap room (lt-ltb size (length made) (omega arith))))
-      (ap (λ (m : ℕ). Refused (ShortOutput m)) e)
+      (ap (λ (m : ℕ). Err (ShortOutput m)) e)
 
-  pub put_whole : (n : ℕ) (output : List ℕ) → n ≡ length made → n ≤ size → output ≡ filled size 0 made → PutMade made size (Text n) output
+  pub put_whole : (n : ℕ) (output : List ℕ) → n ≡ length made → n ≤ size → output ≡ filled size 0 made → PutMade made size (Ok n) output
   put_whole n output e h put =
-      subst (λ (x : Result (Unit {0})). MadeIs (x >> found made) size (Text n) output)
+      subst (λ (x : Result (Unit {0})). MadeIs (x >> found made) size (Ok n) output)
       (sym (ap room (le-ltb size (length made) (omega arith))))
-      (ap (λ (m : ℕ). Text m) e, put, omega arith)
+      (ap (λ (m : ℕ). Ok m) e, put, omega arith)
 
 -- ---- Lists that are zero at first
 
@@ -53,42 +53,17 @@ zero_at zero i = refl
 zero_at (suc n) zero = refl
 zero_at (suc n) (suc i) = zero_at n i
 
-zeros_long : (n count : ℕ) → count ≤ n → count ≤ length (replicate {A = ℕ} n 0)
-zeros_long n count h = omega (arith, length-replicate {A = ℕ} n 0)
-
-pub zeros_unlinked : (count lines links : ℕ) → count ≤ lines → 32 * count ≤ links
-    → Unlinked count (replicate (suc lines) 0) (replicate links 0) (replicate lines 0) (replicate lines 0) (replicate lines 0) (replicate lines 0)
-zeros_unlinked count lines links few fit =
-    let long = zeros_long lines count few in
-    record {
-      starts_long = zeros_long (suc lines) (suc count) (omega arith);
-      links_long = zeros_long links (32 * count) fit;
-      twin_long = long;
-      used_long = long;
-      marks_long = long;
-      spare_long = long;
-      links_zero = zero_at links;
-      twin_zero = zero_at lines;
-      used_zero = zero_at lines;
-      marks_zero = zero_at lines;
-    }
-
 -- ---- The form
 
-right_ids : (f : Form) (line : ℕ) → wrong_line f ≡ as_line line → line ≤ 0 → ids_right f ≡ found tt
+right_ids : (f : Form) → wrong_line f ≡ as_line None → ids_right f ≡ found tt
 unfolding ids_right
-right_ids f zero e h = ap (unless WrongId) e
-right_ids f (suc n) e h = absurd (omega arith)
+right_ids f e = ap (unless WrongId) e
 
-wrong_ids : (f : Form) (line : ℕ) → wrong_line f ≡ as_line line → 0 < line → ids_right f ≡ refused (WrongId line)
+wrong_ids : (f : Form) (line : ℕ) → wrong_line f ≡ as_line (Some line) → ids_right f ≡ refused (WrongId line)
 unfolding ids_right
-wrong_ids f zero e h = absurd (omega arith)
-wrong_ids f (suc n) e h = ap (unless WrongId) e
+wrong_ids f line e = ap (unless WrongId) e
 
 module _ {k : Case} {f : Form} {text places ids labels : List ℕ} {cues count root : ℕ} {fields : List ℕ} {plan : ℕ} (h : FormHeld k f text places ids labels cues count root fields plan) where
-  pub held_few : (cues ≤ count) × (count ≤ 3000)
-  held_few = (omega (arith, h.lines.few, h.counted), omega (arith, h.lines.most, h.counted))
-
   held_cued : f.cues ≡ take cues (form_lines f)
   held_cued = form_cued f ∙ ap (λ (n : ℕ). take n (form_lines f)) h.cued
 
@@ -109,17 +84,17 @@ module _ {k : Case} {f : Form} {text places ids labels : List ℕ} {cues count r
     }
 
     -- 19
-    pub held_wrong : (size : ℕ) (output : List ℕ) → 0 < r.line → MadeIs (made_of size k f) size (Refused (WrongId r.line)) output
+    pub held_wrong : (size : ℕ) (output : List ℕ) (line : ℕ) → r.line ≡ Some line → MadeIs (made_of size k f) size (Err (WrongId line)) output
     unfolding made_of
-    held_wrong size output l =
+    held_wrong size output line l =
         subst
-        (λ (x : Result (Unit {0})). MadeIs (x >> (room_for size (printed (made_case k f)) >> found (printed (made_case k f)))) size (Refused (WrongId r.line)) output)
-        (sym (wrong_ids f r.line (j.wrong f held_form) l)) refl
+        (λ (x : Result (Unit {0})). MadeIs (x >> (room_for size (printed (made_case k f)) >> found (printed (made_case k f)))) size (Err (WrongId line)) output)
+        (sym (wrong_ids f line (j.wrong f held_form ∙ ap as_line l))) refl
 
-    pub held_right : (size : ℕ) (m : Made) (output : List ℕ) → r.line ≤ 0 → PutMade (lines_text (lines_of (made_case k f))) size m output
+    pub held_right : (size : ℕ) (m : Returned ℕ Answer) (output : List ℕ) → r.line ≡ None → PutMade (lines_text (lines_of (made_case k f))) size m output
         → MadeIs (made_of size k f) size m output
     unfolding made_of
     held_right size m output l put =
         subst (λ (x : Result (Unit {0})). MadeIs (x >> (room_for size (printed (made_case k f)) >> found (printed (made_case k f)))) size m output)
-        (sym (right_ids f r.line (j.wrong f held_form) l))
+        (sym (right_ids f (j.wrong f held_form ∙ ap as_line l)))
         (subst (λ (made : List ℕ). PutMade made size m output) (sym (case_text (made_case k f))) put)

@@ -5,6 +5,7 @@ use mathlib.Core.List.{List}
 use Prim.Native.Nat.{ℕ, ◌+◌, ◌*◌, ◌≤◌}
 use native.Mathlib.Omega.{arith}
 use lib.ListN.{length, replicate, length-replicate}
+use Rattle.std.specs.Prelude.{Ok, Err, Result as Returned}
 use Rattle.rules.specs.declared.Answer.{Answer}
 use Rattle.rules.specs.declared.Header.{Header}
 use Rattle.rules.specs.Result.{Result, found, refused, ◌>>=◌}
@@ -18,18 +19,13 @@ use Rattle.rules.proofs.Judgement.Sound.{sound}
 use Rattle.rules.proofs.Printing.{canonical}
 use Rattle.fields.specs.Directory.{IsRead}
 use Rattle.output.proofs.Cases.{case_least, print_short}
-use Rattle.naming.specs.declared.NamesRead.{NamesRead}
-use Rattle.naming.specs.declared.NamesRead.TheVariants.{Read as NamesAre, Refused as NamesRefused}
 use Rattle.naming.specs.Listing.{Blank, NamesLeft}
 use Rattle.naming.proofs.Outcomes.{names_read, names_refused, names_counted}
 use Rattle.links.specs.Links.{Lines, Spelled}
 use Rattle.forms.specs.declared.FormRead.{FormRead}
-use Rattle.forms.specs.declared.FormRead.TheVariants.{Form as FormOf, Refused as FormRefused}
 use Rattle.forms.specs.Held.{MethodsHere, Tasks, Methods, FormIs}
 use Rattle.making.specs.Making.{PlanLast}
 use Rattle.importer.proofs.Putting.{zero_at}
-use Rattle.importer.specs.declared.made.Made.{Made}
-use Rattle.importer.specs.declared.made.Made.TheVariants.{Refused}
 use Rattle.importer.specs.Importing.{ModelHere, BothAre, CaseHere, FormHeld, made_of, made_beside, MadeIs}
 
 apart : {A : Type 0} → ◌≡◌ {A = ℕ} 0 1 → A
@@ -38,11 +34,10 @@ apart z = absurd (omega arith)
 -- ---- What the readers ask for
 
 -- New lists hold no names.
-pub zeros_blank : (n m : ℕ) → n ≡ 2048 → m ≡ 4096 → Blank (replicate n 0) (replicate n 0) (replicate m 0)
-zeros_blank n m e f = record {
+pub zeros_blank : (n : ℕ) → n ≡ 2048 → Blank (replicate n 0) (replicate n 0)
+zeros_blank n e = record {
   starts_length = length-replicate {A = ℕ} n 0 ∙ e;
   ends_length = length-replicate {A = ℕ} n 0 ∙ e;
-  slots_length = length-replicate {A = ℕ} m 0 ∙ f;
   starts_zero = zero_at n;
   ends_zero = zero_at n;
 }
@@ -56,13 +51,12 @@ module _ {k : Case} {h : Header} {fields directory : List ℕ} (m : ModelHere k 
 
   -- ---- Both readers
 
-  module _ (names : List ℕ) (r : NamesRead) (ts te tl ms me ml : List ℕ) (left : NamesLeft names (read_names h names) r ts te tl ms me ml) where
+  module _ (names : List ℕ) (ts te tl ms me ml : List ℕ) where
     -- The names by which the form is read.
-    pub names_held : r ≡ NamesAre
+    pub names_held : NamesLeft names (read_names h names) (Ok tt) ts te tl ms me ml
         → (ns : Names) × (read_names h names ≡ found ns) × Tasks k ns h names ts te tl × Methods k ns h names ms me ml
-    names_held e =
-        let w = names_read names (read_names h names) ts te tl ms me ml
-        (subst (λ (x : NamesRead). NamesLeft names (read_names h names) x ts te tl ms me ml) e left) in
+    names_held left =
+        let w = names_read names (read_names h names) ts te tl ms me ml left in
         let n = names_counted h names w.0 w.1 in
         let g = header_good in (
           w.0,
@@ -72,26 +66,22 @@ module _ {k : Case} {h : Header} {fields directory : List ℕ} (m : ModelHere k 
         )
 
     module _ (form : List ℕ) (ids labels places : List ℕ) where
-      both : (y : Result Names) → read_names h names ≡ y → (x : FormRead)
+      both : (y : Result Names) → read_names h names ≡ y → (x : Returned FormRead Answer)
           → FormIs form (y >>= λ ns. read_form k ns form) x ids labels places → BothAre k names form x ids labels places
       both y e x is =
           subst (λ (z : Result Names). FormIs form (z >>= λ ns. read_form k ns form) x ids labels places)
           (sym (ap (λ (x : Header). read_names x names) m.head ∙ e)) is
 
       -- The form is read by the names.
-      pub both_read : (x : FormRead) → r ≡ NamesAre
+      pub both_read : (x : Returned FormRead Answer) → NamesLeft names (read_names h names) (Ok tt) ts te tl ms me ml
           → ((k : Case) (ns : Names) → Tasks k ns h names ts te tl → Methods k ns h names ms me ml → MethodsHere k fields directory
           → FormIs form (read_form k ns form) x ids labels places)
           → BothAre k names form x ids labels places
-      both_read x e is = let w = names_held e in both (found w.0) w.1 x (is k w.0 w.2 w.3 m.methods)
+      both_read x left is = let w = names_held left in both (found w.0) w.1 x (is k w.0 w.2 w.3 m.methods)
 
       -- The name list is refused.
-      pub both_refused : (a : Answer) → r ≡ NamesRefused a → BothAre k names form (FormRefused a) ids labels places
-      both_refused a e =
-          both (refused a)
-          (names_refused names (read_names h names) ts te tl ms me ml a
-          (subst (λ (x : NamesRead). NamesLeft names (read_names h names) x ts te tl ms me ml) e left))
-          (FormRefused a) refl
+      pub both_refused : (a : Answer) → NamesLeft names (read_names h names) (Err a) ts te tl ms me ml → BothAre k names form (Err a) ids labels places
+      both_refused a left = both (refused a) (names_refused names (read_names h names) ts te tl ms me ml a left) (Err a) refl
 
 -- ---- How many fields there are
 
@@ -115,18 +105,18 @@ module _ {k : Case} {h : Header} {nodes : ℕ} {fields directory : List ℕ} (x 
   pub cues_are : k.head.cues ≡ h.cues
   cues_are = ap (λ (g : Header). g.cues) x.model.head
 
-  module _ (text : List ℕ) (y : Result Form) (r : FormRead) (ids labels places : List ℕ) (is : FormIs text y r ids labels places) where
-    form_held : (cues count root : ℕ) → r ≡ FormOf cues count root → (plan : ℕ) → PlanLast k plan
-        → (f : Form) × (y ≡ found f) × FormHeld k f text places ids labels cues count root fields plan
-    form_held cues count root q plan last = go y refl is
+  module _ (text : List ℕ) (y : Result Form) (ids labels places : List ℕ) where
+    form_held : (r : FormRead) → FormIs text y (Ok r) ids labels places → (plan : ℕ) → PlanLast k plan
+        → (f : Form) × (y ≡ found f) × FormHeld k f text places ids labels r.cues r.count r.root fields plan
+    form_held r is plan last = go y refl is
       where
-        go : (z : Result Form) → y ≡ z → FormIs text z r ids labels places
-            → (f : Form) × (y ≡ found f) × FormHeld k f text places ids labels cues count root fields plan
+        go : (z : Result Form) → y ≡ z → FormIs text z (Ok r) ids labels places
+            → (f : Form) × (y ≡ found f) × FormHeld k f text places ids labels r.cues r.count r.root fields plan
         go (found f) e is =
-            let s : r ≡ FormOf (length f.cues) (length (form_lines f)) f.root = is.0 in
-            let cued : length f.cues ≡ cues = cc in
-            let counted : length (form_lines f) ≡ count = cc in
-            let rooted : f.root ≡ root = cc in (
+            let all : FormRead = record { cues = length f.cues; count = length (form_lines f); root = f.root } in
+            let s : Ok r ≡ Ok all = is.0 in
+            let same : r ≡ all = cc in
+            let cued : length f.cues ≡ r.cues = sym (ap (λ (x : FormRead). x.cues) same) in (
               f,
               e,
               record {
@@ -136,42 +126,43 @@ module _ {k : Case} {h : Header} {nodes : ℕ} {fields directory : List ℕ} (x 
                 lines = subst (λ (n : ℕ). Lines (form_lines f) n ids labels) cued is.1;
                 spelled = subst (λ (n : ℕ). Spelled text places (form_lines f) n) cued is.2;
                 cued = cued;
-                counted = counted;
-                rooted = rooted;
+                counted = sym (ap (λ (x : FormRead). x.count) same);
+                rooted = sym (ap (λ (x : FormRead). x.root) same);
                 root_at = is.3 ∙ ap (λ (n : ℕ). 2 + n) cued;
               },
             )
-        go (refused a) e is = let s : r ≡ FormRefused a = is in apart (cc)
+        go (refused a) e is = let s : Ok r ≡ Err a = is in apart (cc)
 
-    form_refused : (a : Answer) → r ≡ FormRefused a → y ≡ refused a
-    form_refused a q = go y refl is
+    form_refused : (a : Answer) → FormIs text y (Err a) ids labels places → y ≡ refused a
+    form_refused a is = go y refl is
       where
-        go : (z : Result Form) → y ≡ z → FormIs text z r ids labels places → y ≡ refused a
-        go (found f) e is = let s : r ≡ FormOf (length f.cues) (length (form_lines f)) f.root = is.0 in apart (cc)
-        go (refused b) e is = let s : r ≡ FormRefused b = is in let same : b ≡ a = cc in e ∙ ap refused same
+        go : (z : Result Form) → y ≡ z → FormIs text z (Err a) ids labels places → y ≡ refused a
+        go (found f) e is =
+            let s : Err a ≡ Ok (record { cues = length f.cues; count = length (form_lines f); root = f.root }) = is.0 in apart (cc)
+        go (refused b) e is = let same : a ≡ b = cc in e ∙ ap refused (sym same)
 
   -- ---- What is made of it
 
-  module _ (names text : List ℕ) (r : FormRead) (ids labels places : List ℕ) (is : BothAre k names text r ids labels places) where
+  module _ (names text : List ℕ) (ids labels places : List ℕ) (size : ℕ) where
     abbrev form_read : Result Form
     form_read = read_names k.head names >>= λ ns. read_form k ns text
 
-    pub both_held : (cues count root : ℕ) → r ≡ FormOf cues count root → (plan : ℕ) → PlanLast k plan
-        → (f : Form) × (form_read ≡ found f) × FormHeld k f text places ids labels cues count root fields plan
-    both_held = form_held text form_read r ids labels places is
+    made : (y : Result Form) → form_read ≡ y → (a : Returned ℕ Answer) (output : List ℕ) → MadeIs (y >>= λ f. made_of size k f) size a output
+        → MadeIs (made_beside size k names text) size a output
+    unfolding made_beside
+    made y e a output w = subst (λ (z : Result Form). MadeIs (z >>= λ f. made_of size k f) size a output) (sym e) w
 
-    module _ (size : ℕ) where
-      made : (y : Result Form) → form_read ≡ y → (a : Made) (output : List ℕ) → MadeIs (y >>= λ f. made_of size k f) size a output
-          → MadeIs (made_beside size k names text) size a output
-      unfolding made_beside
-      made y e a output w = subst (λ (z : Result Form). MadeIs (z >>= λ f. made_of size k f) size a output) (sym e) w
+    pub both_held : (r : FormRead) → BothAre k names text (Ok r) ids labels places → (plan : ℕ) → PlanLast k plan
+        → (f : Form) × (form_read ≡ found f) × FormHeld k f text places ids labels r.cues r.count r.root fields plan
+    both_held = form_held text form_read ids labels places
 
-      pub made_read : (cues count root : ℕ) → r ≡ FormOf cues count root → (plan : ℕ) → PlanLast k plan → (a : Made) (output : List ℕ)
-          → ((k : Case) (f : Form) → FormHeld k f text places ids labels cues count root fields plan → MadeIs (made_of size k f) size a output)
-          → MadeIs (made_beside size k names text) size a output
-      made_read cues count root q plan last a output w =
-          let f = both_held cues count root q plan last in
-          made (found f.0) f.1 a output (w k f.0 f.2)
+    pub made_read : (r : FormRead) → BothAre k names text (Ok r) ids labels places → (plan : ℕ) → PlanLast k plan → (a : Returned ℕ Answer) (output : List ℕ)
+        → ((k : Case) (f : Form) → FormHeld k f text places ids labels r.cues r.count r.root fields plan → MadeIs (made_of size k f) size a output)
+        → MadeIs (made_beside size k names text) size a output
+    made_read r is plan last a output w =
+        let f = both_held r is plan last in
+        made (found f.0) f.1 a output (w k f.0 f.2)
 
-      pub made_refused : (a : Answer) → r ≡ FormRefused a → (output : List ℕ) → MadeIs (made_beside size k names text) size (Refused a) output
-      made_refused a q output = made (refused a) (form_refused text form_read r ids labels places is a q) (Refused a) output refl
+    pub made_refused : (a : Answer) → BothAre k names text (Err a) ids labels places → (output : List ℕ)
+        → MadeIs (made_beside size k names text) size (Err a) output
+    made_refused a is output = made (refused a) (form_refused text form_read ids labels places a is) (Err a) output refl

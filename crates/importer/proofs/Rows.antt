@@ -6,6 +6,7 @@ use Prim.Native.Nat.{ℕ, ◌-◌, ◌≤◌, ◌<◌}
 use native.Mathlib.Omega.{arith}
 use lib.ListN.{length, take, replicate}
 use lib.Seq.{take_at}
+use Rattle.std.specs.Prelude.{Ok, Err}
 use borrow.Author.Tests.{le-ltb}
 use Rattle.rules.specs.declared.Answer.{Answer}
 use Rattle.rules.specs.declared.Answer.TheVariants.{LongText}
@@ -25,7 +26,6 @@ use Rattle.finder.specs.Finding.{Finds}
 use Rattle.finder.proofs.Counting.{limited_one}
 use Rattle.finder.proofs.Rows.{limits_hold}
 use Rattle.importer.specs.declared.Outcome.{Outcome}
-use Rattle.importer.specs.declared.made.Made.TheVariants.{Text, Refused}
 use Rattle.importer.specs.Importing.{made_of, made_beside, made_text, MadeIs, then_find, from_made, LimitedTo, Imports}
 
 apart : {A : Type 0} → ◌≡◌ {A = ℕ} 0 1 → A
@@ -214,12 +214,12 @@ imports_refused {f} {limited} {size} {room} {r} {states} {work} {output} a e w x
 
 -- ---- What was made
 
-pub made_text_lem : (m : Result (List ℕ)) (size n : ℕ) (output : List ℕ) → MadeIs m size (Text n) output
+pub made_text_lem : (m : Result (List ℕ)) (size n : ℕ) (output : List ℕ) → MadeIs m size (Ok n) output
     → (made : List ℕ) × (m ≡ found made) × (length made ≡ n) × (output ≡ filled size 0 made) × (length made ≤ size)
 made_text_lem (found made) size n output (e, o, h) = (made, refl, let same : n ≡ length made = cc in sym same, o, h)
 made_text_lem (refused a) size n output e = apart (cc)
 
-pub made_refused : (m : Result (List ℕ)) (size : ℕ) (a : Answer) (output : List ℕ) → MadeIs m size (Refused a) output → m ≡ refused a
+pub made_refused : (m : Result (List ℕ)) (size : ℕ) (a : Answer) (output : List ℕ) → MadeIs m size (Err a) output → m ≡ refused a
 made_refused (found made) size a output (e, o, h) = apart (cc)
 made_refused (refused b) size a output e = ap refused (let same : a ≡ b = cc in sym same)
 

@@ -1,5 +1,6 @@
 -- What the core of the import call answers and leaves (02, Card 6). Assumes nothing.
-use Rattle.std.specs.Prelude.{◌≡◌, List, ℕ, ◌+◌, ◌*◌, ◌≤◌, ◌<◌, length, get_or}
+use Rattle.std.specs.Prelude.{◌≡◌, List, ℕ, ◌+◌, ◌*◌, ◌≤◌, ◌<◌, length, get_or, Ok, Err, Result as Returned}
+use Rattle.rules.specs.declared.Answer.{Answer}
 use Rattle.rules.specs.declared.Header.{Header}
 use Rattle.rules.specs.Result.{Result, found, refused, ◌>>=◌, ◌>>◌}
 use Rattle.rules.specs.Case.{Case, read_case}
@@ -20,8 +21,6 @@ use Rattle.forms.specs.declared.FormRead.{FormRead}
 use Rattle.forms.specs.Held.{MethodsHere, FormIs}
 use Rattle.making.specs.Making.{PlanLast}
 use Rattle.importer.specs.declared.Outcome.{Outcome}
-use Rattle.importer.specs.declared.made.Made.{Made}
-use Rattle.importer.specs.declared.made.Made.TheVariants.{Text, Refused}
 
 -- A case that was read, with this header, and its methods among the fields.
 pub record ModelHere (k : Case) (h : Header) (fields directory : List ℕ) : Type 0 where
@@ -30,7 +29,7 @@ pub record ModelHere (k : Case) (h : Header) (fields directory : List ℕ) : Typ
   pub methods : MethodsHere k fields directory
 
 -- The name list and then the form are read.
-abbrev pub BothAre : Case → List ℕ → List ℕ → FormRead → List ℕ → List ℕ → List ℕ → Type 0
+abbrev pub BothAre : Case → List ℕ → List ℕ → Returned FormRead Answer → List ℕ → List ℕ → List ℕ → Type 0
 BothAre k names form r ids labels places = FormIs form (read_names k.head names >>= λ ns. read_form k ns form) r ids labels places
 
 -- A case that was read, its fields from the first on, its node lines from `nodes` on and last.
@@ -84,11 +83,11 @@ made_text size text names form = do
   made_beside size k names form
 
 -- The made text stands in the output, the rest of which is zero; or the answer that refuses it.
-abbrev pub MadeIs : Result (List ℕ) → ℕ → Made → List ℕ → Type 0
-MadeIs (found made) size r output = (r ≡ Text (length made)) × (output ≡ filled size 0 made) × (length made ≤ size)
-MadeIs (refused a) size r output = r ≡ Refused a
+abbrev pub MadeIs : Result (List ℕ) → ℕ → Returned ℕ Answer → List ℕ → Type 0
+MadeIs (found made) size r output = (r ≡ Ok (length made)) × (output ≡ filled size 0 made) × (length made ≤ size)
+MadeIs (refused a) size r output = r ≡ Err a
 
-abbrev pub PutMade : List ℕ → ℕ → Made → List ℕ → Type 0
+abbrev pub PutMade : List ℕ → ℕ → Returned ℕ Answer → List ℕ → Type 0
 PutMade made size r output = MadeIs (room_for size made >> found made) size r output
 
 -- What the find-the-gaps call finds of the made text, and that text.

@@ -12,11 +12,10 @@ ghost use Rattle.importer.specs.Importing.{made_text, then_find, from_made, Limi
 mod made;
 mod texts;
 
-use judge::Admission;
-use made::Made;
 use rules::Answer;
 
-// What the call answers, how many choices of gaps it tried and how long the made text is, both 0 for a refusal.
+// What the call answers, how many choices of gaps it tried and how long the made text is, both 0 for a refusal: no `Result`, since the C struct
+// has all three.
 #[derive(Clone, Copy)]
 pub struct Outcome {
     pub answer: Answer,
@@ -49,6 +48,7 @@ fn find_made(
 {
     let d = finder::find(&output[..bytes as usize], states, work, node_room);
     let answer = d.answer;
+    // None was tried: it is refused.
     if d.tried == 0 {
         return refuse(output, answer);
     }
@@ -73,8 +73,8 @@ fn import_lent(
     ensures { Imports (λ n. from_made n (check_lists (length states.old) node_room (length work.old)) (made_text (length output.old) text.now names.now form.now)) (LimitedTo (check_lists (length states.old) node_room (length work.old)) (made_text (length output.old) text.now names.now form.now)) (length states.old) (length output.old) result states.new work.new output.new }
 {
     match texts::make_lent(text, names, form, work, output) {
-        Made::Text { length } => find_made(states, work, node_room, length, output),
-        Made::Refused { answer } => refuse(output, answer),
+        Ok(length) => find_made(states, work, node_room, length, output),
+        Err(answer) => refuse(output, answer),
     }
 }
 
@@ -92,7 +92,7 @@ pub fn import(
 {
     rows::clear(states);
     match judge::admit(text, states.len(), node_room, work.len()) {
-        Admission::Passed => import_lent(text, names, form, states, work, node_room, output),
-        Admission::Refused { answer } => refuse(output, answer),
+        Ok(()) => import_lent(text, names, form, states, work, node_room, output),
+        Err(answer) => refuse(output, answer),
     }
 }

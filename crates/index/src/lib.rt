@@ -1,17 +1,17 @@
 // Indexes and spans (01, "Indexes"): "Doubled indexes and state numbers are counted apart: one becomes the other only through the
 // rounding below." So each has a type of its own, and the two roundings are the only functions from one to the other.
-#![tactic(auto)]
+#![tactic(auto, unfolding(rules::specs::Index::of_cue, rules::specs::Index::of_gap, rules::specs::Index::at, rules::specs::Index::rounded_up, rules::specs::Index::rounded_down, rules::specs::Index::c, rules::specs::Index::f))]
 
-ghost use Rattle.std.specs.Prelude.{◌≡◌, [], ◌∷◌, ◌+◌, ◌-◌, ◌<◌, ◌≤◌, min, max, ltb};
+ghost use Rattle.std.specs.Prelude.{◌≡◌, [], ◌∷◌, ◌+◌, ◌-◌, ◌<◌, ◌≤◌};
 ghost use Rattle.rules.specs.Index.{of_cue, of_gap, at, hull, rounded_up, rounded_down, c, f, is_before};
 ghost use Rattle.index.specs.Spans.{index_in, doubled, state_of, span_of};
 
 // "The program carries twice the index: cue i is 2i, gap g is 2g + 1."
-#[derive(Clone, Copy)]
+#[derive(Clone, Copy, PartialEq, Eq, PartialOrd, Ord)]
 pub struct Doubled(u32);
 
 // The number of a state: state 0 is the initial one, state i follows cue i.
-#[derive(Clone, Copy)]
+#[derive(Clone, Copy, PartialEq, Eq, PartialOrd, Ord)]
 pub struct StateNumber(u32);
 
 // Where a task starts and ends.
@@ -36,7 +36,8 @@ impl Doubled {
         Doubled(2 * g + 1)
     }
 
-    // As a plain number, and again from it: for a row of the work space.
+    // As a plain number, and again from it: for a row of the work space. Calls with names of their own and no `From`, so that no number turns
+    // into an index unseen.
     pub fn number(self) -> u32
         ensures { result ≡ index_in self }
     {
@@ -86,30 +87,12 @@ impl StateNumber {
         StateNumber(self.0 - 1)
     }
 
-    pub fn is_less(self, other: StateNumber) -> bool
-        ensures { result ≡ ltb (state_of self) (state_of other) }
-    {
-        self.0 < other.0
-    }
-
     // As a plain number: of the state's row, and of the cue that it follows.
     pub fn number(self) -> u32
         ensures { result ≡ state_of self }
     {
         self.0
     }
-}
-
-fn lesser(a: Doubled, b: Doubled) -> Doubled
-    ensures { index_in result ≡ min (index_in a) (index_in b) }
-{
-    if a.0 < b.0 { a } else { b }
-}
-
-fn greater(a: Doubled, b: Doubled) -> Doubled
-    ensures { index_in result ≡ max (index_in a) (index_in b) }
-{
-    if a.0 < b.0 { b } else { a }
 }
 
 impl Span {
@@ -125,8 +108,8 @@ impl Span {
         ensures { span_of result ≡ hull (span_of self ∷ span_of other ∷ []) }
     {
         Span {
-            start: lesser(self.start, other.start),
-            end: greater(self.end, other.end),
+            start: self.start.min(other.start),
+            end: self.end.max(other.end),
         }
     }
 
@@ -147,6 +130,6 @@ impl Span {
     pub fn is_before(self, other: Span) -> bool
         ensures { result ≡ is_before (span_of self) (span_of other) }
     {
-        self.f().is_less(other.c())
+        self.f() < other.c()
     }
 }

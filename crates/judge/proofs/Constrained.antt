@@ -4,6 +4,7 @@ use mathlib.Core.List.{List, [], ◌∷◌, map}
 use mathlib.Core.Option.{Option, none, some}
 use Prim.Native.Nat.{ℕ, suc, ◌+◌, ◌≤◌, ◌<◌}
 use native.Mathlib.Omega.{arith}
+use Rattle.std.specs.Prelude.{Result, Ok, Err}
 use lib.ListN.{length, get_or}
 use Rattle.rules.specs.declared.Header.{Header}
 use Rattle.rules.specs.declared.Answer.{Answer}
@@ -17,8 +18,6 @@ use Rattle.rules.proofs.Judgement.Rows.{from_tree}
 use Rattle.parts.specs.Spans.{row_span}
 use Rattle.constraints.specs.Ready.{Ready, Leaves, node_of_tree, broken_of_tree}
 use Rattle.constraints.specs.Methods.{kept_as}
-use Rattle.constraints.specs.declared.method.Kept.{Kept}
-use Rattle.constraints.specs.declared.method.Kept.TheVariants.{All, Broken}
 use Rattle.constraints.proofs.Held.{preorder_length, root_row}
 use Rattle.constraints.proofs.Nodes.{tree_is, ready_leaves, node_held}
 use Rattle.records.specs.Records.{record_at, up_to, record_of, RecordsHeld, NodesStand, records_of}
@@ -60,23 +59,23 @@ module _ {k : Case} {fields : List ℕ} {o : Opened} {states work : List ℕ} (x
         states_held = w.run.states_held;
       }
 
-  module _ {r : Kept} (said : r ≡ kept_as (broken_of_tree k tree)) where
-    pub kept_not : (a : Answer) → r ≡ Broken a → from_tree k ≡ refused a
+  module _ {r : Result (Unit {0}) Answer} (said : r ≡ kept_as (broken_of_tree k tree)) where
+    pub kept_not : (a : Answer) → r ≡ Err a → from_tree k ≡ refused a
     unfolding broken_of_tree
     kept_not a e =
         constraints_refused k tree x.walked.claimed x.walked.walks x.claims a (go (broken_of_tree k tree) (sym e ∙ said))
       where
-        go : (y : Option Answer) → Broken a ≡ kept_as y → y ≡ some a
-        go none q = let z : ◌≡◌ {A = ℕ} 0 1 = cc in absurd (omega arith)
-        go (some b) q = let same : b ≡ a = cc in ap (λ (y : Answer). some y) same
+        go : (y : Option Answer) → Err a ≡ kept_as y → y ≡ some a
+        go none q = cc
+        go (some b) q = cc
 
-    kept_all : r ≡ All → from_tree k ≡ found (k, tree)
+    kept_all : r ≡ Ok tt → from_tree k ≡ found (k, tree)
     unfolding broken_of_tree
     kept_all e = tree_right k tree x.walked.claimed x.walked.walks x.claims (go (broken_of_tree k tree) (sym e ∙ said))
       where
-        go : (y : Option Answer) → All ≡ kept_as y → y ≡ none
+        go : (y : Option Answer) → Ok tt ≡ kept_as y → y ≡ none
         go none q = refl
-        go (some b) q = let z : ◌≡◌ {A = ℕ} 0 1 = cc in absurd (omega arith)
+        go (some b) q = cc
 
     -- ---- The records
 
@@ -94,7 +93,7 @@ module _ {k : Case} {fields : List ℕ} {o : Opened} {states work : List ℕ} (x
           let same = leaves.same_size in
           (subst (λ (h : Header). h.nodes ≤ 3000) (sym w.head) (open_sound w).head_good.few_nodes, omega arith)
 
-      pub records_done : r ≡ All → (u : List ℕ) → up_to (record_at u) o.header.nodes ≡ records_of (row_span v) 0 k.nodes
+      pub records_done : r ≡ Ok tt → (u : List ℕ) → up_to (record_at u) o.header.nodes ≡ records_of (row_span v) 0 k.nodes
           → Answers (from_tree k) (length states) (Accepted o.header.cues o.header.nodes) states u
       unfolding states_after RecordsHeld node_of_tree
       records_done e u written =

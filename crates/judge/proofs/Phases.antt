@@ -4,10 +4,12 @@ use mathlib.Core.List.{List, flatten}
 use mathlib.Core.Option.{Option, none, some}
 use Prim.Native.Nat.{ℕ, ◌≤◌}
 use native.Mathlib.Omega.{arith}
+use Rattle.std.specs.Prelude.{Result, Ok, Err, Option as Returned, Some, None}
 use lib.ListN.{length, replicate}
 use Rattle.rules.specs.declared.Header.{Header}
 use Rattle.rules.specs.declared.Answer.{Answer}
-use Rattle.rules.specs.Result.{Result, found, refused}
+use Rattle.rules.specs.Result as R
+use Rattle.rules.specs.Result.{found, refused}
 use Rattle.rules.specs.Case.{Case, read_case}
 use Rattle.rules.specs.Tree.{Tree, may_claim, walk_tree, least_unclaimed}
 use Rattle.rules.specs.Verdict.{Found, state_need, work_need, text_most, states_of, filled, states_after}
@@ -15,21 +17,16 @@ use Rattle.rules.proofs.Judgement.Sound.{Sound, sound}
 use Rattle.fields.specs.Directory.{Finds, NodesLast, directory_size}
 use Rattle.reading.specs.Whole.{ReadsAs}
 use Rattle.reading.specs.declared.CaseRead.{CaseRead}
-use Rattle.reading.specs.declared.CaseRead.TheVariants.{Case as CaseIs, Refused as CaseRefused}
+use Rattle.reading.specs.Groups.{case_at}
 use Rattle.rows.specs.Rows.{put_rows}
 use Rattle.rows.proofs.Written.{rows_fill}
 use Rattle.running.specs.Running.{Left, stop_of, RanAs}
-use Rattle.running.specs.declared.Ran.{Ran}
-use Rattle.running.specs.declared.Ran.TheVariants.{All, Stopped}
+use Rattle.running.specs.declared.Stopped.{Stopped}
 use Rattle.running.proofs.Outcome.{left_worded, stopped_at, ran_all}
 use Rattle.tree.specs.Layout.{directory_of, marks_in}
 use Rattle.tree.specs.Whole.{WalkReady, TreeTold}
 use Rattle.tree.specs.Marks.{least_unmarked, as_unclaimed}
-use Rattle.tree.specs.declared.marks.Unclaimed.{Unclaimed}
-use Rattle.tree.specs.declared.marks.Unclaimed.TheVariants.{None, At}
 use Rattle.tree.proofs.Claimed.{least_unclaimed_lem}
-use Rattle.tree.specs.declared.walk.TreeWalk.{TreeWalk}
-use Rattle.tree.specs.declared.walk.TreeWalk.TheVariants.{Right, Refused}
 use Rattle.records.specs.Records.{RecordsHeld}
 use Rattle.judge.specs.declared.Opened.{Opened}
 use Rattle.judge.specs.Phases as P
@@ -53,42 +50,35 @@ answers_as {g = g} {m = m} {r = r} {states = states} {work = work} e size x =
 
 -- ---- Reading
 
-module _ (text fields work : List ℕ) {r : CaseRead} (as_read : ReadsAs (read_case text) r fields work) where
-  pub read_opens : (h : Header) (l i p ns : ℕ) → r ≡ CaseIs h l i p ns → length text ≤ text_most → work_need ≤ length work
-      → (k : Case) × (read_case text ≡ found k) × Opens k fields (record { header = h; plan_line = l; plan = p; nodes = ns }) i work
-  read_opens h l i p ns e short room = go (read_case text) refl as_read
+module _ (text fields work : List ℕ) {r : Result CaseRead Answer} (as_read : ReadsAs (read_case text) r fields work) where
+  pub read_opens : (c : CaseRead) → r ≡ Ok c → length text ≤ text_most → work_need ≤ length work
+      → (k : Case) × (read_case text ≡ found k) × Opens k fields (record { header = c.header; plan_line = c.plan_line; plan = c.plan; nodes = c.nodes }) c.initial work
+  read_opens c e short room = go (read_case text) refl as_read
     where
-      go : (x : Result Case) → read_case text ≡ x → ReadsAs x r fields work
-          → (k : Case) × (read_case text ≡ found k) × Opens k fields (record { header = h; plan_line = l; plan = p; nodes = ns }) i work
+      go : (x : R.Result Case) → read_case text ≡ x → ReadsAs x r fields work
+          → (k : Case) × (read_case text ≡ found k) × Opens k fields (record { header = c.header; plan_line = c.plan_line; plan = c.plan; nodes = c.nodes }) c.initial work
       go (found k) q (initial, plan, nodes, answer, stands, finds, last) =
-          let same : CaseIs h l i p ns ≡ CaseIs k.head k.plan_line initial plan nodes = sym e ∙ answer in
-          let head : h ≡ k.head = cc in
-          let line : l ≡ k.plan_line = cc in
-          let first : initial ≡ i = cc in
-          let cues : plan ≡ p = cc in
-          let lines : nodes ≡ ns = cc in (
+          let same : c ≡ case_at k.head k.plan_line initial plan nodes = cc in (
             k,
             q,
             record {
-              head = head;
-              planned = line;
+              head = ap (λ (x : CaseRead). x.header) same;
+              planned = ap (λ (x : CaseRead). x.plan_line) same;
               read = record { text = text; short = short; reads = q };
-              finds = subst (λ (n : ℕ). Finds k fields work i p n) lines
-                  (subst (λ (n : ℕ). Finds k fields work i n nodes) cues
-                  (subst (λ (n : ℕ). Finds k fields work n plan nodes) first finds));
+              finds = subst (λ (x : CaseRead). Finds k fields work x.initial x.plan x.nodes) (sym same) finds;
               stands = stands;
-              last = subst (NodesLast k) lines last;
+              last = subst (λ (x : CaseRead). NodesLast k x.nodes) (sym same) last;
               work_room = room;
             },
           )
-      go (refused b) q w = let z : ◌≡◌ {A = ℕ} 0 1 = cc in absurd (omega arith)
+      go (refused b) q w = absurd cc
 
-  pub read_refuses : (a : Answer) → r ≡ CaseRefused a → read_case text ≡ refused a
+  pub read_refuses : (a : Answer) → r ≡ Err a → read_case text ≡ refused a
   read_refuses a e = go (read_case text) refl as_read
     where
-      go : (x : Result Case) → read_case text ≡ x → ReadsAs x r fields work → read_case text ≡ refused a
-      go (found k) q w = let z : ◌≡◌ {A = ℕ} 0 1 = cc (w.3, e) in absurd (omega arith)
-      go (refused b) q w = let same : b ≡ a = cc in q ∙ ap (λ (x : Answer). refused x) same
+      go : (x : R.Result Case) → read_case text ≡ x → ReadsAs x r fields work → read_case text ≡ refused a
+      go (found k) q w = absurd (cc (w.3, e))
+      go (refused b) q w = cc
 
 -- ---- Running
 
@@ -119,11 +109,11 @@ module _ {k : Case} {fields : List ℕ} {o : Opened} {initial : ℕ} {work : Lis
         work_room = omega arith;
       }
 
-  module _ {r : Ran} {before after : List ℕ} (ran : RanAs k r before after) where
-    pub run_stops : (i : ℕ) → r ≡ Stopped i → stop_of k ≡ some i
-    run_stops i e = stopped_at (stop_of k) i (sym e ∙ ran.answer)
+  module _ {r : Result (Unit {0}) Stopped} {before after : List ℕ} (ran : RanAs k r before after) where
+    pub run_stops : (s : Stopped) → r ≡ Err s → stop_of k ≡ some s.cue
+    run_stops s e = stopped_at (stop_of k) s (sym e ∙ ran.answer)
 
-    pub run_passes : r ≡ All → before ≡ replicate (length before) 0 → state_need ≤ length before → length after ≡ length before → HasRun k after
+    pub run_passes : r ≡ Ok tt → before ≡ replicate (length before) 0 → state_need ≤ length before → length after ≡ length before → HasRun k after
     run_passes e zeros room same =
         let held : after ≡ filled (length before) 0 (flatten (states_of k)) =
         (ran_all k r before after ran e).1 ∙ ap (λ (l : List ℕ). put_rows l 0 (states_of k)) zeros
@@ -152,18 +142,18 @@ module _ {k : Case} {fields : List ℕ} {o : Opened} {initial : ℕ} {work : Lis
         }
 
     -- What the walk answered: the tree, its rows and its claims; or the refusal.
-    module _ {r : TreeWalk} (u : List ℕ) (told : TreeTold k v (walk_tree k (may_claim k.plan)) r u) where
-      pub walk_refuses : (a : Answer) → r ≡ Refused a → walk_tree k (may_claim k.plan) ≡ refused a
+    module _ {r : Result (Unit {0}) Answer} (u : List ℕ) (told : TreeTold k v (walk_tree k (may_claim k.plan)) r u) where
+      pub walk_refuses : (a : Answer) → r ≡ Err a → walk_tree k (may_claim k.plan) ≡ refused a
       walk_refuses a e = go (walk_tree k (may_claim k.plan)) refl told
         where
-          go : (y : Result (Tree × List ℕ)) → walk_tree k (may_claim k.plan) ≡ y → TreeTold k v y r u → walk_tree k (may_claim k.plan) ≡ refused a
-          go (found (t, claimed)) q w = let z : ◌≡◌ {A = ℕ} 0 1 = cc (w.right, e) in absurd (omega arith)
-          go (refused b) q w = let same : b ≡ a = cc in q ∙ ap (λ (y : Answer). refused y) same
+          go : (y : R.Result (Tree × List ℕ)) → walk_tree k (may_claim k.plan) ≡ y → TreeTold k v y r u → walk_tree k (may_claim k.plan) ≡ refused a
+          go (found (t, claimed)) q w = absurd (cc (w.right, e))
+          go (refused b) q w = cc
 
-      pub walk_finds : (states : List ℕ) → r ≡ Right → length u ≡ length v → HasRun k states → P.Walked k fields o states u
+      pub walk_finds : (states : List ℕ) → r ≡ Ok tt → length u ≡ length v → HasRun k states → P.Walked k fields o states u
       walk_finds states e same run = go (walk_tree k (may_claim k.plan)) refl told
         where
-          go : (y : Result (Tree × List ℕ)) → walk_tree k (may_claim k.plan) ≡ y → TreeTold k v y r u → P.Walked k fields o states u
+          go : (y : R.Result (Tree × List ℕ)) → walk_tree k (may_claim k.plan) ≡ y → TreeTold k v y r u → P.Walked k fields o states u
           go (found (t, claimed)) q w =
               record {
                 initial = initial;
@@ -175,11 +165,11 @@ module _ {k : Case} {fields : List ℕ} {o : Opened} {initial : ℕ} {work : Lis
                 rowed = w.rowed;
                 marked = w.marked;
               }
-          go (refused b) q w = let z : ◌≡◌ {A = ℕ} 0 1 = cc (w, e) in absurd (omega arith)
+          go (refused b) q w = absurd (cc (w, e))
 
 -- ---- Claims
 
-module _ {k : Case} {fields : List ℕ} {o : Opened} {states work : List ℕ} (x : P.Walked k fields o states work) {r : Unclaimed}
+module _ {k : Case} {fields : List ℕ} {o : Opened} {states work : List ℕ} (x : P.Walked k fields o states work) {r : Returned ℕ}
     (said : r ≡ as_unclaimed (least_unmarked 1 (marks_in o.header.cues work))) where
   told : r ≡ as_unclaimed (least_unclaimed x.claimed k.head.cues 1)
   told =
@@ -191,11 +181,11 @@ module _ {k : Case} {fields : List ℕ} {o : Opened} {states work : List ℕ} (x
     where
       go : (y : Option ℕ) → None ≡ as_unclaimed y → y ≡ none
       go none q = refl
-      go (some i) q = let z : ◌≡◌ {A = ℕ} 0 1 = cc in absurd (omega arith)
+      go (some i) q = cc
 
-  pub claims_lack : (i : ℕ) → r ≡ At i → least_unclaimed x.claimed k.head.cues 1 ≡ some i
+  pub claims_lack : (i : ℕ) → r ≡ Some i → least_unclaimed x.claimed k.head.cues 1 ≡ some i
   claims_lack i e = go (least_unclaimed x.claimed k.head.cues 1) (sym e ∙ told)
     where
-      go : (y : Option ℕ) → At i ≡ as_unclaimed y → y ≡ some i
-      go none q = let z : ◌≡◌ {A = ℕ} 0 1 = cc in absurd (omega arith)
-      go (some j) q = let same : j ≡ i = cc in ap (λ (n : ℕ). some n) same
+      go : (y : Option ℕ) → Some i ≡ as_unclaimed y → y ≡ some i
+      go none q = cc
+      go (some j) q = cc

@@ -5,13 +5,15 @@ use mathlib.Core.List.{List}
 use mathlib.Core.Option.{Option, none, some}
 use Prim.Native.Nat.{ℕ, ◌+◌, ◌≤◌, ◌<◌}
 use native.Mathlib.Omega.{arith}
+use Rattle.std.specs.Prelude.{Result, Ok, Err}
 use borrow.Author.Tests.{lt-ltb, le-ltb}
 use lib.Dec.{ltb}
 use lib.ListN.{length}
 use Rattle.rules.specs.declared.Answer.{Answer}
 use Rattle.rules.specs.declared.Answer.TheVariants.{ShortList, LongText, Inapplicable, Unclaimed}
 use Rattle.rules.specs.State.{first_stop}
-use Rattle.rules.specs.Result.{Result, found, refused, ◌>>=◌, ◌>>◌}
+use Rattle.rules.specs.Result as R
+use Rattle.rules.specs.Result.{found, refused, ◌>>=◌, ◌>>◌}
 use Rattle.rules.specs.Case.{Case, read_case}
 use Rattle.rules.specs.Fields.{fields_of}
 use Rattle.rules.specs.Tree.{Tree, preorder, may_claim, walk_tree, least_unclaimed}
@@ -19,15 +21,13 @@ use Rattle.rules.specs.Constraint.{holds_in, first_broken}
 use Rattle.rules.specs.Verdict.{Found, state_need, node_need, work_need, check_lists, lists_long, text_short, unless, states_of, plan_runs, all_claimed, none_broken, text_most, check}
 use Rattle.fields.specs.Standing.{Stands}
 use Rattle.fields.specs.Directory.{IsRead}
-use Rattle.judge.specs.declared.Admission.{Admission}
-use Rattle.judge.specs.declared.Admission.TheVariants.{Passed, Refused}
 use Rattle.judge.specs.Phases.{rows_ahead, FieldsHeld, Admits, from_claimed}
 use Rattle.rules.proofs.Judgement.Rows.{from_constraints, from_tree, from_run, from_text}
 
 -- ---- Rows 6 to 9 and 20 to 22
 
 module _ (rest : Case → Tree → Found Tree) (k : Case) where
-  abbrev on_tree : Result (Tree × List ℕ) → Found Tree
+  abbrev on_tree : R.Result (Tree × List ℕ) → Found Tree
   on_tree x = x >>= λ (t, claimed). all_claimed k claimed >> rest k t
 
   pub tree_refused : (a : Answer) → walk_tree k (may_claim k.plan) ≡ refused a → from_claimed rest k ≡ refused a
@@ -79,7 +79,7 @@ module _ {A : Type 0} (rest : Case → Found A) (k : Case) where
 -- ---- Rows 2 to 4
 
 module _ {A : Type 0} (rest : Case → Found A) (text : List ℕ) where
-  abbrev on_case : Result Case → Found A
+  abbrev on_case : R.Result Case → Found A
   on_case r = r >>= λ k. from_run rest k
 
   text_is : (b : Bool) → ltb text_most (length text) ≡ b
@@ -99,7 +99,7 @@ module _ {A : Type 0} (rest : Case → Found A) (text : List ℕ) where
 -- ---- Row 1
 
 -- The first of three lists that is short.
-abbrev pub short_of : Bool → Bool → Bool → Result (Unit {0})
+abbrev pub short_of : Bool → Bool → Bool → R.Result (Unit {0})
 short_of s n w =
     elim s [
       | true ↦ refused (ShortList 1)
@@ -107,16 +107,16 @@ short_of s n w =
     ]
 
 module _ (states nodes work : ℕ) (text : List ℕ) where
-  lists_are : (o : Result (Unit {0})) → short_of (ltb states state_need) (ltb nodes node_need) (ltb work work_need) ≡ o
+  lists_are : (o : R.Result (Unit {0})) → short_of (ltb states state_need) (ltb nodes node_need) (ltb work work_need) ≡ o
       → check (check_lists states nodes work) text ≡ (o >> from_text from_tree text)
   unfolding check check_lists from_tree from_run from_text
-  lists_are o e = ap (λ (x : Result (Unit {0})). x >> from_text from_tree text) e
+  lists_are o e = ap (λ (x : R.Result (Unit {0})). x >> from_text from_tree text) e
 
   -- The rows ahead of reading, by the lists.
-  ahead_are : (o : Result (Unit {0})) → short_of (ltb states state_need) (ltb nodes node_need) (ltb work work_need) ≡ o
+  ahead_are : (o : R.Result (Unit {0})) → short_of (ltb states state_need) (ltb nodes node_need) (ltb work work_need) ≡ o
       → rows_ahead states nodes work text ≡ (o >> text_short text)
   unfolding check_lists
-  ahead_are o e = ap (λ (x : Result (Unit {0})). x >> text_short text) e
+  ahead_are o e = ap (λ (x : R.Result (Unit {0})). x >> text_short text) e
 
   pub states_short : states < state_need → rows_ahead states nodes work text ≡ refused (ShortList 1)
   states_short s = ahead_are (refused (ShortList 1)) (ap (λ (b : Bool). short_of b (ltb nodes node_need) (ltb work work_need)) (lt-ltb states state_need s))
@@ -138,7 +138,7 @@ module _ (states nodes work : ℕ) (text : List ℕ) where
   unfolding check
   ahead_refused a e = go (lists_long (check_lists states nodes work)) (text_short text) _ e
     where
-      go : (o p : Result (Unit {0})) (rest : Found Tree) → ◌>>◌ {B = Unit {0}} o p ≡ refused a → (o >> (p >> rest)) ≡ refused a
+      go : (o p : R.Result (Unit {0})) (rest : Found Tree) → ◌>>◌ {B = Unit {0}} o p ≡ refused a → (o >> (p >> rest)) ≡ refused a
       go (found u) (found v) rest q = let z : ◌≡◌ {A = ℕ} 0 1 = cc in absurd (omega arith)
       go (found u) (refused r) rest q = let same : r ≡ a = cc in ap (λ (x : Answer). refused x) same
       go (refused r) p rest q = let same : r ≡ a = cc in ap (λ (x : Answer). refused x) same
@@ -146,16 +146,19 @@ module _ (states nodes work : ℕ) (text : List ℕ) where
   pub long_lists : state_need ≤ states → node_need ≤ nodes → work_need ≤ work → check (check_lists states nodes work) text ≡ from_text from_tree text
   long_lists s n w = lists_are (found tt) (λ j. short_of (le-ltb states state_need s j) (le-ltb nodes node_need n j) (le-ltb work work_need w j))
 
+-- What a list that is short, or a text that is long, says of these rows.
+pub ruleset short_first = (states_short, nodes_short, work_short, text_over)
+
 -- ---- Rows 1 and 2
 
-module _ (states nodes work : ℕ) (text : List ℕ) {r : Admission} (said : Admits states nodes work text r) where
-  pub admit_passes : r ≡ Passed → Admits states nodes work text Passed
+module _ (states nodes work : ℕ) (text : List ℕ) {r : Result (Unit {0}) Answer} (said : Admits states nodes work text r) where
+  pub admit_passes : r ≡ Ok tt → Admits states nodes work text (Ok tt)
   admit_passes e = subst (Admits states nodes work text) e said
 
-  pub admit_rows : (a : Answer) → r ≡ Refused a → rows_ahead states nodes work text ≡ refused a
+  pub admit_rows : (a : Answer) → r ≡ Err a → rows_ahead states nodes work text ≡ refused a
   admit_rows a e = subst (Admits states nodes work text) e said
 
-  pub admit_refuses : (a : Answer) → r ≡ Refused a → check (check_lists states nodes work) text ≡ refused a
+  pub admit_refuses : (a : Answer) → r ≡ Err a → check (check_lists states nodes work) text ≡ refused a
   admit_refuses a e = ahead_refused states nodes work text a (admit_rows a e)
 
 -- ---- From the rows ahead to the constraints
@@ -170,6 +173,6 @@ pub fields_held : (k : Case) (t : Tree) (fields : List ℕ) → IsRead k → Sta
 unfolding FieldsHeld
 fields_held k t fields r s = go (none_broken k t)
   where
-    go : (o : Result (Unit {0})) → FieldsHeld (o >> found (k, t)) fields
+    go : (o : R.Result (Unit {0})) → FieldsHeld (o >> found (k, t)) fields
     go (found u) = (r, s)
     go (refused a) = tt

@@ -1,10 +1,11 @@
 -- What each phase of the check leaves to the next, of a case whose fields were read; and what the check answers. Assumes nothing.
-use Rattle.std.specs.Prelude.{◌≡◌, ℕ, ◌*◌, ◌≤◌, length, take, replicate}
+use Rattle.std.specs.Prelude.{◌≡◌, ℕ, ◌*◌, ◌≤◌, length, take, replicate, Result, Ok, Err}
 use mathlib.Core.List.{List, flatten}
 use Rattle.std.proofs.Math.Option.{none}
 use Rattle.rules.specs.declared.Answer.{Answer}
 use Rattle.rules.specs.State.{first_stop}
-use Rattle.rules.specs.Result.{Result, found, refused, ◌>>=◌, ◌>>◌}
+use Rattle.rules.specs.Result as R
+use Rattle.rules.specs.Result.{found, refused, ◌>>=◌, ◌>>◌}
 use Rattle.rules.specs.Case.{Case, read_case}
 use Rattle.rules.specs.Tree.{Tree, may_claim, walk_tree, least_unclaimed}
 use Rattle.rules.specs.Fields.{fields_of}
@@ -15,10 +16,6 @@ use Rattle.fields.specs.Directory.{IsRead, Finds, NodesLast}
 use Rattle.tree.specs.Layout.{size, rows, marks_of, marks_in, rows_in}
 use Rattle.records.specs.Records.{RecordsHeld}
 use Rattle.judge.specs.declared.Opened.{Opened}
-use Rattle.judge.specs.declared.Opening.{Opening}
-use Rattle.judge.specs.declared.Opening.TheVariants.{Case as CaseOpen, Refused as CaseRefused}
-use Rattle.judge.specs.declared.Admission.{Admission}
-use Rattle.judge.specs.declared.Admission.TheVariants.{Passed, Refused}
 
 -- What a verdict answers, and leaves in a state list of a size and in the work space: the records of an accepted tree as columns.
 pub record Answers (f : Found Tree) (size : ℕ) (r : Answer) (states work : List ℕ) : Type 0 where
@@ -32,12 +29,12 @@ FieldsHeld (found (k, t)) fields = IsRead k × Stands fields 0 (fields_of k)
 FieldsHeld (refused r) fields = Unit {0}
 
 -- Rows 1 and 2, of lists of these lengths and of a text: both are passed; or they refuse it.
-abbrev pub rows_ahead : ℕ → ℕ → ℕ → List ℕ → Result (Unit {0})
+abbrev pub rows_ahead : ℕ → ℕ → ℕ → List ℕ → R.Result (Unit {0})
 rows_ahead states nodes work text = lists_long (check_lists states nodes work) >> text_short text
 
-abbrev pub Admits : ℕ → ℕ → ℕ → List ℕ → Admission → Type 0
-Admits states nodes work text Passed = (state_need ≤ states) × (node_need ≤ nodes) × (work_need ≤ work) × (length text ≤ text_most)
-Admits states nodes work text (Refused r) = rows_ahead states nodes work text ≡ refused r
+abbrev pub Admits : ℕ → ℕ → ℕ → List ℕ → Result (Unit {0}) Answer → Type 0
+Admits states nodes work text (Ok tt) = (state_need ≤ states) × (node_need ≤ nodes) × (work_need ≤ work) × (length text ≤ text_most)
+Admits states nodes work text (Err r) = rows_ahead states nodes work text ≡ refused r
 
 -- Rows 1 and 2 are passed, and the state list is zero.
 pub record Cleared (text states work : List ℕ) : Type 0 where
@@ -96,10 +93,10 @@ from_claimed rest k = walk_tree k (may_claim k.plan) >>= λ (t, claimed). all_cl
 
 -- Rows up to 9 of a case that was read: all are passed, and what they say with any rest is what that says; or they refuse it, and the state
 -- list, of a size, is zero.
-abbrev pub RowsPass : ((Case → Tree → Found Tree) → Found Tree) → Case → List ℕ → ℕ → Opening → List ℕ → List ℕ → Type 0
-RowsPass rows k fields size (CaseOpen o) states work =
+abbrev pub RowsPass : ((Case → Tree → Found Tree) → Found Tree) → Case → List ℕ → ℕ → Result Opened Answer → List ℕ → List ℕ → Type 0
+RowsPass rows k fields size (Ok o) states work =
     (c : Claimed k fields o states work) × ((rest : Case → Tree → Found Tree) → rows rest ≡ rest k c.walked.tree)
-RowsPass rows k fields size (CaseRefused a) states work = ((rest : Case → Tree → Found Tree) → rows rest ≡ refused a) × (states ≡ replicate size 0)
+RowsPass rows k fields size (Err a) states work = ((rest : Case → Tree → Found Tree) → rows rest ≡ refused a) × (states ≡ replicate size 0)
 
 -- What the rows from reading to 9 leave of a text: its fields, those of a case that passes them, whatever the rest says.
 pub record Passes (text fields : List ℕ) (o : Opened) (states work : List ℕ) (k : Case) : Type 0 where
@@ -110,7 +107,7 @@ pub record Passes (text fields : List ℕ) (o : Opened) (states work : List ℕ)
   pub rows : (rest : Case → Tree → Found Tree) → from_text (from_claimed rest) text ≡ rest k claimed.walked.tree
 
 -- Or the refusal, whatever the rest says, and a state list that is zero.
-abbrev pub OpensAs : List ℕ → List ℕ → ℕ → Opening → List ℕ → List ℕ → Type 0
-OpensAs text fields size (CaseOpen o) states work = (k : Case) × Passes text fields o states work k
-OpensAs text fields size (CaseRefused a) states work =
+abbrev pub OpensAs : List ℕ → List ℕ → ℕ → Result Opened Answer → List ℕ → List ℕ → Type 0
+OpensAs text fields size (Ok o) states work = (k : Case) × Passes text fields o states work k
+OpensAs text fields size (Err a) states work =
     ((rest : Case → Tree → Found Tree) → from_text (from_claimed rest) text ≡ refused a) × (states ≡ replicate size 0)

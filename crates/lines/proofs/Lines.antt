@@ -11,22 +11,18 @@ use borrow.Author.Tests.{ne_eqb, eq-eqb}
 use lib.Dec.{eqb, ltb, lit<}
 use lib.ListN.{length, get_or, take, set, length-take, length-append, get_or-eq_default}
 use lib.Seq.{sets, get_or-take, get_or-set_other, take-suc-set}
+use Rattle.std.specs.Prelude.{Result, Ok, Err}
 use Rattle.rules.specs.declared.Header.{Header}
 use Rattle.rules.specs.Text.{Ending, ended, surplus, number_at}
 use Rattle.rules.specs.Table as T
 use Rattle.rules.specs.Table.{Kind, Item, one, in_range, Value, scalar, listed, number_of, item, follow_taken, read_members, read_list, read_item, follow_item, with_value, read_items}
 use Rattle.rules.specs.Fields.{item_fields, items_fields}
-use Rattle.text.specs.declared.Cursor.{Cursor}
-use Rattle.text.specs.declared.Ending.{Ending as LineEnd}
-use Rattle.text.specs.declared.Ending.TheVariants.{Line, Surplus}
-use Rattle.text.specs.Cursor.{cursor, as_ending}
 use Rattle.fields.proofs.Standing.{sets_append}
-use Rattle.lines.specs.declared.item.Outcome.{Outcome}
-use Rattle.lines.specs.declared.item.Outcome.TheVariants.{Done, Bad, Range}
-use Rattle.lines.specs.declared.line.Finish.{Finish}
-use Rattle.lines.specs.declared.line.Finish.TheVariants.{Done as LineDone, Bad as LineBad, Range as LineRange}
+use Rattle.lines.specs.declared.item.ItemRead.{ItemRead}
+use Rattle.lines.specs.declared.line.Line.{Line}
+use Rattle.lines.specs.declared.line.LineError.{LineError}
 use Rattle.lines.specs.Shapes.{item_of, items_in}
-use Rattle.lines.specs.Reading.{finish_of, ItemLeft, ItemsLeft}
+use Rattle.lines.specs.Reading.{line_done, finish_of, ItemLeft, ItemsLeft}
 use Rattle.lines.proofs.Items.{Counted, counted_members}
 
 -- ---- The numbers before an item, as a list and as the array
@@ -90,20 +86,9 @@ items_none (suc m) rest e = ap (λ (b : Bool). elim b as (λ x. List Item) [ tru
 
 -- ---- The line's end
 
-abbrev pub finish_by : ℕ → ℕ → LineEnd → Finish
-finish_by n field (Line d) = LineDone n d
-finish_by n field Surplus = LineBad field
-
-pub finish_read : (n field : ℕ) (e : Ending) (r : LineEnd) → r ≡ as_ending e → finish_by n field r ≡ finish_of n field e
-finish_read n field e r q = ap (finish_by n field) q ∙ go e
-  where
-    go : (x : Ending) → finish_by n field (as_ending x) ≡ finish_of n field x
-    go (ended next) = refl
-    go surplus = refl
-
-pub items_end : (n l field : ℕ) (at : ℕ) (w : List ℕ) (e : Ending) (r : Finish) → r ≡ finish_of n field e → ItemsLeft [] n at w (T.finish_line l field e) r w
+pub items_end : (n l field : ℕ) (at : ℕ) (w : List ℕ) (e : Ending) (r : Result Line LineError) → r ≡ finish_of n field e → ItemsLeft [] n at w (T.finish_line l field e) r w
 items_end n l field at w (ended next) r q =
-    let z : n ≡ n + 0 = omega arith in (q ∙ ap (λ (k : ℕ). LineDone k (cursor next)) z, refl)
+    let z : n ≡ n + 0 = omega arith in (q ∙ ap (λ (k : ℕ). Ok (line_done k next)) z, refl)
 items_end n l field at w surplus r q = q
 
 -- ---- How many fields an item has
@@ -157,27 +142,20 @@ sized_item text h n before T.cues field place =
 apart : {A : Type 0} → ◌≡◌ {A = ℕ} 0 1 → A
 apart z = absurd (omega arith)
 
-unfoldable pub outcome_value : Outcome → ℕ
-outcome_value (Done v field d) = v
-outcome_value (Bad field) = field
-outcome_value (Range field) = field
+unfoldable pub read_value : Result ItemRead LineError → ℕ
+read_value (Ok y) = y.value
+read_value (Err e) = 0
 
-unfoldable pub outcome_field : Outcome → ℕ
-outcome_field (Done v field d) = field
-outcome_field (Bad field) = field
-outcome_field (Range field) = field
+unfoldable pub read_field : Result ItemRead LineError → ℕ
+read_field (Ok y) = y.field
+read_field (Err e) = 0
 
-unfoldable pub outcome_place : Outcome → ℕ
-outcome_place (Done v field d) = d.at
-outcome_place (Bad field) = 0
-outcome_place (Range field) = 0
-
--- Stated of another outcome that is equal.
-pub item_told : (i : Item) (at : ℕ) (w : List ℕ) (y : T.ItemRead) {o o' : Outcome} (u : List ℕ) → o ≡ o' → ItemLeft i at w y o u → ItemLeft i at w y o' u
-item_told i at w y u e h = subst (λ (x : Outcome). ItemLeft i at w y x u) e h
+unfoldable pub read_place : Result ItemRead LineError → ℕ
+read_place (Ok y) = y.next.at
+read_place (Err e) = 0
 
 -- An item's fields are stored, and then those of the items after it.
-value_left : (i : Item) (is : List Item) (from field after : ℕ) (w : List ℕ) (v : Value) (y : T.LineRead) (r : Finish) (u : List ℕ) → 1 ≤ field
+value_left : (i : Item) (is : List Item) (from field after : ℕ) (w : List ℕ) (v : Value) (y : T.LineRead) (r : Result Line LineError) (u : List ℕ) → 1 ≤ field
     → after ≡ field + length (item_fields i v)
     → ItemsLeft is (after - 1) (from + (after - 1)) (sets w (from + (field - 1)) (item_fields i v)) y r u
     → ItemsLeft (i ∷ is) (field - 1) (from + (field - 1)) w (with_value v y) r u
@@ -185,7 +163,7 @@ value_left i is from field after w v (T.line l vs next) r u some e h =
     let n : after - 1 + length (items_fields is vs) ≡ field - 1 + length (item_fields i v ++ items_fields is vs)
     = omega (arith, length-append (item_fields i v) (items_fields is vs)) in
     let p : from + (after - 1) ≡ from + (field - 1) + length (item_fields i v) = omega arith in (
-      h.0 ∙ ap (λ (k : ℕ). LineDone k (cursor next)) n,
+      h.0 ∙ ap (λ (k : ℕ). Ok (line_done k next)) n,
       h.1 ∙ ap (λ (k : ℕ). sets (sets w (from + (field - 1)) (item_fields i v)) k (items_fields is vs)) p
           ∙ sym (sets_append (item_fields i v) (items_fields is vs) w (from + (field - 1))),
     )
@@ -200,7 +178,7 @@ module _ (text : List ℕ) (h : Header) (n l from : ℕ) (i : ℕ) (values : Lis
   after_item : Value → ℕ → ℕ → T.LineRead
   after_item v after next = with_value v (read_items text h n l is (take i values ++ (number_of v ∷ [])) after next)
 
-  by_values : (r : Finish) (u : List ℕ) → ItemsLeft (x ∷ is) (field - 1) (from + (field - 1)) w (follow_item reading after_item) r u
+  by_values : (r : Result Line LineError) (u : List ℕ) → ItemsLeft (x ∷ is) (field - 1) (from + (field - 1)) w (follow_item reading after_item) r u
       → ItemsLeft (x ∷ is) (field - 1) (from + (field - 1)) w (read_items text h n l (x ∷ is) (take i values) field place) r u
   unfolding after_item
   by_values r u g =
@@ -208,43 +186,32 @@ module _ (text : List ℕ) (h : Header) (n l from : ℕ) (i : ℕ) (values : Lis
       (sym (item_same h n (take i values) values (taken_same i values blank) text x field place)) g
 
   -- What the items after it leave is what the line's items from this one on leave.
-  pub items_more : (v after : ℕ) (d : Cursor) → ItemLeft x (from + (field - 1)) w reading (Done v after d) now → (r : Finish) (u : List ℕ)
-      → ItemsLeft is (after - 1) (from + (after - 1)) now (read_items text h n l is (take (suc i) (set values i v)) after d.at) r u
+  pub items_more : (got : ItemRead) → ItemLeft x (from + (field - 1)) w reading (Ok got) now → (r : Result Line LineError) (u : List ℕ)
+      → ItemsLeft is (got.field - 1) (from + (got.field - 1)) now (read_items text h n l is (take (suc i) (set values i got.value)) got.field got.next.at) r u
       → ItemsLeft (x ∷ is) (field - 1) (from + (field - 1)) w (read_items text h n l (x ∷ is) (take i values) field place) r u
-  unfolding after_item outcome_value outcome_field outcome_place
-  items_more v after d q r u g = by_values r u (go reading (sized_item text h n values x field place) q)
+  unfolding after_item read_value read_field read_place
+  items_more got q r u g = by_values r u (go reading (sized_item text h n values x field place) q)
     where
-      go : (y : T.ItemRead) → Sized x field y → ItemLeft x (from + (field - 1)) w y (Done v after d) now
+      go : (y : T.ItemRead) → Sized x field y → ItemLeft x (from + (field - 1)) w y (Ok got) now
           → ItemsLeft (x ∷ is) (field - 1) (from + (field - 1)) w (follow_item y after_item) r u
       go (item val f nx) s e =
-          let ev : v ≡ number_of val = ap outcome_value e.0 in
-          let ef : after ≡ f = ap outcome_field e.0 in
-          let ed : d.at ≡ nx = ap outcome_place e.0 in
-          let taken : take (suc i) (set values i v) ≡ take i values ++ (number_of val ∷ [])
-          = take-suc-set values i v inside ∙ ap (λ (k : ℕ). take i values ++ (k ∷ [])) ev in
+          let ev : got.value ≡ number_of val = ap read_value e.0 in
+          let ef : got.field ≡ f = ap read_field e.0 in
+          let ed : got.next.at ≡ nx = ap read_place e.0 in
+          let taken : take (suc i) (set values i got.value) ≡ take i values ++ (number_of val ∷ [])
+          = take-suc-set values i got.value inside ∙ ap (λ (k : ℕ). take i values ++ (k ∷ [])) ev in
           value_left x is from field f w val (read_items text h n l is (take i values ++ (number_of val ∷ [])) f nx) r u one' s
           (transport (λ j. ItemsLeft is (ef j - 1) (from + (ef j - 1)) (e.1 j) (read_items text h n l is (taken j) (ef j) (ed j)) r u) g)
       go (T.ItemRead.unreadable f) s e = apart (cc)
       go (T.ItemRead.outside f) s e = apart (cc)
 
-  pub items_bad : (wrong : ℕ) → ItemLeft x (from + (field - 1)) w reading (Bad wrong) now → (u : List ℕ)
-      → ItemsLeft (x ∷ is) (field - 1) (from + (field - 1)) w (read_items text h n l (x ∷ is) (take i values) field place) (LineBad wrong) u
-  unfolding outcome_value
-  items_bad wrong q u = by_values (LineBad wrong) u (go reading q)
+  -- A refusal of the item is the line's.
+  pub items_refused : (f : LineError) → ItemLeft x (from + (field - 1)) w reading (Err f) now → (u : List ℕ)
+      → ItemsLeft (x ∷ is) (field - 1) (from + (field - 1)) w (read_items text h n l (x ∷ is) (take i values) field place) (Err f) u
+  items_refused f q u = by_values (Err f) u (go reading q)
     where
-      go : (y : T.ItemRead) → ItemLeft x (from + (field - 1)) w y (Bad wrong) now
-          → ItemsLeft (x ∷ is) (field - 1) (from + (field - 1)) w (follow_item y after_item) (LineBad wrong) u
-      go (item val f nx) e = let z = e.0 in apart (cc)
-      go (T.ItemRead.unreadable f) e = ap LineBad (ap outcome_value e)
-      go (T.ItemRead.outside f) e = apart (cc)
-
-  pub items_out : (wrong : ℕ) → ItemLeft x (from + (field - 1)) w reading (Range wrong) now → (u : List ℕ)
-      → ItemsLeft (x ∷ is) (field - 1) (from + (field - 1)) w (read_items text h n l (x ∷ is) (take i values) field place) (LineRange wrong) u
-  unfolding outcome_value
-  items_out wrong q u = by_values (LineRange wrong) u (go reading q)
-    where
-      go : (y : T.ItemRead) → ItemLeft x (from + (field - 1)) w y (Range wrong) now
-          → ItemsLeft (x ∷ is) (field - 1) (from + (field - 1)) w (follow_item y after_item) (LineRange wrong) u
-      go (item val f nx) e = let z = e.0 in apart (cc)
-      go (T.ItemRead.unreadable f) e = apart (cc)
-      go (T.ItemRead.outside f) e = ap LineRange (ap outcome_value e)
+      go : (y : T.ItemRead) → ItemLeft x (from + (field - 1)) w y (Err f) now
+          → ItemsLeft (x ∷ is) (field - 1) (from + (field - 1)) w (follow_item y after_item) (Err f) u
+      go (item val g nx) e = let z = e.0 in apart (cc)
+      go (T.ItemRead.unreadable g) e = cc
+      go (T.ItemRead.outside g) e = cc

@@ -10,17 +10,18 @@ use borrow.Author.Tests.{eqb-true, eq-eqb, ne_eqb, le-ltb, lt-ltb}
 use lib.Dec.{eqb, ltb}
 use lib.ListN.{length, get_or, set}
 use lib.Seq.{sets}
+use Rattle.std.specs.Prelude.{Result, Ok, Err}
 use Rattle.rules.specs.declared.Header.{Header}
 use Rattle.rules.specs.Text.{is_feed, is_comma, ends_field, Letter, letter, no_letter, letter_at, feed_follows}
 use Rattle.rules.specs.Table as T
 use Rattle.rules.specs.Table.{Role, Item, Row, role_number, table, row_of, read_items, read_row, read_letter, read_line}
 use Rattle.rules.specs.Fields.{items_fields, row_items}
-use Rattle.text.specs.Cursor.{cursor}
 use Rattle.text.proofs.Laws.{letter_byte}
-use Rattle.lines.specs.declared.line.Finish.{Finish}
-use Rattle.lines.specs.declared.line.Finish.TheVariants.{Done as LineDone, Bad as LineBad}
+use Rattle.lines.specs.declared.line.Line.{Line}
+use Rattle.lines.specs.declared.line.LineError.{LineError}
+use Rattle.lines.specs.declared.line.LineError.TheVariants.{Bad}
 use Rattle.lines.specs.Shapes.{items_of, shape_row, row_shown}
-use Rattle.lines.specs.Reading.{ItemsLeft, LineLeft}
+use Rattle.lines.specs.Reading.{line_done, ItemsLeft, LineLeft}
 use Rattle.lines.proofs.Within.{HasLetter, items_letter, row_fields}
 
 role_some : (r : Role) → role_number r ≡ 0 → ⊥
@@ -52,12 +53,12 @@ role_inside due s b e q = go (eqb b 44) refl (eqb b 10) refl
     go false c false f = refl
 
 -- The letter is stored, and then the fields of the items: the fields of the line.
-items_line : (b from : ℕ) (is : List Item) (w : List ℕ) (y : T.LineRead) (r : Finish) (u : List ℕ) → row_items (row_of b) ≡ is → HasLetter b y
+items_line : (b from : ℕ) (is : List Item) (w : List ℕ) (y : T.LineRead) (r : Result Line LineError) (u : List ℕ) → row_items (row_of b) ≡ is → HasLetter b y
     → ItemsLeft is 1 (from + 1) (set w from b) y r u → LineLeft from w y r u
 items_line b from is w (T.line l vs next) r u e q h =
     let f = row_fields b is l vs e q in
     let k : 1 + length (items_fields is vs) ≡ suc (length (items_fields is vs)) = omega arith in (
-      h.0 ∙ ap (λ (m : ℕ). LineDone m (cursor next)) (k ∙ sym (ap length f)),
+      h.0 ∙ ap (λ (m : ℕ). Ok (line_done m next)) (k ∙ sym (ap length f)),
       h.1 ∙ ap (λ (m : ℕ). sets (set w from b) m (items_fields is vs)) (add-one from) ∙ ap (λ (xs : List ℕ). sets w from xs) (sym f),
     )
 items_line b from is w (T.LineRead.unreadable field) r u e q h = h
@@ -114,18 +115,18 @@ module _ (text : List ℕ) (due : Role) (h : Header) (n : ℕ) where
 
     -- What the code leaves of the line, in each case.
     module _ (from : ℕ) (w : List ℕ) where
-      pub unended_left : past ≤ place → (u : List ℕ) → LineLeft from w (read_line text due h n place) (LineBad 0) u
-      unended_left out u = subst (λ (y : T.LineRead). LineLeft from w y (LineBad 0) u) (sym (line_unended out)) refl
+      pub unended_left : past ≤ place → (u : List ℕ) → LineLeft from w (read_line text due h n place) (Err (Bad 0)) u
+      unended_left out u = subst (λ (y : T.LineRead). LineLeft from w y (Err (Bad 0)) u) (sym (line_unended out)) refl
 
-      pub unlettered_left : place < past → letter_at text place ≡ no_letter → (u : List ℕ) → LineLeft from w (read_line text due h n place) (LineBad 1) u
-      unlettered_left within e u = subst (λ (y : T.LineRead). LineLeft from w y (LineBad 1) u) (sym (line_unlettered within e)) refl
+      pub unlettered_left : place < past → letter_at text place ≡ no_letter → (u : List ℕ) → LineLeft from w (read_line text due h n place) (Err (Bad 1)) u
+      unlettered_left within e u = subst (λ (y : T.LineRead). LineLeft from w y (Err (Bad 1)) u) (sym (line_unlettered within e)) refl
 
       pub other_left : (s : ℕ) → place < past → shape_row s ≡ row_shown (row_of (get_or text place 0)) → (s % 256 ≡ role_number due → ⊥)
-          → (u : List ℕ) → LineLeft from w (read_line text due h n place) (LineBad 1) u
-      other_left s within q r u = subst (λ (y : T.LineRead). LineLeft from w y (LineBad 1) u) (sym (line_other s within q r)) refl
+          → (u : List ℕ) → LineLeft from w (read_line text due h n place) (Err (Bad 1)) u
+      other_left s within q r u = subst (λ (y : T.LineRead). LineLeft from w y (Err (Bad 1)) u) (sym (line_other s within q r)) refl
 
       pub due_left : (b next s : ℕ) → place < past → letter_at text place ≡ letter b next → shape_row s ≡ row_shown (row_of b) → s % 256 ≡ role_number due
-          → (r : Finish) (u : List ℕ)
+          → (r : Result Line LineError) (u : List ℕ)
           → ItemsLeft (items_of (s / 256)) 1 (from + 1) (set w from b) (read_items text h n b (items_of (s / 256)) [] 2 next) r u
           → LineLeft from w (read_line text due h n place) r u
       due_left b next s within e q k r u g =

@@ -1,9 +1,9 @@
 // What is known before a line is read: the header, the subtask count, and the range of each kind of number, worked out once.
 ghost use Rattle.std.specs.Prelude.{◌≡◌, ◌+◌, ◌≤◌};
 ghost use Rattle.rules.specs.Case.{header_in};
-ghost use Rattle.lines.specs.Ranges.{all_below, known_of, Known};
+ghost use Rattle.lines.specs.Ranges.{all_below, known_of};
 
-use crate::range::KNOWN;
+use crate::numbers::Known;
 use rules::{Header, PROPOSITIONS};
 
 // A range, as its least and its greatest number: there is none if the least is above the greatest.
@@ -22,9 +22,9 @@ fn below(n: u32) -> Bounds
 }
 
 // What a header makes known, with no subtasks: its numbers, and then two for each kind, in the order of the kinds' bytes.
-pub fn known(h: Header) -> [u32; KNOWN]
+pub fn known(h: Header) -> Known
     requires { h.actions + h.compounds ≤ 2048 }
-    ensures { result ≡ known_of h 0 }
+    ensures { result.numbers ≡ known_of h 0 }
 {
     let task = below(h.actions + h.compounds);
     let compound = below(h.compounds);
@@ -32,7 +32,7 @@ pub fn known(h: Header) -> [u32; KNOWN]
     let method = below(h.methods);
     let action = below(h.actions);
     let position = Bounds(1, h.cues);
-    [
+    let numbers = [
         h.propositions,
         h.actions,
         h.compounds,
@@ -86,23 +86,23 @@ pub fn known(h: Header) -> [u32; KNOWN]
         h.propositions,
         task.0,
         task.1,
-    ]
+    ];
+    Known { numbers }
 }
 
 // The same for the constraints of a method with n subtasks: the three ranges that the count sets are made anew.
-pub fn with_subtasks(x: &[u32; KNOWN], n: u32) -> [u32; KNOWN]
+pub fn with_subtasks(x: &Known, n: u32) -> Known
     requires n_bound { n ≤ 32 }
-    requires known { Known x.now }
-    ensures { result ≡ known_of (header_in x.now) n }
+    ensures { result.numbers ≡ known_of (header_in x.now.numbers) n }
 {
     let subtask = below(n);
     let mut own = *x;
-    own[7] = n;
+    own.numbers[7] = n;
     // Kinds 2 and 10, and the greatest of kind 12: a range stands at 8 + 2 * kind.
-    own[12] = subtask.0;
-    own[13] = subtask.1;
-    own[28] = subtask.0;
-    own[29] = subtask.1;
-    own[33] = subsets::all(n);
+    own.numbers[12] = subtask.0;
+    own.numbers[13] = subtask.1;
+    own.numbers[28] = subtask.0;
+    own.numbers[29] = subtask.1;
+    own.numbers[33] = subsets::all(n);
     own
 }

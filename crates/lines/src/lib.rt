@@ -4,10 +4,11 @@
 mod bounds;
 mod item;
 mod line;
+mod numbers;
 mod range;
 mod table;
 
 pub use bounds::{known, with_subtasks};
-pub use line::{Finish, Role, read_line};
-pub use range::KNOWN;
+pub use line::{Line, LineError, Role, read_line};
+pub use numbers::Known;
 pub use table::shape;

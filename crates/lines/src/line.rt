@@ -4,31 +4,35 @@ ghost use Rattle.rules.specs.Text.{ending_at, feed_follows};
 ghost use Rattle.rules.specs.Case.{header_in};
 ghost use Rattle.rules.specs.Table.{role_number, read_items, read_line};
 ghost use Rattle.lines.specs.Shapes.{items_of};
-ghost use Rattle.lines.specs.Ranges.{Known};
 ghost use Rattle.lines.specs.Reading.{role_of, Ready, Room, finish_of, ItemsLeft, LineLeft};
 
-use crate::item::Outcome;
-use crate::range::{KNOWN, VALUES};
+use crate::numbers::Known;
+use crate::range::VALUES;
 use crate::{item, table};
-use text::{Cursor, Ending, Letter};
+use text::Cursor;
 
-// The lines of a case, by what is due there.
+// The lines of a case, by what is due there, each with the byte of a shape that says so.
 #[derive(Clone, Copy)]
 pub enum Role {
-    Header,
-    Initial,
-    Action,
-    Method,
-    Constraint,
-    Plan,
-    Node,
+    Header = 1,
+    Initial = 2,
+    Action = 3,
+    Method = 4,
+    Constraint = 5,
+    Plan = 6,
+    Node = 7,
 }
 
-// How reading a line ended. A field's number is counted from 1, and 0 is the line itself.
+// A line that is read: how many fields it has, and where the next one starts.
 #[derive(Clone, Copy)]
-pub enum Finish {
-    // The line is read: how many fields it has, and where the next one starts.
-    Done { fields: usize, next: Cursor },
+pub struct Line {
+    pub fields: usize,
+    pub next: Cursor,
+}
+
+// Why a line, or an item of it, is not read. A field's number is counted from 1 in its line, and 0 is the line itself.
+#[derive(Clone, Copy)]
+pub enum LineError {
     // The line has no line feed; or the field is the wrong letter, missing, surplus or no plain number.
     Bad { field: usize },
     // The field is outside its range.
@@ -36,48 +40,41 @@ pub enum Finish {
 }
 
 // The byte of a shape that says which line is due.
+#[tactic(auto, unfolding(rules::specs::Table::role_number))]
 fn role_number(role: Role) -> u64
     ensures { result ≡ role_number (role_of role) }
 {
-    match role {
-        Role::Header => 1,
-        Role::Initial => 2,
-        Role::Action => 3,
-        Role::Method => 4,
-        Role::Constraint => 5,
-        Role::Plan => 6,
-        Role::Node => 7,
-    }
+    role as u64
 }
 
 // The line's end, after its items: anything else is surplus field number `field`.
-fn finished(text: &[u8], c: Cursor, field: usize) -> Finish
+fn finished(text: &[u8], c: Cursor, field: usize) -> Result<Line, LineError>
     requires { (1 ≤ field) × (feed_follows text.now c.at ≡ true) }
     ensures { result ≡ finish_of (field - 1) field (ending_at text.now c.at) }
 {
-    match c.line_end(text) {
-        Ending::Line { next } => Finish::Done {
-            fields: field - 1,
-            next,
-        },
-        Ending::Surplus => Finish::Bad { field },
-    }
+    let Some(next) = c.line_end(text) else {
+        return Err(LineError::Bad { field });
+    };
+    Ok(Line {
+        fields: field - 1,
+        next,
+    })
 }
 
-// The items of a shape's bytes, lowest first, and the line's end. The line's fields are stored from `from` on, the letter first.
+// The items of a shape's bytes, lowest first, and the line's end. The line's fields are stored from `from` on, the letter first. A `while`: the
+// bytes end where no other is set, and each item moves the place on by what it reads. The numbers so far have a fixed place: no heap.
 fn items(
     text: &[u8],
     c: Cursor,
-    x: &[u32; KNOWN],
+    x: &Known,
     letter: u8,
     shape: u64,
     fields: &mut [u32],
     from: usize,
-) -> Finish
+) -> Result<Line, LineError>
     requires shape_bound { shape < 256 ^ 7 }
     requires room { Room text.now fields.old (from + 1) c.at }
-    requires known { Known x.now }
-    ensures { ItemsLeft (items_of shape) 1 (from + 1) fields.old (read_items text.now (header_in x.now) (get_or x.now 7 0) letter (items_of shape) [] 2 c.at) result fields.new }
+    ensures { ItemsLeft (items_of shape) 1 (from + 1) fields.old (read_items text.now (header_in x.now.numbers) (get_or x.now.numbers 7 0) letter (items_of shape) [] 2 c.at) result fields.new }
 {
     let mut at = c;
     let mut values = [0u32; VALUES];
@@ -86,21 +83,12 @@ fn items(
     let mut i: usize = 0;
     while rest != 0 {
         let put = from + (field - 1);
-        match item::read_item(text, at, x, &values, rest % 256, field, fields, put) {
-            Outcome::Done {
-                value,
-                field: after,
-                next,
-            } => {
-                values[i] = value;
-                at = next;
-                field = after;
-                rest = rest / 256;
-                i += 1;
-            }
-            Outcome::Bad { field: wrong } => return Finish::Bad { field: wrong },
-            Outcome::Range { field: wrong } => return Finish::Range { field: wrong },
-        }
+        let read = item::read_item(text, at, x, &values, rest % 256, field, fields, put)?;
+        values[i] = read.value;
+        at = read.next;
+        field = read.field;
+        rest = rest / 256;
+        i += 1;
     }
     finished(text, at, field)
 }
@@ -112,29 +100,25 @@ pub fn read_line(
     past: usize,
     c: Cursor,
     due: Role,
-    x: &[u32; KNOWN],
+    x: &Known,
     fields: &mut [u32],
     from: usize,
-) -> Finish
+) -> Result<Line, LineError>
     requires by_index { (p : ℕ) → feed_follows text.now p ≡ ltb p past }
     requires ready { Ready text.now fields.old from c.at }
-    requires known { Known x.now }
-    ensures { LineLeft from fields.old (read_line text.now (role_of due) (header_in x.now) (get_or x.now 7 0) c.at) result fields.new }
+    ensures { LineLeft from fields.old (read_line text.now (role_of due) (header_in x.now.numbers) (get_or x.now.numbers 7 0) c.at) result fields.new }
 {
     let at = c.at;
     if past <= at {
-        return Finish::Bad { field: 0 };
+        return Err(LineError::Bad { field: 0 });
     }
     let shape = table::shape(text[at]);
-    if shape % 256 == role_number(due) {
-        match c.letter(text) {
-            Letter::Byte { byte, next } => {
-                fields[from] = byte as u32;
-                items(text, next, x, byte, shape / 256, fields, from)
-            }
-            Letter::Wrong => Finish::Bad { field: 1 },
-        }
-    } else {
-        Finish::Bad { field: 1 }
+    if shape % 256 != role_number(due) {
+        return Err(LineError::Bad { field: 1 });
     }
+    let Some(letter) = c.letter(text) else {
+        return Err(LineError::Bad { field: 1 });
+    };
+    fields[from] = u32::from(letter.byte);
+    items(text, letter.next, x, letter.byte, shape / 256, fields, from)
 }

@@ -18,6 +18,7 @@ pub fn shape(letter: u8) -> u64
 }
 
 // The rows of the large letters.
+#[tactic(auto, unfolding(crate::specs::Shapes::shape_row, crate::specs::Shapes::row_shown, crate::specs::Shapes::items_of, crate::specs::Shapes::item_of, crate::specs::Shapes::kind_of, rules::specs::Table::row_of, rules::specs::Table::table, rules::specs::Table::role_number))]
 fn large(letter: u8) -> u64
     requires { letter < 97 }
     ensures { shape_row result ≡ row_shown (row_of letter) }
@@ -40,6 +41,7 @@ fn large(letter: u8) -> u64
 }
 
 // The rows of the small ones.
+#[tactic(auto, unfolding(crate::specs::Shapes::shape_row, crate::specs::Shapes::row_shown, crate::specs::Shapes::items_of, crate::specs::Shapes::item_of, crate::specs::Shapes::kind_of, rules::specs::Table::row_of, rules::specs::Table::table, rules::specs::Table::role_number))]
 fn small(letter: u8) -> u64
     requires { 97 ≤ letter }
     ensures { shape_row result ≡ row_shown (row_of letter) }

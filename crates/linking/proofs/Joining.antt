@@ -8,6 +8,7 @@ use Rattle.rules.specs.Form.{FormLine, Form, wrong_line}
 use Rattle.links.specs.Links.{Lines, Twins, Resolved}
 use Rattle.links.proofs.Written.{lines_defined}
 use Rattle.reaching.specs.Visited.{Graph, Marked}
+use Rattle.std.specs.Prelude.{Option}
 use Rattle.wrongs.specs.Wrongs.{as_line, Known, Holds}
 use Rattle.linking.specs.Linking.{Rooted, MarkedFrom, Joined}
 
@@ -58,7 +59,7 @@ module _ {es : List FormLine} {count lost : ℕ} {starts links used : List ℕ} 
         }
 
     -- The answer tells the first wrong line of each form of which all this is known.
-    pub joined : (line : ℕ)
+    pub joined : (line : Option ℕ)
         → ((es : List FormLine) (ids labels starts links : List ℕ) (id : ℕ)
         → Known es cues count ids labels starts links twin used marks lost root id → (f : Form) → Holds f es cues id → wrong_line f ≡ as_line line)
         → Joined es cues id (record { root = root; line = line }) starts links

@@ -3,29 +3,28 @@
 
 ghost use Rattle.std.specs.Prelude.{◌≡◌, List, ℕ, ◌*◌, ◌≤◌, ◌<◌, length, get_or};
 ghost use Rattle.rules.specs.Form.{FormLine};
-ghost use Rattle.probing.specs.Probing.{Kept};
-ghost use Rattle.ids.specs.Ids.{same_id, hash_id};
 ghost use Rattle.links.specs.Links.{Lines, Spelled};
 ghost use Rattle.reaching.specs.Visited.{Graph};
 ghost use Rattle.linking.specs.Linking.{Rooted, MarkedFrom, Joined};
 
-use probing::Found;
+use ids::Table;
 
-// The link of the root's id, and the number of the first line that is wrong, 0 if none is.
+// The link of the root's id, and the number of the first line that is wrong, if one is. A link is a number and 0 if there is none, as in the
+// lent lists.
 #[derive(Clone, Copy)]
 pub struct Tied {
     pub root: u32,
-    pub line: u32,
+    pub line: Option<u32>,
 }
 
 // The link of an id.
-fn link_of(ids: &[u32], slots: &[u32], count: usize, id: u32) -> u32
-    requires { (count ≤ 3000) × (length slots.now ≡ 8192) × (count ≤ length ids.now) × Kept (same_id ids.now) hash_id slots.now count }
-    ensures { Rooted ids.now count id result }
+fn link_of(table: &Table, id: u32) -> u32
+    requires { table.now.count ≤ 3000 }
+    ensures { Rooted table.now.ids.now table.now.count id result }
 {
-    match ids::find(ids, slots, count, id) {
-        Found::At(e) => e as u32 + 1,
-        Found::Nothing => 0,
+    match ids::find(table, id) {
+        Some(e) => e as u32 + 1,
+        None => 0,
     }
 }
 
@@ -83,8 +82,9 @@ pub fn tie(
     ensures starts_len_unchanged { length starts.new ≡ length starts.old }
 {
     links::pair(ids, count, slots, twin, spare);
-    let lost = links::resolve(form, places, ids, slots, cues, count, starts, links, used);
-    let link = link_of(ids, slots, count, root);
+    let table = Table { ids, slots, count };
+    let lost = links::resolve(form, places, &table, cues, starts, links, used);
+    let link = link_of(&table, root);
     mark_from(starts, links, twin, count, link, marks, spare);
     Tied {
         root: link,

@@ -6,9 +6,8 @@ use Prim.Native.Nat.{ℕ, zero, suc, ◌+◌, ◌<◌}
 use native.Mathlib.Omega.{arith}
 use lib.Dec.{eqb}
 use lib.ListN.{length}
+use Rattle.std.specs.Prelude.{Option, None, Some}
 use Rattle.rules.specs.Form.{FormLine, defines}
-use Rattle.probing.specs.declared.Found.{Found}
-use Rattle.probing.specs.declared.Found.TheVariants.{At, Nothing}
 use Rattle.probing.specs.Probing.{first}
 use Rattle.probing.proofs.First.{first_at, first_none}
 use Rattle.ids.specs.Ids.{same_id}
@@ -50,19 +49,19 @@ module _ (es : List FormLine) (ids : List ℕ) (defined : Defined es ids) (id : 
       link_is 0 es id e h (tested e h ∙ t) (λ d k. tested d (omega arith) ∙ none d k) ∙ omega arith
 
   -- The table's answer, as a link.
-  pub link_found : (r : Found) → r ≡ first (same_id ids id) (length es) → link es id ≡ link_to r
+  pub link_found : (r : Option ℕ) → r ≡ first (same_id ids id) (length es) → link es id ≡ link_to r
   unfolding link
-  link_found (At e) q =
+  link_found (Some e) q =
       let f = first_at (same_id ids id) (length es) e (sym q) in
       link_here e f.0 f.1 f.2
-  link_found Nothing q = link_none 0 es id (λ d h. tested d h ∙ first_none (same_id ids id) (length es) (sym q) d h)
+  link_found None q = link_none 0 es id (λ d h. tested d h ∙ first_none (same_id ids id) (length es) (sym q) d h)
 
   pub link_in_lem : (count : ℕ) → length es ≡ count → link es id ≡ link_in ids count id
   link_in_lem count size = link_found (first (same_id ids id) (length es)) refl ∙ ap (λ (n : ℕ). link_in ids n id) size
 
-  -- At e is the line e; Nothing is none.
-  pub link_at : (count : ℕ) → length es ≡ count → (e : ℕ) → At e ≡ first (same_id ids id) count → link es id ≡ suc e
+  -- Some e is the line e; None is none.
+  pub link_at : (count : ℕ) → length es ≡ count → (e : ℕ) → Some e ≡ first (same_id ids id) count → link es id ≡ suc e
   link_at count size e q = link_in_lem count size ∙ ap link_to (sym q)
 
-  pub link_nothing : (count : ℕ) → length es ≡ count → Nothing ≡ first (same_id ids id) count → link es id ≡ 0
+  pub link_nothing : (count : ℕ) → length es ≡ count → None ≡ first (same_id ids id) count → link es id ≡ 0
   link_nothing count size q = link_in_lem count size ∙ ap link_to (sym q)

@@ -9,8 +9,8 @@ use borrow.Author.Tests.{eq-eqb, eqb-true, eqb-false}
 use lib.Dec.{eqb}
 use lib.ListN.{length, get_or, set}
 use lib.Seq.{get_or-set_same, get_or-set_other}
+use Rattle.std.specs.Prelude.{None, Some}
 use Rattle.rules.specs.Form.{FormLine, defines}
-use Rattle.probing.specs.declared.Found.TheVariants.{At, Nothing}
 use Rattle.probing.specs.Probing.{first}
 use Rattle.probing.proofs.First.{below, first_at, first_none}
 use Rattle.ids.specs.Ids.{same_id}
@@ -57,7 +57,7 @@ module _ {ids : List ℕ} {n : ℕ} {twin last : List ℕ} (paired : Paired ids 
       go (suc d) q = let l = paired.later n d q in absurd (omega arith)
 
   -- Its id is new.
-  pub paired_new : Nothing ≡ first (same_id ids (get_or ids n 0)) n → n < length last → Paired ids (suc n) twin (set last n n)
+  pub paired_new : None ≡ first (same_id ids (get_or ids n 0)) n → n < length last → Paired ids (suc n) twin (set last n n)
   paired_new w inside =
       record {
         later = λ e d q. let l = paired.later e d q in (l.0, omega arith, l.2);
@@ -86,7 +86,7 @@ module _ {ids : List ℕ} {n : ℕ} {twin last : List ℕ} (paired : Paired ids 
           subst (End f) (sym (get_or-set_other last n f n 0 (λ s. omega arith))) (omega arith, l.1, l.2)
 
   -- An earlier line f is the first with its id.
-  module _ (f : ℕ) (w : At f ≡ first (same_id ids (get_or ids n 0)) n) where
+  module _ (f : ℕ) (w : Some f ≡ first (same_id ids (get_or ids n 0)) n) where
     found : (f < n) × (same_id ids (get_or ids n 0) f ≡ true) × ((d : ℕ) → d < f → same_id ids (get_or ids n 0) d ≡ false)
     found = first_at (same_id ids (get_or ids n 0)) n f (sym w)
 

@@ -6,14 +6,18 @@ use Prim.Native.Nat.{ℕ, suc, ◌+◌, ◌<◌}
 use native.Mathlib.Omega.{arith}
 use lib.Dec.{eqb}
 use lib.ListN.{length, get_or, take, length-append}
+use Rattle.std.specs.Prelude.{None, Some}
 use Rattle.rules.specs.Text.{number, number_in, feed_follows}
 use Rattle.text.proofs.Feeds.{feed_inside, feed_past}
-use Rattle.tokens.specs.declared.Plain.TheVariants.{Number as PlainNumber, Other}
+use Rattle.tokens.specs.declared.Plain.{Plain}
 use Rattle.tokens.specs.Pieces.{piece_from, as_plain, Spells}
 use Rattle.links.specs.Steps.{any_none, Stored}
 
 apart : {A : Type 0} → ◌≡◌ {A = ℕ} 0 1 → A
 apart z = absurd (omega arith)
+
+abbrev plain_of : ℕ → ℕ → Plain
+plain_of value next = record { value = value; next = next }
 
 -- ---- The text from here on
 
@@ -83,33 +87,33 @@ module _ {text : List ℕ} {link_of : ℕ → ℕ} {vs : List ℕ} {start : ℕ}
       ap length going.both ∙ length-append going.done going.rest ∙ ap (λ (l : List ℕ). length going.done + length l) a.first in
       omega (arith, going.stored.ends)
 
-  pub going_plain : get_or text at 0 ≡ 32 → Other ≡ as_plain (number_in (at + 1) (piece_from 32 text (at + 1))) → ⊥
+  pub going_plain : get_or text at 0 ≡ 32 → None ≡ as_plain (number_in (at + 1) (piece_from 32 text (at + 1))) → ⊥
   going_plain q e =
       let a = ahead text at going.rest going.spelled q in
-      let z : Other ≡ PlainNumber a.value a.next = e ∙ ap as_plain a.reads in
+      let z : None ≡ Some (plain_of a.value a.next) = e ∙ ap as_plain a.reads in
       apart (cc)
 
-  pub going_next : {v next : ℕ} {r found : Bool} {after : List ℕ} → get_or text at 0 ≡ 32
-      → PlainNumber v next ≡ as_plain (number_in (at + 1) (piece_from 32 text (at + 1)))
-      → Stored link_of (v ∷ []) n links (n + 1) r after → found ≡ (missing || r)
-      → Going text link_of vs start before next (n + 1) found after
-  going_next {v} {next} {r} {found} {after} q e s m =
+  pub going_next : {number : Plain} {r found : Bool} {after : List ℕ} → get_or text at 0 ≡ 32
+      → Some number ≡ as_plain (number_in (at + 1) (piece_from 32 text (at + 1)))
+      → Stored link_of (number.value ∷ []) n links (n + 1) r after → found ≡ (missing || r)
+      → Going text link_of vs start before number.next (n + 1) found after
+  going_next {number} {r} {found} {after} q e s m =
       record {
-        done = g.done ++ (v ∷ []);
+        done = g.done ++ (number.value ∷ []);
         rest = a.more;
-        both = g.both ∙ ap (λ (l : List ℕ). g.done ++ l) (a.first ∙ ap (λ (x : ℕ). x ∷ a.more) (sym value)) ∙ sym (append_assoc g.done (v ∷ []) a.more);
+        both = g.both ∙ ap (λ (l : List ℕ). g.done ++ l) (a.first ∙ ap (λ (x : ℕ). x ∷ a.more) (sym value)) ∙ sym (append_assoc g.done (number.value ∷ []) a.more);
         spelled = subst (λ (p : ℕ). Spells text p a.more) (sym place) a.goes;
         stored =
             record {
-              ends = omega (arith, g.stored.ends, length-append g.done (v ∷ []));
+              ends = omega (arith, g.stored.ends, length-append g.done (number.value ∷ []));
               taken =
-                  s.taken ∙ ap (λ (l : List ℕ). l ++ (link_of v ∷ [])) g.stored.taken
-                  ∙ append_assoc (take start before) (map link_of g.done) (link_of v ∷ [])
-                  ∙ ap (λ (l : List ℕ). take start before ++ l) (sym (map-append link_of g.done (v ∷ [])));
+                  s.taken ∙ ap (λ (l : List ℕ). l ++ (link_of number.value ∷ [])) g.stored.taken
+                  ∙ append_assoc (take start before) (map link_of g.done) (link_of number.value ∷ [])
+                  ∙ ap (λ (l : List ℕ). take start before ++ l) (sym (map-append link_of g.done (number.value ∷ [])));
               none =
                   m ∙ ap (λ (b : Bool). b || r) g.stored.none
                   ∙ ap (λ (b : Bool). any_none (map link_of g.done) || b) s.none
-                  ∙ sym (none_snoc link_of g.done v);
+                  ∙ sym (none_snoc link_of g.done number.value);
             };
       }
     where
@@ -119,14 +123,14 @@ module _ {text : List ℕ} {link_of : ℕ → ℕ} {vs : List ℕ} {start : ℕ}
       a : Ahead text at g.rest
       a = ahead text at g.rest g.spelled q
 
-      told : PlainNumber v next ≡ PlainNumber a.value a.next
-      told = e ∙ ap as_plain a.reads
+      told : number ≡ plain_of a.value a.next
+      told = let z : Some number ≡ Some (plain_of a.value a.next) = e ∙ ap as_plain a.reads in cc
 
-      value : v ≡ a.value
-      value = cc told
+      value : number.value ≡ a.value
+      value = ap (λ (p : Plain). p.value) told
 
-      place : next ≡ a.next
-      place = cc told
+      place : number.next ≡ a.next
+      place = ap (λ (p : Plain). p.next) told
 
   pub going_over : (get_or text at 0 ≡ 32 → ⊥) → Stored link_of vs start before n missing links
   going_over q =

@@ -1,15 +1,13 @@
 -- What the steps of linking keep, a line or an id at a time. Assumes nothing.
-use Rattle.std.specs.Prelude.{◌≡◌, Bool, true, false, ◌||◌, List, [], ◌∷◌, ◌++◌, map, ◌⊎◌, ℕ, suc, ◌+◌, ◌≤◌, ◌<◌, eqb, length, get_or, take}
+use Rattle.std.specs.Prelude.{◌≡◌, Bool, true, false, ◌||◌, List, [], ◌∷◌, ◌++◌, map, ◌⊎◌, ℕ, suc, ◌+◌, ◌≤◌, ◌<◌, eqb, length, get_or, take, Option, None, Some}
 use Rattle.rules.specs.Form.{times}
-use Rattle.probing.specs.declared.Found.{Found}
-use Rattle.probing.specs.declared.Found.TheVariants.{At, Nothing}
 use Rattle.probing.specs.Probing.{first}
 use Rattle.ids.specs.Ids.{same_id}
 
 -- The link that the table's answer stands for.
-abbrev pub link_to : Found → ℕ
-link_to (At e) = suc e
-link_to Nothing = 0
+abbrev pub link_to : Option ℕ → ℕ
+link_to (Some e) = suc e
+link_to None = 0
 
 -- The link of an id, by the list of the ids that lines define.
 abbrev pub link_in : List ℕ → ℕ → ℕ → ℕ

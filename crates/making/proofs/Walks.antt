@@ -157,10 +157,11 @@ module _ {starts links labels : List ℕ} {cues count : ℕ} {before : List ℕ}
       ((omega arith, omega arith, omega arith, t.near.ordered l near), (omega arith, omega arith, omega arith, omega arith))
 
   pub due_on : (r : Walk) (after next' last' : List ℕ) → Visited starts labels cues l fields w next last r after next' last' → length next' ≡ length next
-      → length last' ≡ length last → Turning starts links labels cues count before b whole (left - 1) after next' last' r
-  due_on r after next' last' v m n =
+      → length last' ≡ length last → (fewer : ℕ) → left - 1 ≡ fewer → Turning starts links labels cues count before b whole fewer after next' last' r
+  due_on r after next' last' v m n fewer e =
       let t = d.lent.near in
-      record {
+      subst (λ (i : ℕ). Turning starts links labels cues count before b whole i after next' last' r) e
+      (record {
         lent = record {
           few = d.lent.few;
           starts_long = d.lent.starts_long;
@@ -172,7 +173,7 @@ module _ {starts links labels : List ℕ} {cues count : ℕ} {before : List ℕ}
         todo = links_below starts links l ++ d.todo;
         frames = v.frames links d.todo (t.inside l near_due) d.frames;
         walks = walks_on starts links labels cues count before b whole left l d.todo fields w d.walks more t next last r after next' last' v;
-      }
+      })
 
 module _ {starts links labels : List ℕ} {cues count : ℕ} {before : List ℕ} {b : Walk} {whole : List NodeLine} {left : ℕ} {fields next last : List ℕ} {w : Walk} (g : Turning starts links labels cues count before b whole left fields next last w) where
   pub turning_ends : (left ≡ 0) ⊎ (w.depth ≡ 0) → Ends before b whole fields w

@@ -1,6 +1,7 @@
 // The case that a form becomes (02, Card 6), over the fields of the case that came beside it: "a case, whose header k and node count, P and
 // node lines are replaced". The form's lines are plain lists: each line's label, its action or method, and the links of its subtasks, which
-// stand in one list from the line's start up to the next line's. A link is one more than a line's number; 0 leads to no line.
+// stand in one list from the line's start up to the next line's. A link is one more than a line's number; 0 leads to no line: no `Option`,
+// since the lists have room for numbers only, and `link` of the definitions counts so. The lists are the caller's, since there is no heap.
 #![tactic(auto)]
 
 ghost use Rattle.std.specs.Prelude.{◌≡◌, List, [], ◌∷◌, ℕ, ◌+◌, ◌-◌, ◌*◌, ◌≤◌, ◌<◌, length, get_or, take};
@@ -14,7 +15,7 @@ ghost use Rattle.output.specs.Output.{HasLines};
 ghost use Rattle.making.specs.Making.{PlanLast, Makes};
 ghost use Rattle.making.specs.Nodes.{node_as, Pushed, Visited, Holds, Room, Stored};
 
-// The letters P, D, E and L, as the fields have them.
+// The letters P, D, E and L, as the fields have them: no enum, since a case's fields are one list of numbers.
 const PLAN: u32 = 80;
 
 const TASK: u32 = 68;
@@ -41,12 +42,6 @@ struct Walk {
     end: usize,
     nodes: u32,
     depth: usize,
-}
-
-fn wide(link: u16) -> u32
-    ensures { result ≡ link }
-{
-    link as u32
 }
 
 // A line of three fields.
@@ -134,12 +129,9 @@ pub fn put_plan(labels: &[u32], cues: usize, fields: &mut [u32], from: usize) ->
 {
     fields[from] = PLAN;
     let first = from + 1;
-    let mut i: usize = 0;
-    while i < cues {
-        fields[first + i] = labels[i];
-        i += 1;
-    }
-    first + cues
+    let past = first + cues;
+    fields[first..past].copy_from_slice(&labels[..cues]);
+    past
 }
 
 // The node lines of the tree that hangs from the line that `root` leads to, in preorder, stored from `from` on: "subtask ids follow the
@@ -173,8 +165,7 @@ pub fn put_nodes(
         depth: 0,
     };
     let mut w = visit(starts, labels, cues, root, fields, begin, next, last);
-    let mut left = count - 1;
-    while left > 0 {
+    for _ in 1..count {
         let depth = w.depth;
         if depth == 0 {
             break;
@@ -187,9 +178,8 @@ pub fn put_nodes(
         } else {
             w.depth = top;
         }
-        let link = wide(links[at as usize]);
+        let link = u32::from(links[at as usize]);
         w = visit(starts, labels, cues, link, fields, w, next, last);
-        left -= 1;
     }
     Put {
         end: w.end,

@@ -12,7 +12,8 @@ use lib.ListN.{length, get_or, take, drop, set, length-set}
 use lib.Seq.{get_or-set_same, get_or-set_other}
 use Rattle.rules.specs.Tokens.{same_bytes}
 use Rattle.rules.proofs.Import.Says.{same_bytes_lem}
-use Rattle.probing.specs.Probing.{Kept}
+use Rattle.probing.specs.declared.Walk.{Walk}
+use Rattle.probing.specs.Probing.{walk, Kept}
 use Rattle.probing.proofs.Tables.{Puts, puts, kept_agree}
 use Rattle.names.specs.Names.{name_at, same_name, Placed, hash_from, cut, hash_name}
 
@@ -22,7 +23,8 @@ cut_small h = omega arith
 
 -- The entry n has its own name and no other.
 pub name_puts : (text starts ends slots : List ℕ) (n : ℕ) → length slots ≡ 4096 → Kept (same_name text starts ends) hash_name slots n
-    → Puts (same_name text starts ends) hash_name slots n (name_at text starts ends n)
+    → (end : Walk) → end ≡ walk (same_name text starts ends (name_at text starts ends n)) slots (hash_name (name_at text starts ends n))
+    → Puts (same_name text starts ends) hash_name slots n (name_at text starts ends n) end
 name_puts text starts ends slots n size kept =
     let k = name_at text starts ends n in
     puts (same_name text starts ends) hash_name slots n k kept (λ j e. sym ((same_bytes_lem k j).0 e)) ((same_bytes_lem k k).1 refl) (omega (arith, cut_small (hash_from 0 k)))

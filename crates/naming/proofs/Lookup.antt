@@ -3,13 +3,14 @@ use mathlib.Core.Path.{◌≡◌, refl, sym, ap, subst, ◌∙◌}
 use mathlib.Core.Bool.{Bool, true, false}
 use mathlib.Core.List.{List, [], ◌∷◌}
 use mathlib.Core.Logic.{⊎_elim}
-use mathlib.Core.Option.{Option, some}
+use mathlib.Core.Option.{some}
+use mathlib.Core.Option as maybe
 use Prim.Native.Nat.{ℕ, suc, ◌+◌, ◌≤◌, ◌<◌}
 use native.Mathlib.Omega.{arith}
 use lib.ListN.{length, get_or}
+use Rattle.std.specs.Prelude.{Option}
 use Rattle.rules.specs.Tokens.{same_bytes}
 use Rattle.rules.specs.Naming.{listed_from, listed_at}
-use Rattle.probing.specs.declared.Found.{Found}
 use Rattle.probing.specs.Probing.{first, Kept}
 use Rattle.probing.proofs.First.{below, none_first, at_first}
 use Rattle.names.specs.Names.{same_name, Placed, hash_name}
@@ -31,7 +32,7 @@ first_listed t name (x ∷ names) i each none_before = go (same_bytes x name) re
     past z d h = ⊎_elim (none_before d) (λ l. let same : d ≡ i = omega arith in ap t same ∙ z) (below d i)
 
     go : (b : Bool) → same_bytes x name ≡ b → (t i ≡ false → first t (suc i + length names) ≡ as_found (listed_from (suc i) names name))
-        → first t (i + suc (length names)) ≡ as_found (elim b as (λ y. Option ℕ) [ true ↦ some i | false ↦ listed_from (suc i) names name ])
+        → first t (i + suc (length names)) ≡ as_found (elim b as (λ y. maybe.Option ℕ) [ true ↦ some i | false ↦ listed_from (suc i) names name ])
     go true e rest = at_first t (i + suc (length names)) i (omega arith) (here ∙ e) none_before
     go false e rest = let z : i + suc (length names) ≡ suc i + length names = omega arith in ap (first t) z ∙ rest (here ∙ e)
 
@@ -50,10 +51,9 @@ module _ (text starts ends slots : List ℕ) (names : List (List ℕ)) (listed :
   module _ (count : ℕ) (all : count ≡ length names) where
     -- What `names::find` asks, for the name other[from..to].
     pub find_ready : (other : List ℕ) (from to : ℕ) → from ≤ to → to ≤ length other
-        → (length slots ≡ 4096) × (count ≤ length starts) × Placed text starts ends × (from ≤ to) × (to ≤ length other)
+        → (count ≤ length starts) × Placed text starts ends × (from ≤ to) × (to ≤ length other)
         × Kept (same_name text starts ends) hash_name slots count
     find_ready other from to order inside = (
-      listed.slots_length,
       omega (arith, listed.most, listed.starts_length),
       listed.placed,
       order,
@@ -62,5 +62,5 @@ module _ (text starts ends slots : List ℕ) (names : List (List ℕ)) (listed :
     )
 
     -- What it answers.
-    pub find_listed : (name : List ℕ) (r : Found) → r ≡ first (same_name text starts ends name) count → r ≡ as_found (listed_at names name)
+    pub find_listed : (name : List ℕ) (r : Option ℕ) → r ≡ first (same_name text starts ends name) count → r ≡ as_found (listed_at names name)
     find_listed name r e = e ∙ (ap (first (same_name text starts ends name)) all ∙ listed_first name)

@@ -7,6 +7,8 @@ use Prim.Native.Nat.{ℕ, ◌+◌, ◌≤◌}
 use native.Mathlib.Omega.{arith}
 use lib.Dec.{ltb}
 use lib.ListN.{length}
+use Rattle.std.specs.Prelude.{Ok, Err}
+use Rattle.std.specs.Prelude as code
 use Rattle.rules.specs.declared.Answer.{Answer}
 use Rattle.rules.specs.declared.Answer.TheVariants.{WrongShape}
 use Rattle.rules.specs.declared.Header.{Header}
@@ -15,10 +17,6 @@ use Rattle.rules.specs.Case.{Read}
 use Rattle.rules.specs.Tokens.{no_more}
 use Rattle.rules.specs.Naming.{Names, name_lines, read_names}
 use Rattle.naming.specs.declared.Spot.{Spot}
-use Rattle.naming.specs.declared.Group.{Group}
-use Rattle.naming.specs.declared.Group.TheVariants.{Done, Refused}
-use Rattle.naming.specs.declared.NamesRead.{NamesRead}
-use Rattle.naming.specs.declared.NamesRead.TheVariants.{Read as NamesAre, Refused as NamesRefused}
 use Rattle.naming.specs.Lines.{Left, whole_if, whole_list}
 use Rattle.naming.specs.Listing.{Listed, NamesLeft}
 use Rattle.naming.proofs.Turns.{went, halted, Counts, lines_count}
@@ -47,12 +45,13 @@ module _ (text : List ℕ) (h : Header) where
   unfolding read_names
   names_are = refl
 
-  module _ (g : Group) (ts te tl : List ℕ) (left : Left (Listed text ts te tl) (name_lines text (h.actions + h.compounds) 0 [] 1 0) g) where
-    pub tasks_refused : (a : Answer) → g ≡ Refused a → (s e l ms me ml : List ℕ) → NamesLeft text (read_names h text) (NamesRefused a) s e l ms me ml
-    tasks_refused a e s t l ms me ml =
-        subst (λ (r : Result Names). NamesLeft text r (NamesRefused a) s t l ms me ml) (sym (names_are ∙ ap after_tasks (halted (Listed text ts te tl) task_lines g left a e))) refl
+  module _ (g : code.Result Spot Answer) (ts te tl : List ℕ) (left : Left (Listed text ts te tl) (name_lines text (h.actions + h.compounds) 0 [] 1 0) g) where
+    pub tasks_refused : (a : Answer) → g ≡ Err a → (r : code.Result (Unit {0}) Answer) → r ≡ Err a → (s e l ms me ml : List ℕ)
+        → NamesLeft text (read_names h text) r s e l ms me ml
+    tasks_refused a e r z s t l ms me ml =
+        subst (λ (y : Result Names). NamesLeft text y r s t l ms me ml) (sym (names_are ∙ ap after_tasks (halted (Listed text ts te tl) task_lines g left a e))) z
 
-    module _ (next : Spot) (e : g ≡ Done next) where
+    module _ (next : Spot) (e : g ≡ Ok next) where
       w : (tasks : List (List ℕ)) × (task_lines ≡ found (tasks, next.line, next.at)) × Listed text ts te tl tasks
       w = went (Listed text ts te tl) task_lines g left next e
 
@@ -65,13 +64,14 @@ module _ (text : List ℕ) (h : Header) where
       names_then : read_names h text ≡ after_methods w.0 (method_lines next.line next.at)
       names_then = names_are ∙ ap after_tasks w.1
 
-      module _ (g' : Group) (ms me ml : List ℕ) (left' : Left (Listed text ms me ml) (name_lines text h.methods 0 [] next.line next.at) g') where
-        pub methods_refused : (a : Answer) → g' ≡ Refused a → (s t l s' t' l' : List ℕ) → NamesLeft text (read_names h text) (NamesRefused a) s t l s' t' l'
-        methods_refused a q s t l s' t' l' =
-            subst (λ (r : Result Names). NamesLeft text r (NamesRefused a) s t l s' t' l')
-            (sym (names_then ∙ ap (after_methods w.0) (halted (Listed text ms me ml) (method_lines next.line next.at) g' left' a q))) refl
+      module _ (g' : code.Result Spot Answer) (ms me ml : List ℕ) (left' : Left (Listed text ms me ml) (name_lines text h.methods 0 [] next.line next.at) g') where
+        pub methods_refused : (a : Answer) → g' ≡ Err a → (r : code.Result (Unit {0}) Answer) → r ≡ Err a → (s t l s' t' l' : List ℕ)
+            → NamesLeft text (read_names h text) r s t l s' t' l'
+        methods_refused a q r z s t l s' t' l' =
+            subst (λ (y : Result Names). NamesLeft text y r s t l s' t' l')
+            (sym (names_then ∙ ap (after_methods w.0) (halted (Listed text ms me ml) (method_lines next.line next.at) g' left' a q))) z
 
-        pub names_left : (end : Spot) → g' ≡ Done end → (r : NamesRead) → r ≡ whole_list text end → NamesLeft text (read_names h text) r ts te tl ms me ml
+        pub names_left : (end : Spot) → g' ≡ Ok end → (r : code.Result (Unit {0}) Answer) → r ≡ whole_list text end → NamesLeft text (read_names h text) r ts te tl ms me ml
         unfolding no_more
         names_left end q r whole =
             subst (λ (y : Result Names). NamesLeft text y r ts te tl ms me ml) (sym (names_then ∙ ap (after_methods w.0) v.1)) (go (ltb end.at (length text)) whole)
@@ -91,20 +91,20 @@ module _ (text : List ℕ) (h : Header) where
 
 module _ (text : List ℕ) (r : Result Names) (ts te tl ms me ml : List ℕ) where
   -- The names are read.
-  pub names_read : NamesLeft text r NamesAre ts te tl ms me ml
+  pub names_read : NamesLeft text r (Ok tt) ts te tl ms me ml
       → (ns : Names) × (r ≡ found ns) × Listed text ts te tl ns.tasks × Listed text ms me ml ns.methods
   names_read left = go r refl left
     where
-      go : (y : Result Names) → r ≡ y → NamesLeft text y NamesAre ts te tl ms me ml
+      go : (y : Result Names) → r ≡ y → NamesLeft text y (Ok tt) ts te tl ms me ml
           → (ns : Names) × (r ≡ found ns) × Listed text ts te tl ns.tasks × Listed text ms me ml ns.methods
       go (found ns) e h = (ns, e, h.1, h.2)
       go (refused a) e h = apart (cc)
 
   -- They are refused.
-  pub names_refused : (a : Answer) → NamesLeft text r (NamesRefused a) ts te tl ms me ml → r ≡ refused a
+  pub names_refused : (a : Answer) → NamesLeft text r (Err a) ts te tl ms me ml → r ≡ refused a
   names_refused a left = go r refl left
     where
-      go : (y : Result Names) → r ≡ y → NamesLeft text y (NamesRefused a) ts te tl ms me ml → r ≡ refused a
+      go : (y : Result Names) → r ≡ y → NamesLeft text y (Err a) ts te tl ms me ml → r ≡ refused a
       go (found ns) e h = let z = h.0 in apart (cc)
       go (refused b) e h = let q : b ≡ a = cc in e ∙ ap refused q
 

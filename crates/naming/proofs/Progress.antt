@@ -7,8 +7,10 @@ use Prim.Native.Nat.{ℕ, zero, suc, ◌+◌, ◌-◌, ◌≤◌, ◌<◌}
 use native.Mathlib.Numerals.{add-one}
 use native.Mathlib.Omega.{arith}
 use lib.ListN.{length, get_or}
+use Rattle.std.specs.Prelude.{Ok, Err}
+use Rattle.std.specs.Prelude as code
 use Rattle.rules.specs.declared.Answer.{Answer}
-use Rattle.rules.specs.Result.{found, refused, ◌>>=◌, ◌>>◌}
+use Rattle.rules.specs.Result.{found, refused, ◌>>=◌}
 use Rattle.rules.specs.Case.{Read}
 use Rattle.rules.specs.Naming.{name_lines}
 use Rattle.probing.specs.Probing.{Kept}
@@ -17,8 +19,6 @@ use Rattle.probing.proofs.Tables.{empty}
 use Rattle.names.specs.Names.{name_at, same_name, hash_name}
 use Rattle.names.proofs.Keys.{zeros_placed}
 use Rattle.naming.specs.declared.Spot.{Spot}
-use Rattle.naming.specs.declared.Group.{Group}
-use Rattle.naming.specs.declared.Group.TheVariants.{Done, Refused}
 use Rattle.naming.specs.Lines.{earlier_names, Entered, one_name, NextName, Left}
 use Rattle.naming.specs.Listing.{Blank, Listed}
 use Rattle.naming.proofs.Turns.{went, halted, others, lines_by_one, Follows, one_follows}
@@ -74,9 +74,9 @@ module _ (text : List ℕ) (count : ℕ) (from : Spot) where
     pub same : name_lines text count 0 [] from.line from.at
         ≡ read_before (earlier_names text starts ends i) (name_lines text (count - i) i (earlier_names text starts ends i) at.line at.at)
 
-  pub begins : (starts ends slots cleared : List ℕ) → Blank starts ends slots → length cleared ≡ length slots → ((e : ℕ) → get_or cleared e 0 ≡ 0)
+  pub begins : (starts ends cleared : List ℕ) → Blank starts ends → ((e : ℕ) → get_or cleared e 0 ≡ 0)
       → Progress starts ends cleared from 0
-  begins starts ends slots cleared blank size zeros =
+  begins starts ends cleared blank zeros =
       record {
         most = omega arith;
         line = omega arith;
@@ -84,7 +84,6 @@ module _ (text : List ℕ) (count : ℕ) (from : Spot) where
           placed = zeros_placed text starts ends (blank.ends_length ∙ sym blank.starts_length) blank.starts_zero blank.ends_zero;
           kept = empty (same_name text starts ends) hash_name cleared zeros;
           starts_length = blank.starts_length;
-          slots_length = size ∙ blank.slots_length;
         };
         same = go (count - 0) (omega arith);
       }
@@ -97,20 +96,11 @@ module _ (text : List ℕ) (count : ℕ) (from : Spot) where
       go k e = plain all ∙ ap (λ (j : ℕ). read_before [] (name_lines text j 0 [] from.line from.at)) e
 
   module _ (starts ends slots : List ℕ) (at : Spot) (i : ℕ) (p : Progress starts ends slots at i) where
-    -- The lists keep their lengths.
-    pub sizes : (starts₀ ends₀ slots₀ : List ℕ) → Blank starts₀ ends₀ slots₀
-        → (length starts ≡ length starts₀) × (length ends ≡ length ends₀) × (length slots ≡ length slots₀)
-    sizes starts₀ ends₀ slots₀ blank = (
-      p.entered.starts_length ∙ sym blank.starts_length,
-      p.entered.placed.pairs ∙ (p.entered.starts_length ∙ sym blank.ends_length),
-      p.entered.slots_length ∙ sym blank.slots_length,
-    )
-
     -- The earlier names.
     abbrev those : List (List ℕ)
     those = earlier_names text starts ends i
 
-    module _ (more : i < count) (g : Group) (starts' ends' slots' : List ℕ)
+    module _ (more : i < count) (g : code.Result Spot Answer) (starts' ends' slots' : List ℕ)
         (h : Left (NextName text starts ends i starts' ends' slots') (one_name text i (earlier_names text starts ends i) at.line at.at) g) where
       abbrev one : Read (List ℕ)
       one = one_name text i those at.line at.at
@@ -123,16 +113,16 @@ module _ (text : List ℕ) (count : ℕ) (from : Spot) where
           ∙ ap (read_before those)
           (ap (λ (k : ℕ). name_lines text k i those at.line at.at) left ∙ lines_by_one text i those at.line at.at (count - (i + 1)))
 
-      pub stops : (a : Answer) → g ≡ Refused a → (s e l : List ℕ) → Left (Listed text s e l) all (Refused a)
-      stops a e s t l =
-          subst (λ (r : Read (List (List ℕ))). Left (Listed text s t l) r (Refused a))
+      pub stops : (a : Answer) → g ≡ Err a → (r : code.Result Spot Answer) → r ≡ Err a → (s e l : List ℕ) → Left (Listed text s e l) all r
+      stops a e r z s t l =
+          subst (λ (y : Read (List (List ℕ))). Left (Listed text s t l) y r)
           (sym
           (split
           ∙ ap (λ (r : Read (List ℕ)). read_before those (r >>= λ (name, n, place). others text i those at.line at.at (count - (i + 1)) name n place))
           (halted (NextName text starts ends i starts' ends' slots') one g h a e)))
-          refl
+          z
 
-      pub goes_on_lem : (s : Spot) → g ≡ Done s → Progress starts' ends' slots' s (i + 1)
+      pub goes_on_lem : (s : Spot) → g ≡ Ok s → Progress starts' ends' slots' s (i + 1)
       goes_on_lem s e =
           subst (Progress starts' ends' slots' s) (sym (add-one i))
           record {
@@ -156,10 +146,10 @@ module _ (text : List ℕ) (count : ℕ) (from : Spot) where
           moved (found (names, n, place)) = refl
           moved (refused a) = refl
 
-    pub ends_here : count ≤ i → i ≤ 2048 → Left (Listed text starts ends slots) all (Done at)
+    pub ends_here : count ≤ i → i ≤ 2048 → Left (Listed text starts ends slots) all (Ok at)
     ends_here over few =
         let none : count - i ≡ 0 = omega arith in
-        subst (λ (r : Read (List (List ℕ))). Left (Listed text starts ends slots) r (Done at))
+        subst (λ (r : Read (List (List ℕ))). Left (Listed text starts ends slots) r (Ok at))
         (sym (p.same ∙ ap (λ (k : ℕ). read_before those (name_lines text k i those at.line at.at)) none)) (refl, listed)
       where
         size : length (before those []) ≡ i
@@ -172,5 +162,4 @@ module _ (text : List ℕ) (count : ℕ) (from : Spot) where
           kept = subst (Kept (same_name text starts ends) hash_name slots) (sym size) p.entered.kept;
           most = omega (arith, size);
           starts_length = p.entered.starts_length;
-          slots_length = p.entered.slots_length;
         }

@@ -3,16 +3,17 @@ use mathlib.Core.Path.{◌≡◌, refl, sym, ap, ◌∙◌}
 use mathlib.Core.Bool.{Bool, true, false, ◌&&◌}
 use mathlib.Core.List.{List, [], ◌∷◌}
 use mathlib.Core.Option.{Option, none, some}
-use Prim.Native.Nat.{ℕ, ◌+◌, ◌-◌, ◌≤◌, ◌<◌}
+use Prim.Native.Nat.{ℕ, ◌+◌, ◌≤◌, ◌<◌}
 use native.Mathlib.Omega.{arith}
 use borrow.Author.Tests.{eq-eqb, ne_eqb, eqb-true, eqb-false, le-ltb, lt-ltb}
 use lib.Dec.{eqb, ltb}
 use lib.ListN.{length, get_or, drop}
+use Rattle.std.specs.Prelude.{None, Some}
 use Rattle.rules.specs.Text.{is_comma, is_digit, is_plain, value_of, number_in, feed_follows}
 use Rattle.rules.specs.Faults.{onto, pieces}
 use Rattle.rules.specs.Tokens.{in_name, is_name, line_of}
 use Rattle.rules.specs.Naming.{name_for}
-use Rattle.tokens.specs.declared.Plain.TheVariants.{Number as PlainNumber, Other as PlainOther}
+use Rattle.tokens.specs.declared.Plain.{Plain}
 use Rattle.tokens.specs.Pieces.{piece_from, as_plain, name_end}
 use Rattle.tokens.proofs.Pieces.{ends_by}
 use Rattle.tokens.proofs.Lines.{parts, piece_end, line_end, pieces_at, end_stops, end_inside, line_last, line_more}
@@ -90,31 +91,31 @@ module _ (t : List ℕ) (i p : ℕ) (f : feed_follows t p ≡ true) where
           let feed = ends_by 44 (get_or t (piece_end 44 t p) 0) (end_stops 44 t p f) (eqb-false (get_or t (piece_end 44 t p) 0) 44 e) in
           due_is ∙ (ap (name_for i) (line_last 44 t p f comma_feed feed).0 ∙ wrong_number i (piece_from 44 t p) [] h)
 
-  pub no_number : PlainOther ≡ as_plain (number_in p (piece_from 44 t p)) → name_due t i p ≡ none
+  pub no_number : None ≡ as_plain (number_in p (piece_from 44 t p)) → name_due t i p ≡ none
   no_number e =
       first_fails
       (λ name. ap (λ (x : Bool). x && (eqb (value_of 0 (piece_from 44 t p)) i && is_name name)) (other_told p (piece_from 44 t p) e))
 
-  module _ (v next : ℕ) (e : PlainNumber v next ≡ as_plain (number_in p (piece_from 44 t p))) where
-    ends : next ≡ piece_end 44 t p
+  module _ {number : Plain} (e : Some number ≡ as_plain (number_in p (piece_from 44 t p))) where
+    ends : number.next ≡ piece_end 44 t p
     ends = (number_told p (piece_from 44 t p) e).ends
 
-    pub next_inside : next < length t
+    pub next_inside : number.next < length t
     next_inside = omega (arith, ends, end_inside 44 t p f)
 
-    pub another_number : (v ≡ i → ⊥) → name_due t i p ≡ none
+    pub another_number : (number.value ≡ i → ⊥) → name_due t i p ≡ none
     another_number n =
         first_fails
         (λ name. and_no (is_plain (piece_from 44 t p)) (eqb (value_of 0 (piece_from 44 t p)) i && is_name name)
         (ap (λ (x : Bool). x && is_name name) (ne_eqb (value_of 0 (piece_from 44 t p)) i (λ q. n ((number_told p (piece_from 44 t p) e).worth ∙ q)))))
 
-    pub no_comma : (get_or t next 0 ≡ 44 → ⊥) → name_due t i p ≡ none
+    pub no_comma : (get_or t number.next 0 ≡ 44 → ⊥) → name_due t i p ≡ none
     no_comma n =
         let feed = ends_by 44 (get_or t (piece_end 44 t p) 0) (end_stops 44 t p f) (λ q. n (ap (λ (j : ℕ). get_or t j 0) ends ∙ q)) in
         due_is ∙ ap (name_for i) (line_last 44 t p f comma_feed feed).0
 
-    module _ (same : v ≡ i) (comma : get_or t next 0 ≡ 44) where
-      more : (pieces_at 44 t p ≡ piece_from 44 t p ∷ pieces_at 44 t (next + 1)) × (line_end t p ≡ line_end t (next + 1)) × (feed_follows t (next + 1) ≡ true)
+    module _ (same : number.value ≡ i) (comma : get_or t number.next 0 ≡ 44) where
+      more : (pieces_at 44 t p ≡ piece_from 44 t p ∷ pieces_at 44 t (number.next + 1)) × (line_end t p ≡ line_end t (number.next + 1)) × (feed_follows t (number.next + 1) ≡ true)
       more =
           let q = line_more 44 t p f comma_feed (ap (λ (j : ℕ). get_or t j 0) (sym ends) ∙ comma) in (
             q.0 ∙ ap (λ (j : ℕ). piece_from 44 t p ∷ pieces_at 44 t (j + 1)) (sym ends),
@@ -122,60 +123,59 @@ module _ (t : List ℕ) (i p : ℕ) (f : feed_follows t p ≡ true) where
             ap (λ (j : ℕ). feed_follows t (j + 1)) ends ∙ q.2,
           )
 
-      pub name_feeds : feed_follows t (next + 1) ≡ true
+      pub name_feeds : feed_follows t (number.next + 1) ≡ true
       name_feeds = more.2
 
       -- The two pieces of a line that the name ends.
-      two : get_or t (piece_end 44 t (next + 1)) 0 ≡ 10 → name_due t i p ≡ name_by (is_name (piece_from 44 t (next + 1))) (piece_from 44 t (next + 1))
+      two : get_or t (piece_end 44 t (number.next + 1)) 0 ≡ 10 → name_due t i p ≡ name_by (is_name (piece_from 44 t (number.next + 1))) (piece_from 44 t (number.next + 1))
       two feed =
           let told = number_told p (piece_from 44 t p) e in
           due_is
-          ∙ (ap (name_for i) (more.0 ∙ ap (λ (ps : List (List ℕ)). piece_from 44 t p ∷ ps) (line_last 44 t (next + 1) name_feeds comma_feed feed).0)
-          ∙ ap (λ (x : Bool). name_by x (piece_from 44 t (next + 1)))
-          (ap (λ (x : Bool). x && (eqb (value_of 0 (piece_from 44 t p)) i && is_name (piece_from 44 t (next + 1)))) told.plain
-          ∙ ap (λ (x : Bool). x && is_name (piece_from 44 t (next + 1))) (eq-eqb (value_of 0 (piece_from 44 t p)) i (sym told.worth ∙ same))))
+          ∙ (ap (name_for i) (more.0 ∙ ap (λ (ps : List (List ℕ)). piece_from 44 t p ∷ ps) (line_last 44 t (number.next + 1) name_feeds comma_feed feed).0)
+          ∙ ap (λ (x : Bool). name_by x (piece_from 44 t (number.next + 1)))
+          (ap (λ (x : Bool). x && (eqb (value_of 0 (piece_from 44 t p)) i && is_name (piece_from 44 t (number.next + 1)))) told.plain
+          ∙ ap (λ (x : Bool). x && is_name (piece_from 44 t (number.next + 1))) (eq-eqb (value_of 0 (piece_from 44 t p)) i (sym told.worth ∙ same))))
 
       -- The name is followed by a comma: the line has a third piece.
-      third : (get_or t (piece_end 44 t (next + 1)) 0 ≡ 10 → ⊥) → name_due t i p ≡ none
-      third n = go (eqb (get_or t (piece_end 44 t (next + 1)) 0) 44) refl
+      third : (get_or t (piece_end 44 t (number.next + 1)) 0 ≡ 10 → ⊥) → name_due t i p ≡ none
+      third n = go (eqb (get_or t (piece_end 44 t (number.next + 1)) 0) 44) refl
         where
-          go : (x : Bool) → eqb (get_or t (piece_end 44 t (next + 1)) 0) 44 ≡ x → name_due t i p ≡ none
+          go : (x : Bool) → eqb (get_or t (piece_end 44 t (number.next + 1)) 0) 44 ≡ x → name_due t i p ≡ none
           go true q =
-              let rest = line_more 44 t (next + 1) name_feeds comma_feed (eqb-true (get_or t (piece_end 44 t (next + 1)) 0) 44 q) in
+              let rest = line_more 44 t (number.next + 1) name_feeds comma_feed (eqb-true (get_or t (piece_end 44 t (number.next + 1)) 0) 44 q) in
               due_is
               ∙ (ap (name_for i) (more.0 ∙ ap (λ (ps : List (List ℕ)). piece_from 44 t p ∷ ps) rest.0)
-              ∙ too_many i (piece_from 44 t p) (piece_from 44 t (next + 1)) (parts 44) (line_of (drop (piece_end 44 t (next + 1) + 1) t)))
+              ∙ too_many i (piece_from 44 t p) (piece_from 44 t (number.next + 1)) (parts 44) (line_of (drop (piece_end 44 t (number.next + 1) + 1) t)))
           go false q =
               absurd
-              (n (ends_by 44 (get_or t (piece_end 44 t (next + 1)) 0) (end_stops 44 t (next + 1) name_feeds) (eqb-false (get_or t (piece_end 44 t (next + 1)) 0) 44 q)))
+              (n (ends_by 44 (get_or t (piece_end 44 t (number.next + 1)) 0) (end_stops 44 t (number.next + 1) name_feeds) (eqb-false (get_or t (piece_end 44 t (number.next + 1)) 0) 44 q)))
 
-      module _ (to : ℕ) (at : to ≡ name_end (next + 1) (piece_from 44 t (next + 1))) where
-        pub no_name : to ≤ next + 1 → name_due t i p ≡ none
-        no_name h = go (eqb (get_or t (piece_end 44 t (next + 1)) 0) 10) refl
-          where
-            go : (x : Bool) → eqb (get_or t (piece_end 44 t (next + 1)) 0) 10 ≡ x → name_due t i p ≡ none
-            go true q =
-                two (eqb-true (get_or t (piece_end 44 t (next + 1)) 0) 10 q)
-                ∙ ap (λ (x : Bool). name_by x (piece_from 44 t (next + 1))) (no_name_told (next + 1) (piece_from 44 t (next + 1)) (omega arith))
-            go false q = third (eqb-false (get_or t (piece_end 44 t (next + 1)) 0) 10 q)
+      pub no_name : None ≡ name_end (number.next + 1) (piece_from 44 t (number.next + 1)) → name_due t i p ≡ none
+      no_name at = go (eqb (get_or t (piece_end 44 t (number.next + 1)) 0) 10) refl
+        where
+          go : (x : Bool) → eqb (get_or t (piece_end 44 t (number.next + 1)) 0) 10 ≡ x → name_due t i p ≡ none
+          go true q =
+              two (eqb-true (get_or t (piece_end 44 t (number.next + 1)) 0) 10 q)
+              ∙ ap (λ (x : Bool). name_by x (piece_from 44 t (number.next + 1))) (no_name_told (number.next + 1) (piece_from 44 t (number.next + 1)) at)
+          go false q = third (eqb-false (get_or t (piece_end 44 t (number.next + 1)) 0) 10 q)
 
-        module _ (h : next + 1 < to) where
-          told : (is_name (piece_from 44 t (next + 1)) ≡ true) × (to ≡ piece_end 44 t (next + 1))
-          told = let q = name_told (next + 1) (piece_from 44 t (next + 1)) (omega arith) in (q.0, at ∙ q.1)
+      module _ (to : ℕ) (at : Some to ≡ name_end (number.next + 1) (piece_from 44 t (number.next + 1))) where
+        told : (is_name (piece_from 44 t (number.next + 1)) ≡ true) × (to ≡ piece_end 44 t (number.next + 1))
+        told = name_told (number.next + 1) (piece_from 44 t (number.next + 1)) at
 
-          pub end_in : to < length t
-          end_in = omega (arith, told.1, end_inside 44 t (next + 1) name_feeds)
+        pub end_in : to < length t
+        end_in = omega (arith, told.1, end_inside 44 t (number.next + 1) name_feeds)
 
-          pub more_after : (get_or t to 0 ≡ 10 → ⊥) → name_due t i p ≡ none
-          more_after n = third (λ q. n (ap (λ (j : ℕ). get_or t j 0) told.1 ∙ q))
+        pub more_after : (get_or t to 0 ≡ 10 → ⊥) → name_due t i p ≡ none
+        more_after n = third (λ q. n (ap (λ (j : ℕ). get_or t j 0) told.1 ∙ q))
 
-          pub lists : get_or t to 0 ≡ 10 → Lists t i p (next + 1) to
-          lists feed =
-              let here = ap (λ (j : ℕ). get_or t j 0) (sym told.1) ∙ feed in
-              record {
-                name = two here
-                    ∙ (ap (λ (x : Bool). name_by x (piece_from 44 t (next + 1))) told.0 ∙ ap some (piece_slice 44 t (next + 1) to told.1));
-                ends = more.1 ∙ ((line_last 44 t (next + 1) name_feeds comma_feed here).1 ∙ sym told.1);
-                order = omega arith;
-                inside = end_in;
-              }
+        pub lists : get_or t to 0 ≡ 10 → Lists t i p (number.next + 1) to
+        lists feed =
+            let here = ap (λ (j : ℕ). get_or t j 0) (sym told.1) ∙ feed in
+            record {
+              name = two here
+                  ∙ (ap (λ (x : Bool). name_by x (piece_from 44 t (number.next + 1))) told.0 ∙ ap some (piece_slice 44 t (number.next + 1) to told.1));
+              ends = more.1 ∙ ((line_last 44 t (number.next + 1) name_feeds comma_feed here).1 ∙ sym told.1);
+              order = omega (arith, told.1);
+              inside = end_in;
+            }

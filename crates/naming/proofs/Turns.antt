@@ -7,6 +7,9 @@ use mathlib.Core.Option.{Option, none, some}
 use Prim.Native.Nat.{ℕ, zero, suc, ◌+◌}
 use native.Mathlib.Omega.{arith}
 use lib.ListN.{length, drop}
+use Rattle.std.specs.Prelude.{Ok, Err, IsErr, IsErrAnd}
+use Rattle.std.proofs.lemmas.Result.{err_from_is_err_and}
+use Rattle.std.specs.Prelude as code
 use Rattle.rules.specs.declared.Answer.{Answer}
 use Rattle.rules.specs.declared.Answer.TheVariants.{WrongShape}
 use Rattle.rules.specs.Result.{Result, found, refused, ◌>>=◌, ◌>>◌}
@@ -16,8 +19,6 @@ use Rattle.rules.specs.Faults.{pieces}
 use Rattle.rules.specs.Tokens.{line_of, due_line, shaped}
 use Rattle.rules.specs.Naming.{name_for, not_again, name_lines}
 use Rattle.naming.specs.declared.Spot.{Spot}
-use Rattle.naming.specs.declared.Group.{Group}
-use Rattle.naming.specs.declared.Group.TheVariants.{Done, Refused}
 use Rattle.naming.specs.Lines.{spot, one_name, Left}
 
 apart : {A : Type 0} → ◌≡◌ {A = ℕ} 0 1 → A
@@ -25,9 +26,13 @@ apart z = absurd (omega arith)
 
 -- ---- By the code's answer
 
+-- What a `?` passes on.
+pub passed_on : {A : Type 0} {x : Answer} (r : code.Result A Answer) → IsErr r × IsErrAnd r (λ y. y ≡ x) → r ≡ Err x
+passed_on r h = let e = err_from_is_err_and r h.1 in e.1 ∙ ap Err e.2
+
 module _ {A : Type 0} (known : A → Type 0) where
   -- It goes on at a spot.
-  pub went : (r : Read A) (g : Group) → Left known r g → (s : Spot) → g ≡ Done s → (a : A) × (r ≡ found (a, s.line, s.at)) × known a
+  pub went : (r : Read A) (g : code.Result Spot Answer) → Left known r g → (s : Spot) → g ≡ Ok s → (a : A) × (r ≡ found (a, s.line, s.at)) × known a
   went (found (a, n, place)) g h s e =
       let w = sym h.0 ∙ e in
       let q : spot n place ≡ s = cc in
@@ -35,7 +40,7 @@ module _ {A : Type 0} (known : A → Type 0) where
   went (refused x) g h s e = let w = sym h ∙ e in apart (cc)
 
   -- It refuses the text.
-  pub halted : (r : Read A) (g : Group) → Left known r g → (x : Answer) → g ≡ Refused x → r ≡ refused x
+  pub halted : (r : Read A) (g : code.Result Spot Answer) → Left known r g → (x : Answer) → g ≡ Err x → r ≡ refused x
   halted (found (a, n, place)) g h x e = let w = sym h.0 ∙ e in apart (cc)
   halted (refused y) g h x e = let w = sym h ∙ e in let q : y ≡ x = cc in ap refused q
 

@@ -10,7 +10,7 @@ ghost use Rattle.rules.specs.Print.{line_text, lines_text};
 ghost use Rattle.rules.specs.Verdict.{filled};
 ghost use Rattle.output.specs.Output.{HasLines};
 
-// How many digits a number has.
+// How many digits a number has. By tests in order, and by no logarithm: most numbers have one digit or two, so that the first tests answer.
 fn digits(n: u32) -> usize
     ensures { result ≡ length (decimal n) }
 {
@@ -41,7 +41,7 @@ fn digits(n: u32) -> usize
     if n < 1000000000 { 9 } else { 10 }
 }
 
-// A number of any length at a place, its last digit first; answers the place after it.
+// A number of any length at a place, its last digit first; answers the place after it. A `while`: it ends where one digit is left.
 fn put_long(n: u32, at: usize, out: &mut [u8]) -> usize
     requires { at + length (decimal n) ≤ length out.old }
     ensures { (out.new ≡ sets out.old at (decimal n)) × (result ≡ at + length (decimal n)) }
@@ -91,11 +91,9 @@ fn put_line(fields: &[u32], at: usize, end: usize, to: usize, out: &mut [u8]) ->
 {
     out[to] = fields[at] as u8;
     let mut past = to + 1;
-    let mut i = at + 1;
-    while i < end {
+    for i in at + 1..end {
         out[past] = b',';
         past = put_number(fields[i], past + 1, out);
-        i += 1;
     }
     out[past] = b'\n';
     past + 1
@@ -107,15 +105,13 @@ fn measure_line(fields: &[u32], at: usize, end: usize) -> usize
     ensures { result ≡ length (line_text (slice at end fields.now)) }
 {
     let mut size: usize = 2;
-    let mut i = at + 1;
-    while i < end {
+    for i in at + 1..end {
         size += 1 + digits(fields[i]);
-        i += 1;
     }
     size
 }
 
-// How many bytes the text of the first `end` fields has.
+// How many bytes the text of the first `end` fields has. A `while`: the place moves on by as many fields as a line has.
 pub fn measure(fields: &[u32], end: usize, cues: u32) -> usize
     requires has_lines { (xs : List Valued) × HasLines cues fields.now end xs }
     requires end_bound { end ≤ 65536 }
@@ -132,7 +128,7 @@ pub fn measure(fields: &[u32], end: usize, cues: u32) -> usize
     size
 }
 
-// The text of the first `end` fields, from the output's start on; answers where it ends.
+// The text of the first `end` fields, from the output's start on; answers where it ends. A `while`, as in `measure`.
 fn put_lines(fields: &[u32], end: usize, cues: u32, out: &mut [u8]) -> usize
     requires { (xs : List Valued) × HasLines cues fields.now end xs × (length (lines_text xs) ≤ length out.old) }
     ensures { (xs : List Valued) → HasLines cues fields.now end xs → (out.new ≡ sets out.old 0 (lines_text xs)) × (result ≡ length (lines_text xs)) }
@@ -152,18 +148,14 @@ fn clear_from(from: usize, out: &mut [u8])
     requires { from ≤ length out.old }
     ensures { out.new ≡ sets out.old from (replicate (length out.old - from) 0) }
 {
-    let mut i = from;
-    while i < out.len() {
-        out[i] = 0;
-        i += 1;
-    }
+    out[from..].fill(0);
 }
 
-// The output, zero throughout.
+// The output, zero throughout: `fill` at bytes, as `rows::clear` is at words.
 pub fn clear(out: &mut [u8])
     ensures { out.new ≡ replicate (length out.old) 0 }
 {
-    clear_from(0, out);
+    out.fill(0);
 }
 
 // The text of the first `end` fields: "output past the text is zero". Answers its length.
@@ -181,11 +173,7 @@ fn copy(text: &[u8], out: &mut [u8])
     requires { length text.now ≤ length out.old }
     ensures { out.new ≡ sets out.old 0 text.now }
 {
-    let mut i: usize = 0;
-    while i < text.len() {
-        out[i] = text[i];
-        i += 1;
-    }
+    out[..text.len()].copy_from_slice(text);
 }
 
 // A text as it is, and zero past it.

@@ -1,4 +1,5 @@
-// The spans of a task's parts, from the rows that the walk left in the work space.
+// The spans of a task's parts, from the rows that the walk left in the work space: three numbers a node, since what a caller in C lends has
+// numbers alone.
 ghost use Rattle.std.specs.Prelude.{◌≡◌, ◌+◌, ◌≤◌, length};
 ghost use Rattle.std.proofs.lemmas.List.Edits.{sets};
 ghost use Rattle.rules.specs.Index.{part_of, span_of_part};
@@ -41,12 +42,9 @@ pub fn subtask_nodes(work: &mut [u32], n: u32, count: u32)
     ensures { work.new ≡ sets work.old subtasks_from (siblings work.old (n + 1) count) }
 {
     let mut at = n + 1;
-    let mut i: u32 = 0;
-    while i < count {
-        let put = SUBTASKS + i as usize;
-        work[put] = at;
+    for i in 0..count as usize {
+        work[SUBTASKS + i] = at;
         at = after_at(work, at);
-        i += 1;
     }
 }
 
@@ -61,7 +59,8 @@ pub fn subtask_span(work: &[u32], j: u32) -> Span
 }
 
 // The span of a set of subtasks, of a task whose own span is `own`: "0 is the whole task. To get a set's start and end, take its lowest
-// subtask, then the rest." Trailing zeros give the lowest subtask's number; ones give how many members remain.
+// subtask, then the rest." Trailing zeros give the lowest subtask's number; ones give how many members remain. A `while`: the set itself tells
+// the next member.
 pub fn span_of_set(work: &[u32], own: Span, u: u32) -> Span
     requires subtasks_past_in_bounds { subtasks_past ≤ length work.now }
     requires each { Each (SubtaskInside work.now) (members_of u) }

@@ -6,14 +6,12 @@ use mathlib.Core.List.{List, [], ◌∷◌}
 use mathlib.Core.Logic.{⊎_elim}
 use Prim.Native.Nat.{ℕ, zero, suc, ◌+◌, ◌-◌, ◌≤◌, ◌<◌}
 use native.Mathlib.Omega.{arith}
-use lib.ListN.{length, get_or, set, length-set, get_or-eq_default}
-use lib.Seq.{get_or-set_same, get_or-set_other}
+use lib.ListN.{length, get_or, set, length-set}
+use Rattle.std.specs.Prelude.{Option, None, Some}
 use Rattle.probing.specs.declared.Look.{Look}
 use Rattle.probing.specs.declared.Walk.{Walk}
 use Rattle.probing.specs.declared.Walk.TheVariants.{Hit, Free, Full}
-use Rattle.probing.specs.declared.Found.{Found}
-use Rattle.probing.specs.declared.Found.TheVariants.{At, Nothing}
-use Rattle.probing.specs.Probing.{earlier, first, spot_of, looked, look_of, turn, walk_from, walk, answer, used, Kept}
+use Rattle.probing.specs.Probing.{earlier, first, spot_of, looked, look_of, turn, walk_from, walk, answer, with_entry, used, Kept}
 use Rattle.probing.proofs.First.{below, nothing_not_at, first_none, first_agree}
 use Rattle.probing.proofs.Walks.{spot_on, spot_over, free_zero, keeps_hit, stored_hit, never, full_none, free_in}
 
@@ -45,7 +43,7 @@ used_all (suc x ∷ l) none = ap suc (used_all l (λ i h. none (suc i) (omega ar
 set_walk : (t : ℕ → Bool) (slots : List ℕ) (h q v : ℕ) → walk t (set slots q v) h ≡ walk_from t (set slots q v) (length slots) h (length slots) 0
 set_walk t slots h q v = ap (λ (m : ℕ). walk_from t (set slots q v) m h m 0) (length-set slots q v)
 
-answer_at : (w : Walk) (e : ℕ) → answer w ≡ At e → w ≡ Hit e
+answer_at : (w : Walk) (e : ℕ) → answer w ≡ Some e → w ≡ Hit e
 answer_at (Hit x) e p = cc
 answer_at (Free q) e p = nothing_not_at e p
 answer_at Full e p = nothing_not_at e p
@@ -74,10 +72,10 @@ module _ {K : Type 0} (same : K → ℕ → Bool) (hash : K → ℕ) (slots : Li
     known : (e : ℕ) → walk (same k₀) slots (hash k₀) ≡ Hit e → Kept same hash slots (suc n)
     known e w = record { finds = λ k. kept.finds k ∙ go k (first (same k) n) refl (same k n) refl; low = λ i. omega (arith, kept.low i); room = omega (arith, kept.room) }
       where
-        go : (k : K) (r : Found) → first (same k) n ≡ r → (b : Bool) → same k n ≡ b → first (same k) n ≡ earlier (first (same k) n) (same k n) n
-        go k (At x) p b s = p ∙ ap (λ (y : Found). earlier y (same k n) n) (sym p)
-        go k Nothing p false s = p ∙ ap (λ (y : Bool). earlier Nothing y n) (sym s) ∙ ap (λ (y : Found). earlier y (same k n) n) (sym p)
-        go k Nothing p true s =
+        go : (k : K) (r : Option ℕ) → first (same k) n ≡ r → (b : Bool) → same k n ≡ b → first (same k) n ≡ earlier (first (same k) n) (same k n) n
+        go k (Some x) p b s = p ∙ ap (λ (y : Option ℕ). earlier y (same k n) n) (sym p)
+        go k None p false s = p ∙ ap (λ (y : Bool). earlier None y n) (sym s) ∙ ap (λ (y : Option ℕ). earlier y (same k n) n) (sym p)
+        go k None p true s =
             nothing_not_at e (sym p ∙ ap (λ (y : K). first (same y) n) (only k s) ∙ sym (kept.finds k₀) ∙ ap answer w)
 
     -- A new key: its entry goes to the free slot that the walk met.
@@ -98,20 +96,20 @@ module _ {K : Type 0} (same : K → ℕ → Bool) (hash : K → ℕ) (slots : Li
         new : answer (walk (same k₀) (set slots q (suc n)) (hash k₀)) ≡ earlier (first (same k₀) n) (same k₀ n) n
         new =
             ap answer (set_walk (same k₀) slots (hash k₀) q (suc n) ∙ stored_hit (same k₀) slots (length slots) (hash k₀) q n zeroed (free_spot h q w) b (length slots) 0 w)
-            ∙ sym (ap (λ (y : Found). earlier y (same k₀ n) n) (sym (kept.finds k₀) ∙ ap answer w) ∙ ap (λ (y : Bool). earlier Nothing y n) b)
+            ∙ sym (ap (λ (y : Option ℕ). earlier y (same k₀ n) n) (sym (kept.finds k₀) ∙ ap answer w) ∙ ap (λ (y : Bool). earlier None y n) b)
 
-        go : (k : K) (c : Bool) → same k n ≡ c → (r : Found) → first (same k) n ≡ r
+        go : (k : K) (c : Bool) → same k n ≡ c → (r : Option ℕ) → first (same k) n ≡ r
             → answer (walk (same k) (set slots q (suc n)) (hash k)) ≡ earlier (first (same k) n) (same k n) n
         go k true s r p = subst (λ (y : K). answer (walk (same y) (set slots q (suc n)) (hash y)) ≡ earlier (first (same y) n) (same y n) n) (sym (only k s)) new
-        go k false s (At e) p =
+        go k false s (Some e) p =
             ap answer (set_walk (same k) slots (hash k) q (suc n)
             ∙ keeps_hit (same k) slots (length slots) (hash k) q (suc n) zeroed (length slots) 0 e (answer_at _ e (kept.finds k ∙ p)))
-            ∙ ap (λ (y : Found). earlier y (same k n) n) (sym p)
-        go k false s Nothing p =
+            ∙ ap (λ (y : Option ℕ). earlier y (same k n) n) (sym p)
+        go k false s None p =
             ap answer (set_walk (same k) slots (hash k) q (suc n))
             ∙ never (same k) (set slots q (suc n)) (length slots) (hash k) (suc n) low
             (λ e l. ⊎_elim (first_none (same k) n p e) (λ g. let i : e ≡ n = omega arith in ap (same k) i ∙ s) (below e n)) (length slots) 0
-            ∙ sym (ap (λ (y : Found). earlier y (same k n) n) p ∙ ap (λ (y : Bool). earlier Nothing y n) s)
+            ∙ sym (ap (λ (y : Option ℕ). earlier y (same k n) n) p ∙ ap (λ (y : Bool). earlier None y n) s)
 
 -- ---- A table with no entries
 
@@ -129,29 +127,29 @@ empty same hash slots z =
       room = used_none slots (λ i. omega (arith, z i));
     }
 
--- ---- The three ends of an insertion
+-- ---- An insertion
 
--- What each end of the walk of the key k₀ means for the table with the entry n, which has that key.
-pub record Puts {K : Type 0} (same : K → ℕ → Bool) (hash : K → ℕ) (slots : List ℕ) (n : ℕ) (k₀ : K) : Type 0 where
-  pub spot : (q : ℕ) → Free q ≡ walk (same k₀) slots (hash k₀) → q < length slots
-  pub hit : (e : ℕ) → Hit e ≡ walk (same k₀) slots (hash k₀) → (At e ≡ first (same k₀) n) × Kept same hash slots (suc n)
-  pub free : (q v : ℕ) → Free q ≡ walk (same k₀) slots (hash k₀) → v ≡ suc n
-      → (Nothing ≡ first (same k₀) n) × Kept same hash (set slots q v) (suc n)
-  pub full : n < length slots → Full ≡ walk (same k₀) slots (hash k₀) → ⊥
+-- What the end of the walk of the key k₀ means for the table with the entry n, which has that key.
+pub record Puts {K : Type 0} (same : K → ℕ → Bool) (hash : K → ℕ) (slots : List ℕ) (n : ℕ) (k₀ : K) (end : Walk) : Type 0 where
+  pub spot : (q : ℕ) → end ≡ Free q → q < length slots
+  pub told : answer end ≡ first (same k₀) n
+  pub kept : n < length slots → Kept same hash (with_entry end n slots) (suc n)
 
 -- So it is wherever the entry n has the key k₀ and no other.
 pub puts : {K : Type 0} (same : K → ℕ → Bool) (hash : K → ℕ) (slots : List ℕ) (n : ℕ) (k₀ : K) → Kept same hash slots n
-    → ((k : K) → same k n ≡ true → k ≡ k₀) → same k₀ n ≡ true → hash k₀ < length slots → Puts same hash slots n k₀
-puts same hash slots n k₀ kept only itself within =
+    → ((k : K) → same k n ≡ true → k ≡ k₀) → same k₀ n ≡ true → hash k₀ < length slots
+    → (end : Walk) → end ≡ walk (same k₀) slots (hash k₀) → Puts same hash slots n k₀ end
+puts same hash slots n k₀ kept only itself within end w =
     record {
-      spot = λ q w. free_spot same hash slots n kept k₀ within q (sym w);
-      hit = λ e w. (ap answer w ∙ kept.finds k₀, known same hash slots n kept k₀ only e (sym w));
-      free = λ q v w e. (
-        ap answer w ∙ kept.finds k₀,
-        subst (λ (x : ℕ). Kept same hash (set slots q x) (suc n)) (sym e) (added same hash slots n kept k₀ only q (sym w) itself within),
-      );
-      full = λ l w. never_full same hash slots n kept k₀ within l (sym w);
+      spot = λ q e. free_spot same hash slots n kept k₀ within q (sym w ∙ e);
+      told = ap answer w ∙ kept.finds k₀;
+      kept = λ l. go l end w;
     }
+  where
+    go : n < length slots → (v : Walk) → v ≡ walk (same k₀) slots (hash k₀) → Kept same hash (with_entry v n slots) (suc n)
+    go l (Hit e) w = known same hash slots n kept k₀ only e (sym w)
+    go l (Free q) w = added same hash slots n kept k₀ only q (sym w) itself within
+    go l Full w = absurd (never_full same hash slots n kept k₀ within l (sym w))
 
 -- ---- Entries from n on may change
 
@@ -177,15 +175,3 @@ kept_agree same other hash slots n a kept =
       low = kept.low;
       room = kept.room;
     }
-
--- ---- Clearing
-
-pub cleared_next : (l : List ℕ) (i : ℕ) → i < length l → ((j : ℕ) → j < i → get_or l j 0 ≡ 0) → (j : ℕ) → j < i + 1 → get_or (set l i 0) j 0 ≡ 0
-cleared_next l i h z j k =
-    ⊎_elim
-    (λ o. get_or-set_other l i j 0 0 (λ s. omega arith) ∙ z j o)
-    (λ o. let s : j ≡ i = omega arith in ap (λ (m : ℕ). get_or (set l i 0) m 0) s ∙ get_or-set_same l i 0 0 h)
-    (below j i)
-
-pub cleared_all : (l : List ℕ) (i : ℕ) → length l ≤ i → ((j : ℕ) → j < i → get_or l j 0 ≡ 0) → (j : ℕ) → get_or l j 0 ≡ 0
-cleared_all l i h z j = ⊎_elim (z j) (λ o. get_or-eq_default l 0 {n = j} (omega arith)) (below j i)

@@ -1,23 +1,21 @@
 -- A table by hash with open addressing, over any keys. A key is a test of entries: whether the entry e has it. Assumes nothing.
-use Rattle.std.specs.Prelude.{◌≡◌, Bool, true, false, List, [], ◌∷◌, ℕ, zero, suc, ◌+◌, ◌-◌, ◌≤◌, ltb, length, get_or}
+use Rattle.std.specs.Prelude.{◌≡◌, Bool, true, false, List, [], ◌∷◌, ℕ, zero, suc, ◌+◌, ◌-◌, ◌≤◌, ltb, length, get_or, set, Option, None, Some}
 use Rattle.probing.specs.declared.Look.{Look}
 use Rattle.probing.specs.declared.Look.TheVariants.{Empty, Same, Other}
 use Rattle.probing.specs.declared.Walk.{Walk}
 use Rattle.probing.specs.declared.Walk.TheVariants.{Hit, Free, Full}
-use Rattle.probing.specs.declared.Found.{Found}
-use Rattle.probing.specs.declared.Found.TheVariants.{At, Nothing}
 
 -- ---- What is right, with no table in it
 
 -- What was found so far stays; else it is the entry n if that one has the key.
-abbrev pub earlier : Found → Bool → ℕ → Found
-earlier (At e) b n = At e
-earlier Nothing true n = At n
-earlier Nothing false n = Nothing
+abbrev pub earlier : Option ℕ → Bool → ℕ → Option ℕ
+earlier (Some e) b n = Some e
+earlier None true n = Some n
+earlier None false n = None
 
 -- The first of the entries 0 to n - 1 that has the key.
-abbrev pub first : (ℕ → Bool) → ℕ → Found
-first same zero = Nothing
+abbrev pub first : (ℕ → Bool) → ℕ → Option ℕ
+first same zero = None
 first same (suc n) = earlier (first same n) (same n) n
 
 -- ---- What the table does
@@ -58,10 +56,20 @@ abbrev pub walk : (ℕ → Bool) → List ℕ → ℕ → Walk
 walk same slots h = walk_from same slots (length slots) h (length slots) 0
 
 -- What a walk has found.
-abbrev pub answer : Walk → Found
-answer (Hit e) = At e
-answer (Free p) = Nothing
-answer Full = Nothing
+abbrev pub answer : Walk → Option ℕ
+answer (Hit e) = Some e
+answer (Free p) = None
+answer Full = None
+
+-- What a test answers of each entry that the slots hold is whether it has the key.
+abbrev pub Tells : (ℕ → Bool → Type 0) → List ℕ → (ℕ → Bool) → Type 0
+Tells gives slots same = (i e : ℕ) (b : Bool) → get_or slots i 0 ≡ suc e → gives e b → b ≡ same e
+
+-- The slots with the entry n where a walk ended, if it ended at a free one.
+abbrev pub with_entry : Walk → ℕ → List ℕ → List ℕ
+with_entry (Hit e) n slots = slots
+with_entry (Free p) n slots = set slots p (suc n)
+with_entry Full n slots = slots
 
 -- How many slots are taken.
 abbrev pub used : List ℕ → ℕ

@@ -6,7 +6,8 @@ ghost use Rattle.std.specs.Prelude.{◌≡◌, ℕ, ◌≤◌, ◌<◌, length, 
 ghost use Rattle.reaching.specs.Visited.{Graph, Marked};
 ghost use Rattle.reaching.specs.Queued.{Queued, Adds, Names, Among, Follows, Room, Line};
 
-// Marks a line and appends it to the queue, unless it is marked already. The target is the line's number and one more, or 0 for none.
+// Marks a line and appends it to the queue, unless it is marked already. The target is the line's number and one more, or 0 for none,
+// as the lent lists hold it (`Names`).
 fn mark(target: u32, marks: &mut [u32], queue: &mut [u32], tail: usize) -> usize
     requires { Queued marks.old queue.old tail × Room target marks.old queue.old }
     ensures { Adds (Names target) marks.old queue.old tail marks.new queue.new result }
@@ -39,10 +40,8 @@ fn mark_links(
     ensures { Adds (Among links.now from to) marks.old queue.old tail marks.new queue.new result }
 {
     let mut end = tail;
-    let mut i = from;
-    while i < to {
-        end = mark(links[i] as u32, marks, queue, end);
-        i += 1;
+    for i in from..to {
+        end = mark(u32::from(links[i]), marks, queue, end);
     }
     end
 }
@@ -68,7 +67,8 @@ fn follow(
     mark(next, marks, queue, end)
 }
 
-// Marks the lines that are visited from the root. The marks come in as 0; the queue is room to work in.
+// Marks the lines that are visited from the root. The marks, numbers in a lent list, come in as 0; the queue is room to
+// work in. A `while`: the queue grows as lines are taken from it.
 pub fn visit(
     starts: &[u32],
     links: &[u16],

@@ -1,4 +1,5 @@
 -- The lines after the header, group by group: what each leaves to the next, and the whole body. Assumes nothing.
+use Rattle.std.specs.Prelude.{Result, Ok, Err}
 use mathlib.Core.Path.{◌≡◌, refl, sym, ap, subst, transport, ◌∙◌}
 use mathlib.Core.Bool.{Bool, true, false}
 use mathlib.Core.List.{List, map}
@@ -20,11 +21,8 @@ use Rattle.rules.proofs.Judgement.Back.{initial_back, action_back, plan_back, no
 use Rattle.fields.specs.Directory.{methods_from}
 use Rattle.lines.specs.Ranges.{known_of}
 use Rattle.reading.specs.declared.CaseRead.{CaseRead}
-use Rattle.reading.specs.declared.CaseRead.TheVariants.{Case as CaseIs, Refused as CaseRefused}
 use Rattle.reading.specs.declared.Spot.{Spot}
-use Rattle.reading.specs.declared.Group.{Group}
-use Rattle.reading.specs.declared.Group.TheVariants.{Done, Refused}
-use Rattle.reading.specs.Groups.{valued_line, Due, Left, together, starts, Placed, method_fields, whole_if, whole_case}
+use Rattle.reading.specs.Groups.{valued_line, Due, Left, together, starts, Placed, method_fields, case_at, whole_if, whole_case}
 use Rattle.reading.specs.Whole.{to_the_end, actions_at, methods_at, plan_at, nodes_at, end_at, Filled, BodyLeft}
 use Rattle.reading.proofs.Turns.{line_goes, many_goes, due_next, went, halted}
 use Rattle.reading.proofs.Meant.{left_alike, many_left, many_placed, line_meant, lines_meant}
@@ -42,10 +40,10 @@ module _ (text : List ℕ) (h : Header) (past : ℕ) (first : Spot) (w d : List 
   body_read = read_body text h first.line first.start.at
 
   abbrev Refuses : Answer → List ℕ → List ℕ → Type 0
-  Refuses a u e = BodyLeft h first.from w d (to_the_end text body_read) (CaseRefused a) u e
+  Refuses a u e = BodyLeft h first.from w d (to_the_end text body_read) (Err a) u e
 
   refuses : (a : Answer) (u e : List ℕ) → body_read ≡ refused a → Refuses a u e
-  refuses a u e q = subst (λ (r : Read Case). BodyLeft h first.from w d (to_the_end text r) (CaseRefused a) u e) (sym q) refl
+  refuses a u e q = subst (λ (r : Read Case). BodyLeft h first.from w d (to_the_end text r) (Err a) u e) (sym q) refl
 
   -- ---- The initial line
 
@@ -59,7 +57,7 @@ module _ (text : List ℕ) (h : Header) (past : ℕ) (first : Spot) (w d : List 
     pub fields : v ≡ sets w first.from (line_fields (initial_line i))
     pub next : Due text past v s
 
-  module _ (g : Group) (v : List ℕ) (q : Left line_fields first.from w (valued_line text (header_in x) T.initial (get_or x 7 0) first.line first.start.at) g v) where
+  module _ (g : Result Spot Answer) (v : List ℕ) (q : Left line_fields first.from w (valued_line text (header_in x) T.initial (get_or x 7 0) first.line first.start.at) g v) where
     initial_read_lem : Left line_fields first.from w (valued_line text h T.initial 0 first.line first.start.at) g v
     unfolding known_of
     initial_read_lem = subst (λ (l : List ℕ). Left line_fields first.from w (valued_line text (header_in l) T.initial (get_or l 7 0) first.line first.start.at) g v) known q
@@ -69,7 +67,7 @@ module _ (text : List ℕ) (h : Header) (past : ℕ) (first : Spot) (w d : List 
         left_alike line_fields (λ i. line_fields (initial_line i)) first.from w (valued_line text h T.initial 0 first.line first.start.at) initial_read g v
         (line_meant text h T.initial 0 initial_of initial_line (initial_back h good) first.line first.start.at) initial_read_lem
 
-    pub after1 : (s : Spot) → g ≡ Done s → After1 s v
+    pub after1 : (s : Spot) → g ≡ Ok s → After1 s v
     after1 s e =
         let y = went (λ i. line_fields (initial_line i)) first.from w initial_read g v initial_left s e in
         record {
@@ -81,7 +79,7 @@ module _ (text : List ℕ) (h : Header) (past : ℕ) (first : Spot) (w d : List 
               (line_goes text h T.initial 0 first.line first.start.at first.from due.ahead due.inside) initial_read_lem e;
         }
 
-    pub refused1 : (a : Answer) → g ≡ Refused a → (u e : List ℕ) → Refuses a u e
+    pub refused1 : (a : Answer) → g ≡ Err a → (u e : List ℕ) → Refuses a u e
     unfolding read_body
     refused1 a e u f =
         let none = halted (λ i. line_fields (initial_line i)) first.from w initial_read g v initial_left a e in
@@ -103,7 +101,7 @@ module _ (text : List ℕ) (h : Header) (past : ℕ) (first : Spot) (w d : List 
     pub placed : e ≡ sets d 0 (starts s₁.from (map action_shown acts))
     pub next : Due text past v s
 
-  module _ (s : Spot) (v : List ℕ) (b : After1 s v) (g : Group) (u e : List ℕ)
+  module _ (s : Spot) (v : List ℕ) (b : After1 s v) (g : Result Spot Answer) (u e : List ℕ)
       (q : Left (together line_fields) s.from v (many (valued_line text (header_in x) T.action (get_or x 7 0)) (get_or x 1 0) s.line s.start.at) g u)
       (p : Placed line_fields s.from 0 d (many (valued_line text (header_in x) T.action (get_or x 7 0)) (get_or x 1 0) s.line s.start.at) e) where
     abbrev actions_valued : Read (List Valued)
@@ -127,7 +125,7 @@ module _ (text : List ℕ) (h : Header) (past : ℕ) (first : Spot) (w d : List 
         (lines_meant text h T.action 0 action_of action_line (action_back h good) h.actions s.line s.start.at)
         (subst (λ (r : Read (List Valued)). Placed line_fields s.from 0 d r e) actions_are p)
 
-    pub after2 : (t : Spot) → g ≡ Done t → After2 t u e
+    pub after2 : (t : Spot) → g ≡ Ok t → After2 t u e
     after2 t z =
         let y = went (together action_shown) s.from v (actions_read s) g u actions_left t z in
         record {
@@ -143,7 +141,7 @@ module _ (text : List ℕ) (h : Header) (past : ℕ) (first : Spot) (w d : List 
               (many_goes text line_fields (valued_line text h T.action 0) (line_goes text h T.action 0) h.actions s.line s.start.at s.from b.next.ahead b.next.inside) actions_read_lem z;
         }
 
-    pub refused2 : (a : Answer) → g ≡ Refused a → (u' e' : List ℕ) → Refuses a u' e'
+    pub refused2 : (a : Answer) → g ≡ Err a → (u' e' : List ℕ) → Refuses a u' e'
     unfolding read_body
     refused2 a z u' e' =
         let none = halted (together action_shown) s.from v (actions_read s) g u actions_left a z in
@@ -166,7 +164,7 @@ module _ (text : List ℕ) (h : Header) (past : ℕ) (first : Spot) (w d : List 
     pub placed : e ≡ sets e₂ methods_from (starts s₂.from (map method_fields ms))
     pub next : Due text past v s
 
-  module _ (s : Spot) (v e : List ℕ) (b : After2 s v e) (g : Group) (u f : List ℕ)
+  module _ (s : Spot) (v e : List ℕ) (b : After2 s v e) (g : Result Spot Answer) (u f : List ℕ)
       (q : Left (together method_fields) s.from v (many (one_method text (header_in x)) (get_or x 3 0) s.line s.start.at) g u)
       (p : Placed method_fields s.from methods_from e (many (one_method text (header_in x)) (get_or x 3 0) s.line s.start.at) f) where
     methods_are : many (one_method text (header_in x)) (get_or x 3 0) s.line s.start.at ≡ methods_read s
@@ -176,7 +174,7 @@ module _ (text : List ℕ) (h : Header) (past : ℕ) (first : Spot) (w d : List 
     methods_left : Left (together method_fields) s.from v (methods_read s) g u
     methods_left = subst (λ (r : Read (List Method)). Left (together method_fields) s.from v r g u) methods_are q
 
-    pub after3 : (t : Spot) → g ≡ Done t → After3 t u f
+    pub after3 : (t : Spot) → g ≡ Ok t → After3 t u f
     after3 t z =
         let y = went (together method_fields) s.from v (methods_read s) g u methods_left t z in
         record {
@@ -193,7 +191,7 @@ module _ (text : List ℕ) (h : Header) (past : ℕ) (first : Spot) (w d : List 
               (many_goes text method_fields (one_method text h) (method_goes text h) h.methods s.line s.start.at s.from b.next.ahead b.next.inside) methods_left z;
         }
 
-    pub refused3 : (a : Answer) → g ≡ Refused a → (u' e' : List ℕ) → Refuses a u' e'
+    pub refused3 : (a : Answer) → g ≡ Err a → (u' e' : List ℕ) → Refuses a u' e'
     unfolding read_body
     refused3 a z u' e' =
         let none = halted (together method_fields) s.from v (methods_read s) g u methods_left a z in
@@ -213,7 +211,7 @@ module _ (text : List ℕ) (h : Header) (past : ℕ) (first : Spot) (w d : List 
     pub fields : v ≡ sets v₃ plan.from (line_fields (cues_line cs))
     pub next : Due text past v s
 
-  module _ (s : Spot) (v e : List ℕ) (b : After3 s v e) (g : Group) (u : List ℕ)
+  module _ (s : Spot) (v e : List ℕ) (b : After3 s v e) (g : Result Spot Answer) (u : List ℕ)
       (q : Left line_fields s.from v (valued_line text (header_in x) T.plan (get_or x 7 0) s.line s.start.at) g u) where
     plan_read_lem : Left line_fields s.from v (valued_line text h T.plan 0 s.line s.start.at) g u
     unfolding known_of
@@ -224,7 +222,7 @@ module _ (text : List ℕ) (h : Header) (past : ℕ) (first : Spot) (w d : List 
         left_alike line_fields (λ cs. line_fields (cues_line cs)) s.from v (valued_line text h T.plan 0 s.line s.start.at) (plan_read s) g u
         (line_meant text h T.plan 0 plan_of cues_line (plan_back h) s.line s.start.at) plan_read_lem
 
-    pub after4 : (t : Spot) → g ≡ Done t → After4 s t u e
+    pub after4 : (t : Spot) → g ≡ Ok t → After4 s t u e
     after4 t z =
         let y = went (λ cs. line_fields (cues_line cs)) s.from v (plan_read s) g u plan_left t z in
         record {
@@ -238,7 +236,7 @@ module _ (text : List ℕ) (h : Header) (past : ℕ) (first : Spot) (w d : List 
               (line_goes text h T.plan 0 s.line s.start.at s.from b.next.ahead b.next.inside) plan_read_lem z;
         }
 
-    pub refused4 : (a : Answer) → g ≡ Refused a → (u' e' : List ℕ) → Refuses a u' e'
+    pub refused4 : (a : Answer) → g ≡ Err a → (u' e' : List ℕ) → Refuses a u' e'
     unfolding read_body
     refused4 a z u' e' =
         let none = halted (λ cs. line_fields (cues_line cs)) s.from v (plan_read s) g u plan_left a z in
@@ -249,7 +247,7 @@ module _ (text : List ℕ) (h : Header) (past : ℕ) (first : Spot) (w d : List 
   abbrev nodes_read : Spot → Read (List NodeLine)
   nodes_read s = many (one_line text h T.node 0 as_node) h.nodes s.line s.start.at
 
-  module _ (plan s : Spot) (v e : List ℕ) (b : After4 plan s v e) (g : Group) (u : List ℕ)
+  module _ (plan s : Spot) (v e : List ℕ) (b : After4 plan s v e) (g : Result Spot Answer) (u : List ℕ)
       (q : Left (together line_fields) s.from v (many (valued_line text (header_in x) T.node (get_or x 7 0)) h.nodes s.line s.start.at) g u) where
     nodes_valued : Left (together line_fields) s.from v (many (valued_line text h T.node 0) h.nodes s.line s.start.at) g u
     unfolding known_of
@@ -261,13 +259,13 @@ module _ (text : List ℕ) (h : Header) (past : ℕ) (first : Spot) (w d : List 
         many_left line_fields node_shown s.from v (many (valued_line text h T.node 0) h.nodes s.line s.start.at) (nodes_read s) g u
         (lines_meant text h T.node 0 as_node node_line (node_back h) h.nodes s.line s.start.at) nodes_valued
 
-    pub refused5 : (a : Answer) → g ≡ Refused a → (u' e' : List ℕ) → Refuses a u' e'
+    pub refused5 : (a : Answer) → g ≡ Err a → (u' e' : List ℕ) → Refuses a u' e'
     unfolding read_body
     refused5 a z u' e' =
         let none = halted (together node_shown) s.from v (nodes_read s) g u nodes_left a z in
         refuses a u' e' (rw (b.before.before.before.is, b.before.before.is, b.before.is, b.is, none))
 
-    module _ (end : Spot) (z : g ≡ Done end) where
+    module _ (end : Spot) (z : g ≡ Ok end) where
       three : After3 plan b.v₃ e
       three = b.before
 
@@ -314,11 +312,11 @@ module _ (text : List ℕ) (h : Header) (past : ℕ) (first : Spot) (w d : List 
       unfolding k
       at₅ = nodes.2 ∙ ap (λ (n : ℕ). n + length (together node_shown nodes.0)) at₄
 
-      filled : Filled h k first.from w d (CaseIs h plan.line first.from plan.from s.from) u e
+      filled : Filled h k first.from w d (Ok (case_at h plan.line first.from plan.from s.from)) u e
       unfolding k
       filled = record {
         head = refl;
-        answer = λ j. CaseIs h plan.line first.from (at₃ j) (at₄ j);
+        answer = λ j. Ok (case_at h plan.line first.from (at₃ j) (at₄ j));
         room = let l = due.long in let a = ended.ahead in let i = ended.inside in let t = ended.short in let f = at₅ in omega arith;
         fields =
             nodes.3
@@ -331,13 +329,13 @@ module _ (text : List ℕ) (h : Header) (past : ℕ) (first : Spot) (w d : List 
       }
 
       -- The body, whole if the text ends with it.
-      pub body_left : (r : CaseRead) → r ≡ whole_case text h first plan s end → BodyLeft h first.from w d (to_the_end text body_read) r u e
+      pub body_left : (r : Result CaseRead Answer) → r ≡ whole_case text h first plan s end → BodyLeft h first.from w d (to_the_end text body_read) r u e
       unfolding no_surplus
       body_left r q =
           transport (λ j. BodyLeft h first.from w d (to_the_end text (sym is_read j)) (sym q j) u e) (go (ltb end.start.at (length text)))
         where
           go : (more : Bool)
               → BodyLeft h first.from w d (◌>>◌ {A = Unit {0}} (elim more [ true ↦ refused (Unreadable end.line 1) | false ↦ found tt ]) (found k))
-              (whole_if more (Unreadable end.line 1) (CaseIs h plan.line first.from plan.from s.from)) u e
+              (whole_if more (Unreadable end.line 1) (case_at h plan.line first.from plan.from s.from)) u e
           go true = refl
           go false = filled

@@ -1,4 +1,5 @@
 -- A whole case: the fields that its groups leave are those of the case, and the directory finds its lines among them. Assumes nothing.
+use Rattle.std.specs.Prelude.{Result, Ok, Err}
 use mathlib.Core.Path.{◌≡◌, refl, sym, ap, ap₂, subst, transport, ◌∙◌}
 use mathlib.Core.List.{List, [], ◌∷◌, ◌++◌, map, flatten, append_assoc}
 use Prim.Native.Nat.{ℕ, zero, suc, ◌+◌, ◌≤◌, ◌<◌}
@@ -12,7 +13,8 @@ use Rattle.rules.specs.Text.{feed_follows}
 use Rattle.rules.specs.State.{no_action, action_at}
 use Rattle.rules.specs.Table as T
 use Rattle.rules.specs.Table.{row_of, table}
-use Rattle.rules.specs.Result.{Result, found, refused, ◌>>=◌, ◌>>◌}
+use Rattle.rules.specs.Result as R
+use Rattle.rules.specs.Result.{found, refused, ◌>>=◌, ◌>>◌}
 use Rattle.rules.specs.Case.{Case, Valued, Read, header_in, header_of, no_method, method_at, one_line, read_body, no_header, read_from, read_case}
 use Rattle.rules.specs.Fields.{line_fields, lines_fields, header_line, action_line, method_lines, cues_line, node_line, lines_of, fields_of}
 use Rattle.rules.proofs.Judgement.Reading.{ReadSays, one_line_says}
@@ -25,10 +27,7 @@ use Rattle.fields.specs.Standing.{Stands}
 use Rattle.fields.specs.Directory.{Roomy, methods_from, directory_size, Finds, NodesLast}
 use Rattle.fields.proofs.Standing.{stands_left, stands_right, stands_as, sets_stand, sets_append, stands_at}
 use Rattle.reading.specs.declared.CaseRead.{CaseRead}
-use Rattle.reading.specs.declared.CaseRead.TheVariants.{Refused as CaseRefused}
 use Rattle.reading.specs.declared.Spot.{Spot}
-use Rattle.reading.specs.declared.Group.{Group}
-use Rattle.reading.specs.declared.Group.TheVariants.{Done, Refused}
 use Rattle.reading.specs.Groups.{joined, valued_line, Due, Left, starts, method_fields}
 use Rattle.reading.specs.Whole.{to_the_end, initial_fields, action_fields, methods_fields, plan_fields, node_fields, actions_at, methods_at, plan_at, nodes_at, end_at, Filled, BodyLeft, ReadsAs}
 use Rattle.reading.proofs.Turns.{Goes, line_goes, due_next, went, halted}
@@ -81,7 +80,7 @@ fields_are k =
     ∙ ap₂ (λ (a b : List ℕ). a ++ (plan_fields k ++ b)) (methods_joined k.methods) (lines_joined node_line k.nodes)))
 
 -- What is stored group by group is stored as one.
-module _ (h : Header) (k : Case) (from : ℕ) (before directory now places : List ℕ) (r : CaseRead) (f : Filled h k from before directory r now places) where
+module _ (h : Header) (k : Case) (from : ℕ) (before directory now places : List ℕ) (r : Result CaseRead Answer) (f : Filled h k from before directory r now places) where
   stored : now ≡ sets before from (body_fields k)
   unfolding body_fields
   stored =
@@ -212,7 +211,7 @@ module _ (text : List ℕ) (past : ℕ) (w d : List ℕ) (feeds : (p : ℕ) → 
   abbrev first : Read Valued
   first = valued_line text no_header T.header 0 1 0
 
-  pub first_left : (c₀ : Cursor) → c₀ ≡ cursor 0 → (x : List ℕ) → x ≡ known_of no_header 0 → (g : Group) (v : List ℕ)
+  pub first_left : (c₀ : Cursor) → c₀ ≡ cursor 0 → (x : List ℕ) → x ≡ known_of no_header 0 → (g : Result Spot Answer) (v : List ℕ)
       → Left line_fields 0 w (valued_line text (header_in x) T.header (get_or x 7 0) 1 c₀.at) g v → Left line_fields 0 w first g v
   unfolding known_of
   first_left c₀ e x k g v q = transport (λ j. Left line_fields 0 w (valued_line text (header_in (k j)) T.header (get_or (k j) 7 0) 1 (e j).at) g v) q
@@ -221,14 +220,14 @@ module _ (text : List ℕ) (past : ℕ) (w d : List ℕ) (feeds : (p : ℕ) → 
   abbrev headed : Read Header
   headed = one_line text no_header T.header 0 header_of 1 0
 
-  module _ (g : Group) (v : List ℕ) (q : Left line_fields 0 w first g v) where
-    pub first_refused : (a : Answer) → g ≡ Refused a → (u e : List ℕ) → ReadsAs (read_case text) (CaseRefused a) u e
+  module _ (g : Result Spot Answer) (v : List ℕ) (q : Left line_fields 0 w first g v) where
+    pub first_refused : (a : Answer) → g ≡ Err a → (u e : List ℕ) → ReadsAs (read_case text) (Err a) u e
     unfolding read_case read_from
     first_refused a z u e =
         let none : headed ≡ refused a = means_refused text no_header T.header 0 header_of 1 0 a (halted line_fields 0 w first g v q a z) in
-        subst (λ (r : Result Case). ReadsAs r (CaseRefused a) u e) (sym (ap (λ (x : Read Header). to_the_end text (x >>= λ (h, n, place). read_body text h n place)) none)) refl
+        subst (λ (r : R.Result Case). ReadsAs r (Err a) u e) (sym (ap (λ (x : Read Header). to_the_end text (x >>= λ (h, n, place). read_body text h n place)) none)) refl
 
-    module _ (s : Spot) (z : g ≡ Done s) where
+    module _ (s : Spot) (z : g ≡ Ok s) where
       pub read : (x : Valued) × (first ≡ found (x, s.line, s.start.at)) × (s.from ≡ 0 + length (line_fields x)) × (v ≡ sets w 0 (line_fields x))
       read = went line_fields 0 w first g v q s z
 
@@ -279,7 +278,7 @@ module _ (text : List ℕ) (past : ℕ) (w d : List ℕ) (feeds : (p : ℕ) → 
       body_from : s.from ≡ 0 + length (line_fields (header_line h))
       body_from = read.2 ∙ ap (λ (x : Valued). 0 + length (line_fields x)) (sym is)
 
-      whole_stands : (k : Case) (r : CaseRead) (u e : List ℕ) → Filled h k s.from v d r u e → Stands u 0 (line_fields (header_line h) ++ body_fields k)
+      whole_stands : (k : Case) (r : Result CaseRead Answer) (u e : List ℕ) → Filled h k s.from v d r u e → Stands u 0 (line_fields (header_line h) ++ body_fields k)
       whole_stands k r u e f =
           let head = line_fields (header_line h) in
           let size : s.from ≡ 0 + length head = body_from in
@@ -289,10 +288,10 @@ module _ (text : List ℕ) (past : ℕ) (w d : List ℕ) (feeds : (p : ℕ) → 
           (sets_stand w 0 (head ++ body_fields k)
           (let n = length-append head (body_fields k) in let m = whole_size h k s.from v d u e r f in let o = f.room in let l = kept in omega arith))
 
-      whole_is : (k : Case) (r : CaseRead) (u e : List ℕ) → Filled h k s.from v d r u e → fields_of k ≡ line_fields (header_line h) ++ body_fields k
+      whole_is : (k : Case) (r : Result CaseRead Answer) (u e : List ℕ) → Filled h k s.from v d r u e → fields_of k ≡ line_fields (header_line h) ++ body_fields k
       whole_is k r u e f = fields_are k ∙ ap (λ (y : Header). line_fields (header_line y) ++ body_fields k) f.head
 
-      nodes_last : (k : Case) (r : CaseRead) (u e : List ℕ) → Filled h k s.from v d r u e → NodesLast k (nodes_at k s.from)
+      nodes_last : (k : Case) (r : Result CaseRead Answer) (u e : List ℕ) → Filled h k s.from v d r u e → NodesLast k (nodes_at k s.from)
       nodes_last k r u e f =
           let head = line_fields (header_line h) in
           let nodes : length (lines_fields (map node_line k.nodes)) ≡ length (joined (node_fields k)) = ap length (lines_joined node_line k.nodes) in
@@ -301,17 +300,17 @@ module _ (text : List ℕ) (past : ℕ) (w d : List ℕ) (feeds : (p : ℕ) → 
           let end = whole_size h k s.from v d u e r f in
           omega arith
 
-      pub case_read : (h' : Header) → h' ≡ header_in (drop 1 v) → (r : CaseRead) (u e : List ℕ)
+      pub case_read : (h' : Header) → h' ≡ header_in (drop 1 v) → (r : Result CaseRead Answer) (u e : List ℕ)
           → BodyLeft h' s.from v d (to_the_end text (read_body text h' s.line s.start.at)) r u e → ReadsAs (read_case text) r u e
       unfolding read_case read_from
       case_read h' same r u e b =
           let goes : read_case text ≡ to_the_end text (read_body text h s.line s.start.at)
           = ap (λ (x : Read Header). to_the_end text (x >>= λ (y, n, place). read_body text y n place)) headed_is in
-          subst (λ (x : Result Case). ReadsAs x r u e) (sym goes)
+          subst (λ (x : R.Result Case). ReadsAs x r u e) (sym goes)
           (go (to_the_end text (read_body text h s.line s.start.at)) goes
           (subst (λ (y : Header). BodyLeft y s.from v d (to_the_end text (read_body text y s.line s.start.at)) r u e) (same ∙ header_is) b))
         where
-          go : (x : Result Case) → read_case text ≡ x → BodyLeft h s.from v d x r u e → ReadsAs x r u e
+          go : (x : R.Result Case) → read_case text ≡ x → BodyLeft h s.from v d x r u e → ReadsAs x r u e
           go (refused a) c f = f
           go (found k) c f = (
             s.from,

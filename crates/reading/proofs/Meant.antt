@@ -1,4 +1,5 @@
 -- A line that is read as what it stands for leaves the fields of what it stands for. Assumes nothing.
+use Rattle.std.specs.Prelude.{Result, Ok, Err}
 use mathlib.Core.Path.{◌≡◌, refl, sym, ap, ap₂, transport, ◌∙◌}
 use mathlib.Core.List.{List, ◌∷◌, map}
 use Prim.Native.Nat.{ℕ, zero, suc, ◌+◌}
@@ -12,8 +13,7 @@ use Rattle.rules.specs.Result.{found, refused, ◌>>=◌}
 use Rattle.rules.specs.Case.{Valued, Read, read_as, one_line, many}
 use Rattle.rules.specs.Fields.{line_fields}
 use Rattle.rules.proofs.Judgement.Reading.{LineTells, ForLine, line_says}
-use Rattle.reading.specs.declared.Group.{Group}
-use Rattle.reading.specs.declared.Group.TheVariants.{Done, Refused}
+use Rattle.reading.specs.declared.Spot.{Spot}
 use Rattle.reading.specs.Groups.{spot, joined, valued_line, Left, together, starts, Placed}
 
 -- Two readings end alike, and what they find shows the same.
@@ -24,20 +24,20 @@ Alike f g (refused r) (found x) = ⊥
 Alike f g (refused r) (refused s) = r ≡ s
 
 module _ {A B : Type 0} (f : A → List ℕ) (g : B → List ℕ) where
-  pub left_alike : (from : ℕ) (w : List ℕ) (x : Read A) (y : Read B) (r : Group) (u : List ℕ) → Alike f g x y → Left f from w x r u → Left g from w y r u
+  pub left_alike : (from : ℕ) (w : List ℕ) (x : Read A) (y : Read B) (r : Result Spot Answer) (u : List ℕ) → Alike f g x y → Left f from w x r u → Left g from w y r u
   left_alike from w (found (a, n, p)) (found (b, m, q)) r u e h =
-      (h.0 ∙ (λ j. Done (spot (e.0 j) (e.1 j) (from + length (e.2 j)))), h.1 ∙ ap (sets w from) e.2)
+      (h.0 ∙ (λ j. Ok (spot (e.0 j) (e.1 j) (from + length (e.2 j)))), h.1 ∙ ap (sets w from) e.2)
   left_alike from w (found x) (refused s) r u e h = absurd e
   left_alike from w (refused s) (found y) r u e h = absurd e
-  left_alike from w (refused s) (refused t) r u e h = h ∙ ap Refused e
+  left_alike from w (refused s) (refused t) r u e h = h ∙ ap Err e
 
-  pub many_left : (from : ℕ) (w : List ℕ) (x : Read (List A)) (y : Read (List B)) (r : Group) (u : List ℕ) → Alike (map f) (map g) x y
+  pub many_left : (from : ℕ) (w : List ℕ) (x : Read (List A)) (y : Read (List B)) (r : Result Spot Answer) (u : List ℕ) → Alike (map f) (map g) x y
       → Left (together f) from w x r u → Left (together g) from w y r u
   many_left from w (found (a, n, p)) (found (b, m, q)) r u e h =
-      (h.0 ∙ (λ j. Done (spot (e.0 j) (e.1 j) (from + length (joined (e.2 j))))), h.1 ∙ ap (λ xss. sets w from (joined xss)) e.2)
+      (h.0 ∙ (λ j. Ok (spot (e.0 j) (e.1 j) (from + length (joined (e.2 j))))), h.1 ∙ ap (λ xss. sets w from (joined xss)) e.2)
   many_left from w (found x) (refused s) r u e h = absurd e
   many_left from w (refused s) (found y) r u e h = absurd e
-  many_left from w (refused s) (refused t) r u e h = h ∙ ap Refused e
+  many_left from w (refused s) (refused t) r u e h = h ∙ ap Err e
 
   pub many_placed : (from index : ℕ) (d : List ℕ) (x : Read (List A)) (y : Read (List B)) (u : List ℕ) → Alike (map f) (map g) x y
       → Placed f from index d x u → Placed g from index d y u

@@ -1,5 +1,6 @@
 -- A method: its M line says how many subtasks it has and how many constraint lines follow, and its fields are those of all these lines.
 -- Assumes nothing.
+use Rattle.std.specs.Prelude.{Result, Ok, Err}
 use mathlib.Core.Path.{◌≡◌, refl, sym, ap, ap₂, subst, transport, ◌∙◌}
 use mathlib.Core.List.{List, [], ◌∷◌, ◌++◌, map}
 use Prim.Native.Nat.{ℕ, suc, ◌+◌, ◌-◌, ◌*◌, ◌≤◌, ◌<◌}
@@ -20,14 +21,12 @@ use Rattle.lines.specs.Ranges.{known_of}
 use Rattle.fields.specs.Standing.{Stands}
 use Rattle.fields.proofs.Standing.{sets_stand, stands_at, sets_append}
 use Rattle.reading.specs.declared.Spot.{Spot}
-use Rattle.reading.specs.declared.Group.{Group}
-use Rattle.reading.specs.declared.Group.TheVariants.{Done, Refused}
 use Rattle.reading.specs.Groups.{spot, joined, valued_line, Due, Left, together, method_fields}
 use Rattle.reading.proofs.Turns.{Goes, AlwaysGoes, line_goes, many_goes, went, halted, Numbered, many_numbered}
 use Rattle.reading.proofs.Meant.{Alike, many_left, lines_meant, means_found, means_refused}
 
 -- The M line is read without a subtask count.
-pub method_zero : (text : List ℕ) (h : Header) (k n place from : ℕ) (w : List ℕ) (g : Group) (u : List ℕ) → k ≡ 0
+pub method_zero : (text : List ℕ) (h : Header) (k n place from : ℕ) (w : List ℕ) (g : Result Spot Answer) (u : List ℕ) → k ≡ 0
     → Left line_fields from w (valued_line text h T.method k n place) g u → Left line_fields from w (valued_line text h T.method 0 n place) g u
 method_zero text h k n place from w g u e l = subst (λ (j : ℕ). Left line_fields from w (valued_line text h T.method j n place) g u) e l
 
@@ -127,14 +126,14 @@ module _ (text : List ℕ) (h : Header) where
           (from + length (line_fields x)) p.3 p.1)))
       line (refused a) e p = subst (Goes text method_fields n place from) (sym (method_stops n place a e)) tt
 
-  module _ (past : ℕ) (at s : Spot) (w v : List ℕ) (g : Group) (due : Due text past w at)
+  module _ (past : ℕ) (at s : Spot) (w v : List ℕ) (g : Result Spot Answer) (due : Due text past w at)
       (q : Left line_fields at.from w (valued_line text h T.method 0 at.line at.start.at) g v) where
-    pub method_refused : (a : Answer) → g ≡ Refused a → (u : List ℕ) → Left method_fields at.from w (one_method text h at.line at.start.at) (Refused a) u
+    pub method_refused : (a : Answer) → g ≡ Err a → (u : List ℕ) → Left method_fields at.from w (one_method text h at.line at.start.at) (Err a) u
     method_refused a e u =
-        subst (λ (y : Read Method). Left method_fields at.from w y (Refused a) u)
+        subst (λ (y : Read Method). Left method_fields at.from w y (Err a) u)
         (sym (method_stops at.line at.start.at a (halted line_fields at.from w (valued_line text h T.method 0 at.line at.start.at) g v q a e))) refl
 
-    module _ (e : g ≡ Done s) where
+    module _ (e : g ≡ Ok s) where
       read : (x : Valued) × (valued_line text h T.method 0 at.line at.start.at ≡ found (x, s.line, s.start.at)) × (s.from ≡ at.from + length (line_fields x)) × (v ≡ sets w at.from (line_fields x))
       read = went line_fields at.from w (valued_line text h T.method 0 at.line at.start.at) g v q s e
 
@@ -186,7 +185,7 @@ module _ (text : List ℕ) (h : Header) where
           (subst (ReadSays few) read.1 (one_line_says text h T.method 0 (λ y. y) at.line at.start.at few (few_subtasks h)))
 
       -- What the constraint lines leave, after the M line, is what the method leaves: by the same header, and its own subtask count.
-      pub method_left : (own : List ℕ) → own ≡ known_of h (get_or v (at.from + 2) 0) → (r : Group) (u : List ℕ)
+      pub method_left : (own : List ℕ) → own ≡ known_of h (get_or v (at.from + 2) 0) → (r : Result Spot Answer) (u : List ℕ)
           → Left (together line_fields) s.from v (many (valued_line text (header_in own) T.constraint (get_or own 7 0)) (get_or v (s.from - 1) 0) s.line s.start.at) r u
           → Left method_fields at.from w (one_method text h at.line at.start.at) r u
       unfolding known_of
@@ -206,7 +205,7 @@ module _ (text : List ℕ) (h : Header) where
               = method_fields_lem read.0.1 cs (counted read.0.1 s.line s.start.at cs m next d) ∙ ap (λ (y : Valued). line_fields y ++ together constraint_fields cs) is in
               let size : s.from + length (together constraint_fields cs) ≡ at.from + length (method_fields (method_of read.0.1 cs))
               = let f = read.2 in let n = ap length fields ∙ length-append (line_fields read.0) (together constraint_fields cs) in omega arith in (
-                k.0 ∙ ap (λ (i : ℕ). Done (spot m next i)) size,
+                k.0 ∙ ap (λ (i : ℕ). Ok (spot m next i)) size,
                 k.1 ∙ (λ j. sets (read.3 j) (read.2 j) (together constraint_fields cs)) ∙ sym (sets_append (line_fields read.0) (together constraint_fields cs) w at.from)
                     ∙ ap (sets w at.from) (sym fields),
               )

@@ -1,5 +1,6 @@
 -- The invariants of the loops over lines: what those from here on leave, after those read so far, is what those from the first on leave; and
 -- likewise of the places that are listed. Assumes nothing.
+use Rattle.std.specs.Prelude.{Result, Ok, Err}
 use mathlib.Core.Path.{◌≡◌, refl, subst, transport, ◌∙◌}
 use mathlib.Core.List.{List}
 use Prim.Native.Nat.{ℕ, suc, ◌+◌, ◌-◌, ◌≤◌, ◌<◌}
@@ -8,8 +9,6 @@ use lib.ListN.{length, set, length-set}
 use Rattle.rules.specs.declared.Answer.{Answer}
 use Rattle.rules.specs.Case.{Read, many}
 use Rattle.reading.specs.declared.Spot.{Spot}
-use Rattle.reading.specs.declared.Group.{Group}
-use Rattle.reading.specs.declared.Group.TheVariants.{Done, Refused}
 use Rattle.reading.specs.Groups.{Due, Left, together, Placed}
 use Rattle.reading.proofs.Turns.{AlwaysGoes, due_next, kept_next, many_more, many_stops, many_ends, placed_more, placed_stops, placed_ends}
 
@@ -19,7 +18,7 @@ module _ (text : List ℕ) (past : ℕ) {A : Type 0} (shows : A → List ℕ) (o
     pub most : i ≤ count
     pub due : Due text past now at
     pub kept : length now ≡ length before
-    pub same : (r : Group) (u : List ℕ) → Left (together shows) at.from now (many one (count - i) at.line at.start.at) r u
+    pub same : (r : Result Spot Answer) (u : List ℕ) → Left (together shows) at.from now (many one (count - i) at.line at.start.at) r u
         → Left (together shows) from.from before (many one count from.line from.start.at) r u
 
   -- The same, with the places of those i listed from an index on.
@@ -50,11 +49,11 @@ module _ (text : List ℕ) (past : ℕ) {A : Type 0} (shows : A → List ℕ) (o
       }
 
   module _ (goes : AlwaysGoes text shows one) (at : Spot) (now : List ℕ) (i : ℕ) (p : Progress at now i) where
-    module _ (more : i < count) (g : Group) (v : List ℕ) (h : Left shows at.from now (one at.line at.start.at) g v) where
+    module _ (more : i < count) (g : Result Spot Answer) (v : List ℕ) (h : Left shows at.from now (one at.line at.start.at) g v) where
       left : count - i ≡ suc (count - (i + 1))
       left = omega arith
 
-      pub goes_on_lem : (s : Spot) → g ≡ Done s → Progress s v (i + 1)
+      pub goes_on_lem : (s : Spot) → g ≡ Ok s → Progress s v (i + 1)
       goes_on_lem s e = record {
         most = omega arith;
         due = due_next shows text past now v at s (one at.line at.start.at) g p.due
@@ -63,14 +62,14 @@ module _ (text : List ℕ) (past : ℕ) {A : Type 0} (shows : A → List ℕ) (o
         same = λ r u q. p.same r u (many_more shows one at s now v (count - i) (count - (i + 1)) left g h e r u q);
       }
 
-      pub stops : (a : Answer) → g ≡ Refused a → (u : List ℕ) → Left (together shows) from.from before (many one count from.line from.start.at) (Refused a) u
-      stops a e u = p.same (Refused a) u (many_stops shows one at at now v (count - i) (count - (i + 1)) left g h a e u)
+      pub stops : (a : Answer) → g ≡ Err a → (u : List ℕ) → Left (together shows) from.from before (many one count from.line from.start.at) (Err a) u
+      stops a e u = p.same (Err a) u (many_stops shows one at at now v (count - i) (count - (i + 1)) left g h a e u)
 
       module _ (index : ℕ) (directory places : List ℕ) (size : length places ≡ length directory)
           (placed : (u : List ℕ) → Placed shows at.from (index + i) places (many one (count - i) at.line at.start.at) u
           → Placed shows from.from index directory (many one count from.line from.start.at) u) where
         -- The place of the one that was read is listed, at index k.
-        pub list_goes_on : (s : Spot) (k : ℕ) → g ≡ Done s → k ≡ index + i → Listing index directory s v (set places k at.from) (i + 1)
+        pub list_goes_on : (s : Spot) (k : ℕ) → g ≡ Ok s → k ≡ index + i → Listing index directory s v (set places k at.from) (i + 1)
         list_goes_on s k e here =
             let further : index + (i + 1) ≡ index + i + 1 = omega arith in
             record {
@@ -82,11 +81,11 @@ module _ (text : List ℕ) (past : ℕ) {A : Type 0} (shows : A → List ℕ) (o
                   (transport (λ j. Placed shows s.from (further j) (set places (here j) at.from) (many one (count - (i + 1)) s.line s.start.at) u) q));
             }
 
-        pub list_stops : (a : Answer) → g ≡ Refused a → (u : List ℕ) → Placed shows from.from index directory (many one count from.line from.start.at) u
+        pub list_stops : (a : Answer) → g ≡ Err a → (u : List ℕ) → Placed shows from.from index directory (many one count from.line from.start.at) u
         list_stops a e u = placed u (placed_stops shows one at at now v (count - i) (count - (i + 1)) left g h a e (index + i) places u)
 
-    pub ends : count ≤ i → Left (together shows) from.from before (many one count from.line from.start.at) (Done at) now
-    ends over = let none : count - i ≡ 0 = omega arith in p.same (Done at) now (many_ends shows one at now (count - i) none)
+    pub ends : count ≤ i → Left (together shows) from.from before (many one count from.line from.start.at) (Ok at) now
+    ends over = let none : count - i ≡ 0 = omega arith in p.same (Ok at) now (many_ends shows one at now (count - i) none)
 
     pub list_ends : (index : ℕ) (directory places : List ℕ)
         → ((u : List ℕ) → Placed shows at.from (index + i) places (many one (count - i) at.line at.start.at) u

@@ -1,5 +1,6 @@
 -- One step of reading lines in turn: what the code read of one settles what the definitions read from there on, and what they leave.
 -- Assumes nothing.
+use Rattle.std.specs.Prelude.{Result, Ok, Err}
 use mathlib.Core.Path.{◌≡◌, refl, sym, ap, subst, ◌∙◌}
 use mathlib.Core.List.{List, [], ◌∷◌, ◌++◌, map, append-nil}
 use Prim.Native.Nat.{ℕ, zero, suc, ◌+◌, ◌*◌, ◌≤◌}
@@ -15,26 +16,22 @@ use Rattle.rules.specs.Result.{found, refused, ◌>>=◌}
 use Rattle.rules.specs.Case.{Read, read_as, one_line, many}
 use Rattle.rules.specs.Fields.{line_fields}
 use Rattle.fields.proofs.Standing.{sets_append}
-use Rattle.lines.specs.declared.line.Finish.{Finish}
+use Rattle.lines.specs.declared.line.Line.{Line}
+use Rattle.lines.specs.declared.line.LineError.{LineError}
 use Rattle.lines.specs.Reading.{LineLeft}
 use Rattle.lines.proofs.Within.{LineWithin, line_within}
 use Rattle.reading.specs.declared.Spot.{Spot}
-use Rattle.reading.specs.declared.Group.{Group}
-use Rattle.reading.specs.declared.Group.TheVariants.{Done, Refused}
 use Rattle.reading.specs.Groups.{spot, Fits, after_line, valued_line, Due, Left, together, starts, Placed}
-
-apart : {A : Type 0} → ◌≡◌ {A = ℕ} 0 1 → A
-apart z = absurd (omega arith)
 
 -- ---- One line
 
-pub line_left : (n from : ℕ) (w : List ℕ) (y : T.LineRead) (f : Finish) (u : List ℕ) → LineLeft from w y f u
+pub line_left : (n from : ℕ) (w : List ℕ) (y : T.LineRead) (f : Result Line LineError) (u : List ℕ) → LineLeft from w y f u
     → Left line_fields from w (read_as (λ x. x) n y) (after_line n from f) u
 line_left n from w (T.line l vs next) f u h = (ap (after_line n from) h.0, h.1)
 line_left n from w (T.LineRead.unreadable field) f u h = ap (after_line n from) h
 line_left n from w (T.LineRead.outside field) f u h = ap (after_line n from) h
 
-pub line_fits : (text : List ℕ) (from place : ℕ) (w : List ℕ) (y : T.LineRead) (f : Finish) (u : List ℕ) → length text ≤ 65535
+pub line_fits : (text : List ℕ) (from place : ℕ) (w : List ℕ) (y : T.LineRead) (f : Result Line LineError) (u : List ℕ) → length text ≤ 65535
     → LineWithin text from place y → LineLeft from w y f u → Fits from f
 line_fits text from place w (T.line l vs next) f u short h q = subst (Fits from) (sym q.0) (omega (arith, h.1, h.2))
 line_fits text from place w (T.LineRead.unreadable field) f u short h q = subst (Fits from) (sym q) (omega arith)
@@ -84,59 +81,38 @@ many_goes text shows one f (suc count) n place from low inside =
 -- ---- One of one
 
 -- What one of them in turn leaves is what it leaves alone.
-pub one_left : {A : Type 0} (shows : A → List ℕ) (from : ℕ) (w : List ℕ) (one : ℕ → ℕ → Read A) (n place : ℕ) (g : Group) (u : List ℕ)
+pub one_left : {A : Type 0} (shows : A → List ℕ) (from : ℕ) (w : List ℕ) (one : ℕ → ℕ → Read A) (n place : ℕ) (g : Result Spot Answer) (u : List ℕ)
     → Left (together shows) from w (many one 1 n place) g u → Left shows from w (one n place) g u
 one_left {A} shows from w one n place g u h = go (one n place) h
   where
     go : (r : Read A) → Left (together shows) from w (r >>= λ (x, m, next). found (x ∷ [], m, next)) g u → Left shows from w r g u
     go (found (a, m, next)) q =
         let e = append-nil (shows a) in
-        (q.0 ∙ ap (λ (l : List ℕ). Done (spot m next (from + length l))) e, q.1 ∙ ap (sets w from) e)
+        (q.0 ∙ ap (λ (l : List ℕ). Ok (spot m next (from + length l))) e, q.1 ∙ ap (sets w from) e)
     go (refused x) q = q
 
 -- ---- What is left, and how reading goes on
 
 module _ {A : Type 0} (shows : A → List ℕ) (from : ℕ) (w : List ℕ) where
-  group_line : Group → ℕ
-  group_line (Done s) = s.line
-  group_line (Refused a) = 0
-
-  group_place : Group → ℕ
-  group_place (Done s) = s.start.at
-  group_place (Refused a) = 0
-
-  group_from : Group → ℕ
-  group_from (Done s) = s.from
-  group_from (Refused a) = 0
-
   -- Where the next spot is known, so is what was read.
-  pub went : (r : Read A) (g : Group) (u : List ℕ) → Left shows from w r g u → (s : Spot) → g ≡ Done s
+  pub went : (r : Read A) (g : Result Spot Answer) (u : List ℕ) → Left shows from w r g u → (s : Spot) → g ≡ Ok s
       → (a : A) × (r ≡ found (a, s.line, s.start.at)) × (s.from ≡ from + length (shows a)) × (u ≡ sets w from (shows a))
-  unfolding group_line group_place group_from
   went (found (a, n, place)) g u h s e =
       let q = sym h.0 ∙ e in
-      let en : n ≡ s.line = ap group_line q in
-      let ep : place ≡ s.start.at = ap group_place q in
-      (a, (λ j. found (a, en j, ep j)), sym (ap group_from q), h.1)
-  went (refused x) g u h s e = let q = sym h ∙ e in apart (cc)
+      let same : spot n place (from + length (shows a)) ≡ s = cc in
+      (a, (λ j. found (a, (same j).line, (same j).start.at)), sym (ap (λ (x : Spot). x.from) same), h.1)
+  went (refused x) g u h s e = absurd cc
 
-  pub halted : (r : Read A) (g : Group) (u : List ℕ) → Left shows from w r g u → (x : Answer) → g ≡ Refused x → r ≡ refused x
-  halted (found (a, n, place)) g u h x e = let q = sym h.0 ∙ e in apart (cc)
-  halted (refused y) g u h x e = let q : Refused y ≡ Refused x = sym h ∙ e in refused_same q
-    where
-      answer_in : Group → Answer
-      answer_in (Done s) = x
-      answer_in (Refused z) = z
+  pub halted : (r : Read A) (g : Result Spot Answer) (u : List ℕ) → Left shows from w r g u → (x : Answer) → g ≡ Err x → r ≡ refused x
+  halted (found (a, n, place)) g u h x e = let q = sym h.0 ∙ e in cc
+  halted (refused y) g u h x e = cc
 
-      refused_same : Refused y ≡ Refused x → ◌≡◌ {A = Read A} (refused y) (refused x)
-      refused_same q = ap (λ (g : Group). refused (answer_in g)) q
-
-  pub left_told : (r : Read A) (g g' : Group) (u : List ℕ) → g ≡ g' → Left shows from w r g u → Left shows from w r g' u
-  left_told r g g' u e h = subst (λ (x : Group). Left shows from w r x u) e h
+  pub left_told : (r : Read A) (g g' : Result Spot Answer) (u : List ℕ) → g ≡ g' → Left shows from w r g u → Left shows from w r g' u
+  left_told r g g' u e h = subst (λ (x : Result Spot Answer). Left shows from w r x u) e h
 
 -- The next line is due where what was read ended.
-pub due_next : {A : Type 0} (shows : A → List ℕ) (text : List ℕ) (past : ℕ) (w u : List ℕ) (at s : Spot) (r : Read A) (g : Group)
-    → Due text past w at → Goes text shows at.line at.start.at at.from r → Left shows at.from w r g u → g ≡ Done s → Due text past u s
+pub due_next : {A : Type 0} (shows : A → List ℕ) (text : List ℕ) (past : ℕ) (w u : List ℕ) (at s : Spot) (r : Read A) (g : Result Spot Answer)
+    → Due text past w at → Goes text shows at.line at.start.at at.from r → Left shows at.from w r g u → g ≡ Ok s → Due text past u s
 due_next shows text past w u at s r g d p h e =
     let x = went shows at.from w r g u h s e in
     let q = subst (Goes text shows at.line at.start.at at.from) x.1 p in
@@ -152,7 +128,7 @@ due_next shows text past w u at s r g d p h e =
       ahead = let f = x.2 in omega (arith, q.3);
     }
 
-pub kept_next : {A : Type 0} (shows : A → List ℕ) (w u : List ℕ) (from : ℕ) (s : Spot) (r : Read A) (g : Group) → Left shows from w r g u → g ≡ Done s → length u ≡ length w
+pub kept_next : {A : Type 0} (shows : A → List ℕ) (w u : List ℕ) (from : ℕ) (s : Spot) (r : Read A) (g : Result Spot Answer) → Left shows from w r g u → g ≡ Ok s → length u ≡ length w
 kept_next shows w u from s r g h e = let x = went shows from w r g u h s e in ap length x.3 ∙ length-sets w from (shows x.0)
 
 -- ---- Many in turn
@@ -161,14 +137,14 @@ module _ {A : Type 0} (shows : A → List ℕ) (one : ℕ → ℕ → Read A) wh
   abbrev after_one : ℕ → A → ℕ → ℕ → Read (List A)
   after_one left x m next = many one left m next >>= λ (xs, m', next'). found (x ∷ xs, m', next')
 
-  by_one : (from : ℕ) (w : List ℕ) (left n place : ℕ) (x : A) (m next : ℕ) (r : Group) (u : List ℕ) → one n place ≡ found (x, m, next)
+  by_one : (from : ℕ) (w : List ℕ) (left n place : ℕ) (x : A) (m next : ℕ) (r : Result Spot Answer) (u : List ℕ) → one n place ≡ found (x, m, next)
       → Left (together shows) from w (after_one left x m next) r u → Left (together shows) from w (many one (suc left) n place) r u
   by_one from w left n place x m next r u e h =
       subst (λ (y : Read A). Left (together shows) from w (y >>= λ (a, m', next'). after_one left a m' next') r u) (sym e) h
 
-  module _ (at s : Spot) (w v : List ℕ) (count left : ℕ) (e : count ≡ suc left) (g : Group) (h : Left shows at.from w (one at.line at.start.at) g v) where
+  module _ (at s : Spot) (w v : List ℕ) (count left : ℕ) (e : count ≡ suc left) (g : Result Spot Answer) (h : Left shows at.from w (one at.line at.start.at) g v) where
     -- What the others leave, after the first, is what all leave.
-    pub many_more : g ≡ Done s → (r : Group) (u : List ℕ) → Left (together shows) s.from v (many one left s.line s.start.at) r u
+    pub many_more : g ≡ Ok s → (r : Result Spot Answer) (u : List ℕ) → Left (together shows) s.from v (many one left s.line s.start.at) r u
         → Left (together shows) at.from w (many one count at.line at.start.at) r u
     many_more d r u q =
         subst (λ (c : ℕ). Left (together shows) at.from w (many one c at.line at.start.at) r u) (sym e)
@@ -182,19 +158,19 @@ module _ {A : Type 0} (shows : A → List ℕ) (one : ℕ → ℕ → Read A) wh
         go (found (xs, m, next)) z =
             let size : s.from + length (together shows xs) ≡ at.from + length (shows x.0 ++ together shows xs)
             = let f = x.2 in omega (arith, length-append (shows x.0) (together shows xs)) in (
-              z.0 ∙ ap (λ (k : ℕ). Done (spot m next k)) size,
+              z.0 ∙ ap (λ (k : ℕ). Ok (spot m next k)) size,
               z.1 ∙ (λ j. sets (x.3 j) (x.2 j) (together shows xs)) ∙ sym (sets_append (shows x.0) (together shows xs) w at.from),
             )
         go (refused a) z = z
 
-    pub many_stops : (a : Answer) → g ≡ Refused a → (u : List ℕ) → Left (together shows) at.from w (many one count at.line at.start.at) (Refused a) u
+    pub many_stops : (a : Answer) → g ≡ Err a → (u : List ℕ) → Left (together shows) at.from w (many one count at.line at.start.at) (Err a) u
     many_stops a d u =
-        subst (λ (c : ℕ). Left (together shows) at.from w (many one c at.line at.start.at) (Refused a) u) (sym e)
-        (subst (λ (y : Read A). Left (together shows) at.from w (y >>= λ (b, m', next'). after_one left b m' next') (Refused a) u)
+        subst (λ (c : ℕ). Left (together shows) at.from w (many one c at.line at.start.at) (Err a) u) (sym e)
+        (subst (λ (y : Read A). Left (together shows) at.from w (y >>= λ (b, m', next'). after_one left b m' next') (Err a) u)
         (sym (halted shows at.from w (one at.line at.start.at) g v h a d)) refl)
 
     -- The same of the directory.
-    pub placed_more : (index : ℕ) (d : List ℕ) → g ≡ Done s → (u : List ℕ) → Placed shows s.from (index + 1) (set d index at.from) (many one left s.line s.start.at) u
+    pub placed_more : (index : ℕ) (d : List ℕ) → g ≡ Ok s → (u : List ℕ) → Placed shows s.from (index + 1) (set d index at.from) (many one left s.line s.start.at) u
         → Placed shows at.from index d (many one count at.line at.start.at) u
     placed_more index d q u z =
         subst (λ (c : ℕ). Placed shows at.from index d (many one c at.line at.start.at) u) (sym e)
@@ -208,17 +184,17 @@ module _ {A : Type 0} (shows : A → List ℕ) (one : ℕ → ℕ → Read A) wh
         go (found (xs, m, next)) p = p ∙ (λ j. sets (set d index at.from) (add-one index j) (starts (x.2 j) (map shows xs)))
         go (refused a) p = tt
 
-    pub placed_stops : (a : Answer) → g ≡ Refused a → (index : ℕ) (d u : List ℕ) → Placed shows at.from index d (many one count at.line at.start.at) u
+    pub placed_stops : (a : Answer) → g ≡ Err a → (index : ℕ) (d u : List ℕ) → Placed shows at.from index d (many one count at.line at.start.at) u
     placed_stops a q index d u =
         subst (λ (c : ℕ). Placed shows at.from index d (many one c at.line at.start.at) u) (sym e)
         (subst (λ (y : Read A). Placed shows at.from index d (y >>= λ (b, m', next'). after_one left b m' next') u)
         (sym (halted shows at.from w (one at.line at.start.at) g v h a q)) tt)
 
-  pub many_ends : (s : Spot) (w : List ℕ) (count : ℕ) → count ≡ 0 → Left (together shows) s.from w (many one count s.line s.start.at) (Done s) w
+  pub many_ends : (s : Spot) (w : List ℕ) (count : ℕ) → count ≡ 0 → Left (together shows) s.from w (many one count s.line s.start.at) (Ok s) w
   many_ends s w count e =
       let z : s.from ≡ s.from + 0 = omega arith in
-      subst (λ (c : ℕ). Left (together shows) s.from w (many one c s.line s.start.at) (Done s) w) (sym e)
-      (ap (λ (k : ℕ). Done (spot s.line s.start.at k)) z, refl)
+      subst (λ (c : ℕ). Left (together shows) s.from w (many one c s.line s.start.at) (Ok s) w) (sym e)
+      (ap (λ (k : ℕ). Ok (spot s.line s.start.at k)) z, refl)
 
   pub placed_ends : (s : Spot) (index : ℕ) (d : List ℕ) (count : ℕ) → count ≡ 0 → Placed shows s.from index d (many one count s.line s.start.at) d
   placed_ends s index d count e = subst (λ (c : ℕ). Placed shows s.from index d (many one c s.line s.start.at) d) (sym e) refl

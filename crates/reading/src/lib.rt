@@ -7,31 +7,24 @@ ghost use Rattle.rules.specs.Table as T;
 ghost use Rattle.rules.specs.Fields.{line_fields};
 ghost use Rattle.rules.specs.Case.{header_in, one_method, many, read_body, read_case};
 ghost use Rattle.rules.proofs.Judgement.Sound.{GoodHeader};
-ghost use Rattle.lines.specs.Ranges.{Known};
 ghost use Rattle.lines.specs.Reading.{role_of};
 ghost use Rattle.fields.specs.Directory.{Roomy, methods_from, directory_size};
 ghost use Rattle.reading.specs.Groups.{Fits, NoSubtasks, after_line, valued_line, Due, Left, together, method_fields, Placed, whole_case};
 ghost use Rattle.reading.specs.Whole.{to_the_end, BodyLeft, ReadsAs};
 
 use fields::METHODS_FROM;
-use lines::{Finish, KNOWN, Role};
+use lines::{Known, Line, LineError, Role};
 use rules::{Answer, Header};
 use text::Cursor;
 
-// A case that is read: its header, the number of its P line, and where the fields of its I line, its P line and its first node line stand; or
-// the answer that refuses the text.
+// A case that is read: its header, the number of its P line, and where the fields of its I line, its P line and its first node line stand.
 #[derive(Clone, Copy)]
-pub enum CaseRead {
-    Case {
-        header: Header,
-        plan_line: u32,
-        initial: usize,
-        plan: usize,
-        nodes: usize,
-    },
-    Refused {
-        answer: Answer,
-    },
+pub struct CaseRead {
+    pub header: Header,
+    pub plan_line: u32,
+    pub initial: usize,
+    pub plan: usize,
+    pub nodes: usize,
 }
 
 // Where a line is: its number, from 1, its first byte, and the place of its first field.
@@ -42,38 +35,25 @@ struct Spot {
     from: usize,
 }
 
-// Lines that are read, with where the next one is; or the answer that refuses the text.
-#[derive(Clone, Copy)]
-enum Group {
-    Done { next: Spot },
-    Refused { answer: Answer },
-}
-
-// How line number `line`, whose fields are stored from `from` on, ended: the line after it, or the refusal of one of its fields.
-fn after(finish: Finish, line: u32, from: usize) -> Group
-    requires { (line ≤ 65536) × Fits from finish }
-    ensures { result ≡ after_line line from finish }
+// What reading line number `line`, whose fields are stored from `from` on, came to: the line after it, or the refusal of one of its fields.
+fn after(read: Result<Line, LineError>, line: u32, from: usize) -> Result<Spot, Answer>
+    requires { (line ≤ 65536) × Fits from read }
+    ensures { result ≡ after_line line from read }
 {
-    match finish {
-        Finish::Done { fields, next } => Group::Done {
-            next: Spot {
-                line: line + 1,
-                start: next,
-                from: from + fields,
-            },
-        },
-        Finish::Bad { field } => Group::Refused {
-            answer: Answer::Unreadable {
-                line,
-                field: field as u32,
-            },
-        },
-        Finish::Range { field } => Group::Refused {
-            answer: Answer::OutOfRange {
-                line,
-                field: field as u32,
-            },
-        },
+    match read {
+        Ok(Line { fields, next }) => Ok(Spot {
+            line: line + 1,
+            start: next,
+            from: from + fields,
+        }),
+        Err(LineError::Bad { field }) => Err(Answer::Unreadable {
+            line,
+            field: field as u32,
+        }),
+        Err(LineError::Range { field }) => Err(Answer::OutOfRange {
+            line,
+            field: field as u32,
+        }),
     }
 }
 
@@ -83,17 +63,16 @@ fn next_line(
     past: usize,
     at: Spot,
     due: Role,
-    x: &[u32; KNOWN],
+    x: &Known,
     fields: &mut [u32],
-) -> Group
+) -> Result<Spot, Answer>
     requires due { Due text.now past fields.old at }
-    requires known { Known x.now }
-    ensures { Left line_fields at.from fields.old (valued_line text.now (header_in x.now) (role_of due) (get_or x.now 7 0) at.line at.start.at) result fields.new }
+    ensures { Left line_fields at.from fields.old (valued_line text.now (header_in x.now.numbers) (role_of due) (get_or x.now.numbers 7 0) at.line at.start.at) result fields.new }
 {
     let line = at.line;
     let from = at.from;
-    let finish = lines::read_line(text, past, at.start, due, x, fields, from);
-    after(finish, line, from)
+    let read = lines::read_line(text, past, at.start, due, x, fields, from);
+    after(read, line, from)
 }
 
 // `count` lines of one role. The only caller of the line reader, so that this is compiled into the loop.
@@ -102,26 +81,18 @@ fn lines_of(
     past: usize,
     from: Spot,
     due: Role,
-    x: &[u32; KNOWN],
+    x: &Known,
     count: u32,
     fields: &mut [u32],
-) -> Group
+) -> Result<Spot, Answer>
     requires due { Due text.now past fields.old from }
-    requires known { Known x.now }
-    ensures { Left (together line_fields) from.from fields.old (many (valued_line text.now (header_in x.now) (role_of due) (get_or x.now 7 0)) count from.line from.start.at) result fields.new }
+    ensures { Left (together line_fields) from.from fields.old (many (valued_line text.now (header_in x.now.numbers) (role_of due) (get_or x.now.numbers 7 0)) count from.line from.start.at) result fields.new }
 {
     let mut at = from;
-    let mut i: u32 = 0;
-    while i < count {
-        match next_line(text, past, at, due, x, fields) {
-            Group::Done { next } => {
-                at = next;
-                i += 1;
-            }
-            Group::Refused { answer } => return Group::Refused { answer },
-        }
+    for _i in 0..count {
+        at = next_line(text, past, at, due, x, fields)?;
     }
-    Group::Done { next: at }
+    Ok(at)
 }
 
 // The one line of role `due` that is due at a spot.
@@ -130,42 +101,42 @@ fn one_line(
     past: usize,
     at: Spot,
     due: Role,
-    x: &[u32; KNOWN],
+    x: &Known,
     fields: &mut [u32],
-) -> Group
+) -> Result<Spot, Answer>
     requires due { Due text.now past fields.old at }
-    requires known { Known x.now }
-    ensures { Left line_fields at.from fields.old (valued_line text.now (header_in x.now) (role_of due) (get_or x.now 7 0) at.line at.start.at) result fields.new }
+    ensures { Left line_fields at.from fields.old (valued_line text.now (header_in x.now.numbers) (role_of due) (get_or x.now.numbers 7 0) at.line at.start.at) result fields.new }
 {
     lines_of(text, past, at, due, x, 1, fields)
 }
 
 // A method: its M line, and then as many constraint lines as that says, of a method with as many subtasks as that says.
-fn one_method(text: &[u8], past: usize, at: Spot, x: &[u32; KNOWN], fields: &mut [u32]) -> Group
+fn one_method(
+    text: &[u8],
+    past: usize,
+    at: Spot,
+    x: &Known,
+    fields: &mut [u32],
+) -> Result<Spot, Answer>
     requires due { Due text.now past fields.old at }
-    requires no_subtasks { NoSubtasks x.now }
-    requires known { Known x.now }
-    ensures { Left method_fields at.from fields.old (one_method text.now (header_in x.now) at.line at.start.at) result fields.new }
+    requires no_subtasks { NoSubtasks x.now.numbers }
+    ensures { Left method_fields at.from fields.old (one_method text.now (header_in x.now.numbers) at.line at.start.at) result fields.new }
 {
     let from = at.from;
-    match one_line(text, past, at, Role::Method, x, fields) {
-        Group::Done { next } => {
-            // The third field is the number of subtasks, the last the number of constraints.
-            let subtasks = fields[from + 2];
-            let count = fields[next.from - 1];
-            let own = lines::with_subtasks(x, subtasks);
-            // Field by field: the three were stored one by one, and a copy of the whole would wait for them.
-            let line = next.line;
-            let start = next.start;
-            let first = Spot {
-                line,
-                start,
-                from: next.from,
-            };
-            lines_of(text, past, first, Role::Constraint, &own, count, fields)
-        }
-        Group::Refused { answer } => Group::Refused { answer },
-    }
+    let next = one_line(text, past, at, Role::Method, x, fields)?;
+    // The third field is the number of subtasks, the last the number of constraints.
+    let subtasks = fields[from + 2];
+    let count = fields[next.from - 1];
+    let own = lines::with_subtasks(x, subtasks);
+    // Field by field: the three were stored one by one, and a copy of the whole would wait for them.
+    let line = next.line;
+    let start = next.start;
+    let first = Spot {
+        line,
+        start,
+        from: next.from,
+    };
+    lines_of(text, past, first, Role::Constraint, &own, count, fields)
 }
 
 // The A lines, the places of whose fields go to the start of the directory.
@@ -173,63 +144,48 @@ fn actions(
     text: &[u8],
     past: usize,
     from: Spot,
-    x: &[u32; KNOWN],
+    x: &Known,
     fields: &mut [u32],
     directory: &mut [u32],
-) -> Group
+) -> Result<Spot, Answer>
     requires due { Due text.now past fields.old from }
-    requires x_bound { (get_or x.now 1 0 ≤ 1024) × (directory_size ≤ length directory.old) }
-    requires known { Known x.now }
-    ensures left { Left (together line_fields) from.from fields.old (many (valued_line text.now (header_in x.now) T.action (get_or x.now 7 0)) (get_or x.now 1 0) from.line from.start.at) result fields.new }
-    ensures placed { Placed line_fields from.from 0 directory.old (many (valued_line text.now (header_in x.now) T.action (get_or x.now 7 0)) (get_or x.now 1 0) from.line from.start.at) directory.new }
+    requires x_bound { (get_or x.now.numbers 1 0 ≤ 1024) × (directory_size ≤ length directory.old) }
+    ensures left { Left (together line_fields) from.from fields.old (many (valued_line text.now (header_in x.now.numbers) T.action (get_or x.now.numbers 7 0)) (get_or x.now.numbers 1 0) from.line from.start.at) result fields.new }
+    ensures placed { Placed line_fields from.from 0 directory.old (many (valued_line text.now (header_in x.now.numbers) T.action (get_or x.now.numbers 7 0)) (get_or x.now.numbers 1 0) from.line from.start.at) directory.new }
 {
-    let count = x[1] as usize;
+    let count = x.numbers[1] as usize;
     let mut at = from;
-    let mut i: usize = 0;
-    while i < count {
+    for i in 0..count {
         let place = at.from;
-        match one_line(text, past, at, Role::Action, x, fields) {
-            Group::Done { next } => {
-                directory[i] = place as u32;
-                at = next;
-                i += 1;
-            }
-            Group::Refused { answer } => return Group::Refused { answer },
-        }
+        at = one_line(text, past, at, Role::Action, x, fields)?;
+        directory[i] = place as u32;
     }
-    Group::Done { next: at }
+    Ok(at)
 }
 
-// The methods, the places of whose fields go to the directory after those of the A lines.
+// The methods, the places of whose fields go to the directory after those of the A lines. Not one function with that: a method is several
+// lines, and the definitions read it, and show its fields, by definitions of their own.
 fn methods(
     text: &[u8],
     past: usize,
     from: Spot,
-    x: &[u32; KNOWN],
+    x: &Known,
     fields: &mut [u32],
     directory: &mut [u32],
-) -> Group
+) -> Result<Spot, Answer>
     requires due { Due text.now past fields.old from }
-    requires x_bound { (get_or x.now 3 0 ≤ 2048) × (directory_size ≤ length directory.old) × NoSubtasks x.now }
-    requires known { Known x.now }
-    ensures left { Left (together method_fields) from.from fields.old (many (one_method text.now (header_in x.now)) (get_or x.now 3 0) from.line from.start.at) result fields.new }
-    ensures placed { Placed method_fields from.from methods_from directory.old (many (one_method text.now (header_in x.now)) (get_or x.now 3 0) from.line from.start.at) directory.new }
+    requires x_bound { (get_or x.now.numbers 3 0 ≤ 2048) × (directory_size ≤ length directory.old) × NoSubtasks x.now.numbers }
+    ensures left { Left (together method_fields) from.from fields.old (many (one_method text.now (header_in x.now.numbers)) (get_or x.now.numbers 3 0) from.line from.start.at) result fields.new }
+    ensures placed { Placed method_fields from.from methods_from directory.old (many (one_method text.now (header_in x.now.numbers)) (get_or x.now.numbers 3 0) from.line from.start.at) directory.new }
 {
-    let count = x[3] as usize;
+    let count = x.numbers[3] as usize;
     let mut at = from;
-    let mut i: usize = 0;
-    while i < count {
+    for i in 0..count {
         let place = at.from;
-        match one_method(text, past, at, x, fields) {
-            Group::Done { next } => {
-                directory[METHODS_FROM + i] = place as u32;
-                at = next;
-                i += 1;
-            }
-            Group::Refused { answer } => return Group::Refused { answer },
-        }
+        at = one_method(text, past, at, x, fields)?;
+        directory[METHODS_FROM + i] = place as u32;
     }
-    Group::Done { next: at }
+    Ok(at)
 }
 
 // The numbers of an N line that was read, by their names: they follow its letter.
@@ -249,24 +205,30 @@ pub fn header_of(fields: &[u32]) -> Header
 }
 
 // A case whose last due line is read, if nothing comes after it. "surplus line (item 1, ended or not)"
-fn whole(text: &[u8], header: Header, initial: Spot, plan: Spot, node: Spot, end: Spot) -> CaseRead
+fn whole(
+    text: &[u8],
+    header: Header,
+    initial: Spot,
+    plan: Spot,
+    node: Spot,
+    end: Spot,
+) -> Result<CaseRead, Answer>
     ensures { result ≡ whole_case text.now header initial plan node end }
 {
     let c = end.start;
     if c.at < text.len() {
-        let answer = Answer::Unreadable {
+        return Err(Answer::Unreadable {
             line: end.line,
             field: 1,
-        };
-        return CaseRead::Refused { answer };
+        });
     }
-    CaseRead::Case {
+    Ok(CaseRead {
         header,
         plan_line: plan.line,
         initial: initial.from,
         plan: plan.from,
         nodes: node.from,
-    }
+    })
 }
 
 // The lines after the header, in their fixed order, and nothing after them. Each spot is named for the line that is due there.
@@ -277,39 +239,24 @@ fn body(
     header: Header,
     fields: &mut [u32],
     directory: &mut [u32],
-) -> CaseRead
+) -> Result<CaseRead, Answer>
     requires due { Due text.now past fields.old first }
     requires good_header { GoodHeader header × (directory_size ≤ length directory.old) }
     ensures { BodyLeft header first.from fields.old directory.old (to_the_end text.now (read_body text.now header first.line first.start.at)) result fields.new directory.new }
 {
     let known = lines::known(header);
     let x = &known;
-    let action = match one_line(text, past, first, Role::Initial, x, fields) {
-        Group::Done { next } => next,
-        Group::Refused { answer } => return CaseRead::Refused { answer },
-    };
-    let method = match actions(text, past, action, x, fields, directory) {
-        Group::Done { next } => next,
-        Group::Refused { answer } => return CaseRead::Refused { answer },
-    };
-    let plan = match methods(text, past, method, x, fields, directory) {
-        Group::Done { next } => next,
-        Group::Refused { answer } => return CaseRead::Refused { answer },
-    };
-    let node = match one_line(text, past, plan, Role::Plan, x, fields) {
-        Group::Done { next } => next,
-        Group::Refused { answer } => return CaseRead::Refused { answer },
-    };
-    let end = match lines_of(text, past, node, Role::Node, x, header.nodes, fields) {
-        Group::Done { next } => next,
-        Group::Refused { answer } => return CaseRead::Refused { answer },
-    };
+    let action = one_line(text, past, first, Role::Initial, x, fields)?;
+    let method = actions(text, past, action, x, fields, directory)?;
+    let plan = methods(text, past, method, x, fields, directory)?;
+    let node = one_line(text, past, plan, Role::Plan, x, fields)?;
+    let end = lines_of(text, past, node, Role::Node, x, header.nodes, fields)?;
     whole(text, header, first, plan, node, end)
 }
 
 // The case that a text holds: its fields, and where those of its A and M lines stand. "reading, line by line": everything of a line before
-// anything of the next.
-pub fn read_case(text: &[u8], fields: &mut [u32], directory: &mut [u32]) -> CaseRead
+// anything of the next. No heap: the lists for the fields and for the directory are lent.
+pub fn read_case(text: &[u8], fields: &mut [u32], directory: &mut [u32]) -> Result<CaseRead, Answer>
     requires { (length text.now ≤ 65535) × Roomy text.now fields.old × (directory_size ≤ length directory.old) }
     ensures { ReadsAs (read_case text.now) result fields.new directory.new }
 {
@@ -331,11 +278,7 @@ pub fn read_case(text: &[u8], fields: &mut [u32], directory: &mut [u32]) -> Case
         start,
         from: 0,
     };
-    match one_line(text, past, first, Role::Header, &known, fields) {
-        Group::Done { next } => {
-            let read = header_of(fields);
-            body(text, past, next, read, fields, directory)
-        }
-        Group::Refused { answer } => CaseRead::Refused { answer },
-    }
+    let next = one_line(text, past, first, Role::Header, &known, fields)?;
+    let read = header_of(fields);
+    body(text, past, next, read, fields, directory)
 }

@@ -1,4 +1,5 @@
-// The node records as five columns of plain numbers: the last step over the lent work space, before they are gathered into the node list.
+// The node records as five columns of plain numbers: the last step over the lent work space, before they are gathered into the node list. Columns
+// and no structs, since the work space that a caller in C lends has numbers alone.
 #![tactic(auto)]
 
 ghost use Rattle.std.specs.Prelude.{◌≡◌, List, ℕ, ◌+◌, ◌≤◌, ◌<◌, length};
@@ -22,6 +23,7 @@ pub const LABELS: usize = LETTERS + NODES;
 
 pub const PLACES: usize = LABELS + NODES;
 
+// The letter code in a node record: a number of the C interface.
 fn letter_code(letter: u32) -> u32
     ensures { result ≡ letter_code letter }
 {
@@ -45,12 +47,10 @@ fn put_spans(work: &mut [u32], count: usize)
     requires { (count ≤ 3000) × (16384 ≤ length work.old) }
     ensures { (i : ℕ) → i < count → column_span work.new i ≡ row_span work.old i }
 {
-    let mut i: usize = 0;
-    while i < count {
+    for i in 0..count {
         let row = ROWS + 3 * i;
         work[STARTS + i] = work[row];
         work[ENDS + i] = work[row + 1];
-        i += 1;
     }
 }
 
@@ -61,8 +61,7 @@ fn put_heads(fields: &[u32], nodes: usize, count: usize, work: &mut [u32])
     ensures { (ns : List NodeLine) → NodesStand fields.now nodes count ns → up_to (record_at work.new) count ≡ records_of (column_span work.old) 0 ns }
 {
     let mut at = nodes;
-    let mut i: usize = 0;
-    while i < count {
+    for i in 0..count {
         let letter = fields[at];
         let label = fields[at + 1];
         let place = place_at(fields, at, letter);
@@ -70,7 +69,6 @@ fn put_heads(fields: &[u32], nodes: usize, count: usize, work: &mut [u32])
         work[LABELS + i] = label;
         work[PLACES + i] = place;
         at += node_size(letter);
-        i += 1;
     }
 }
 

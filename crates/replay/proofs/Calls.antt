@@ -1,30 +1,31 @@
 -- The rows of the table in their order, and what each answer leaves in the lent lists. Assumes nothing.
-use mathlib.Core.Path.{◌≡◌, refl, sym, ap, subst, transport, ◌∙◌}
+use mathlib.Core.Path.{◌≡◌, refl, sym, ap, subst, ◌∙◌}
 use mathlib.Core.Bool.{Bool, true, false}
 use mathlib.Core.List.{List}
 use mathlib.Core.Option.{Option, none, some}
 use Prim.Native.Nat.{ℕ, ◌*◌, ◌≤◌, ◌<◌}
 use native.Mathlib.Omega.{arith}
+use Rattle.std.specs.Prelude.{Result, Ok, Err}
 use borrow.Author.Tests.{lt-ltb, le-ltb}
 use lib.Dec.{ltb}
 use lib.ListN.{length, replicate, length-replicate}
 use Rattle.rules.specs.declared.Header.{Header}
 use Rattle.rules.specs.declared.Answer.{Answer}
 use Rattle.rules.specs.declared.Answer.TheVariants.{Accepted, ShortList, LongText, Inapplicable}
-use Rattle.rules.specs.Result.{Result, found, refused, ◌>>=◌, ◌>>◌}
+use Rattle.rules.specs.Result as R
+use Rattle.rules.specs.Result.{found, refused, ◌>>=◌, ◌>>◌}
 use Rattle.rules.specs.Case.{Case, read_case}
 use Rattle.rules.specs.Verdict.{Found, state_need, work_need, text_most, replay_lists, states_of, unless, plan_runs, replay, answer_of, states_after}
 use Rattle.rules.proofs.Judgement.Rows.{from_run, from_text}
 use Rattle.rules.proofs.Judgement.Each.{Each}
 use Rattle.rules.proofs.Worded.{Worded}
 use Rattle.reading.specs.declared.CaseRead.{CaseRead}
-use Rattle.reading.specs.declared.CaseRead.TheVariants.{Case as CaseIs, Refused as CaseRefused}
+use Rattle.reading.specs.Groups.{case_at}
 use Rattle.fields.specs.Directory.{Finds, directory_size, Roomy}
 use Rattle.reading.specs.Whole.{ReadsAs}
 use Rattle.rows.specs.Rows.{put_rows}
 use Rattle.rows.proofs.Written.{rows_fill}
-use Rattle.running.specs.declared.Ran.{Ran}
-use Rattle.running.specs.declared.Ran.TheVariants.{All, Stopped}
+use Rattle.running.specs.declared.Stopped.{Stopped}
 use Rattle.running.specs.Running.{Left, stop_of, RanAs}
 use Rattle.running.proofs.Outcome.{stopped_at, ran_all}
 use Rattle.replay.specs.Running.{replay_run, replay_text, Replayed}
@@ -42,16 +43,16 @@ as_replayed f g size r states e x = subst (λ (y : Found (Unit {0})). Replayed y
 
 -- ---- Row 5
 
-module _ (k : Case) (r : Ran) (before after : List ℕ) (ran : RanAs k r before after) where
+module _ (k : Case) (r : Result (Unit {0}) Stopped) (before after : List ℕ) (ran : RanAs k r before after) where
   runs : (o : Option ℕ) → stop_of k ≡ o → replay_run k ≡ (unless (Inapplicable k.plan_line) o >> found (k, tt))
   unfolding replay_run from_run plan_runs
   runs o e = ap (λ (x : Option ℕ). ◌>>◌ {B = Case × Unit {0}} (unless (Inapplicable k.plan_line) x) (found (k, tt))) e
 
-  pub run_stops : (i : ℕ) → r ≡ Stopped i → replay_run k ≡ refused (Inapplicable k.plan_line i)
-  run_stops i e = runs (some i) (stopped_at (stop_of k) i (sym e ∙ ran.answer))
+  pub run_stops : (s : Stopped) → r ≡ Err s → replay_run k ≡ refused (Inapplicable k.plan_line s.cue)
+  run_stops s e = runs (some s.cue) (stopped_at (stop_of k) s (sym e ∙ ran.answer))
 
   -- "Accepted: k and the node count n come back; the state list holds states 0 to k [..]; the rest is zero."
-  pub run_passes : (h : Header) (size : ℕ) → r ≡ All → h ≡ k.head → before ≡ replicate size 0 → Each Worded (states_of k)
+  pub run_passes : (h : Header) (size : ℕ) → r ≡ Ok tt → h ≡ k.head → before ≡ replicate size 0 → Each Worded (states_of k)
       → Replayed (replay_run k) size (Accepted h.cues h.nodes) after
   unfolding states_after
   run_passes h size e q zeros worded =
@@ -64,7 +65,7 @@ module _ (k : Case) (r : Ran) (before after : List ℕ) (ran : RanAs k r before 
 
 -- ---- Rows 2 to 4
 
-abbrev then_run : Result Case → Found (Unit {0})
+abbrev then_run : R.Result Case → Found (Unit {0})
 then_run r = r >>= λ k. from_run (λ c. found (c, tt)) k
 
 -- A text that is not too long; or one that is.
@@ -79,48 +80,44 @@ short_text text h = text_is text false (le-ltb text_most (length text) h)
 pub text_long : (text : List ℕ) → text_most < length text → replay_text text ≡ refused LongText
 text_long text h = text_is text true (lt-ltb text_most (length text) h)
 
-module _ (text fields directory : List ℕ) (r : CaseRead) (as_read : ReadsAs (read_case text) r fields directory) (short : length text ≤ text_most) where
-  pub text_refused : (a : Answer) → r ≡ CaseRefused a → replay_text text ≡ refused a
+module _ (text fields directory : List ℕ) (r : Result CaseRead Answer) (as_read : ReadsAs (read_case text) r fields directory) (short : length text ≤ text_most) where
+  pub text_refused : (a : Answer) → r ≡ Err a → replay_text text ≡ refused a
   text_refused a e = go (read_case text) refl as_read
     where
-      go : (x : Result Case) → read_case text ≡ x → ReadsAs x r fields directory → replay_text text ≡ refused a
-      go (found k) q w = let z : ◌≡◌ {A = ℕ} 0 1 = cc (w.3, e) in absurd (omega arith)
+      go : (x : R.Result Case) → read_case text ≡ x → ReadsAs x r fields directory → replay_text text ≡ refused a
+      go (found k) q w = absurd (cc (w.3, e))
       go (refused b) q w =
           let same : b ≡ a = cc in
           short_text text short ∙ ap then_run q ∙ ap (λ (x : Answer). refused x) same
 
   -- What reading left, of the case that was read.
-  pub left_by : (h : Header) (l i p ns : ℕ) → directory_size ≤ length directory → r ≡ CaseIs h l i p ns
-      → (k : Case) × Left k fields directory h i p × (l ≡ k.plan_line) × (replay_text text ≡ replay_run k)
+  pub left_by : (c : CaseRead) → directory_size ≤ length directory → r ≡ Ok c
+      → (k : Case) × Left k fields directory c.header c.initial c.plan × (c.plan_line ≡ k.plan_line) × (replay_text text ≡ replay_run k)
   unfolding replay_run
-  left_by h l i p ns long e = go (read_case text) refl as_read
+  left_by c long e = go (read_case text) refl as_read
     where
-      go : (x : Result Case) → read_case text ≡ x → ReadsAs x r fields directory
-          → (k : Case) × Left k fields directory h i p × (l ≡ k.plan_line) × (replay_text text ≡ replay_run k)
-      go (found k) q w =
-          let same : CaseIs h l i p ns ≡ CaseIs k.head k.plan_line w.0 w.1 w.2 = sym e ∙ w.3 in
-          let head : h ≡ k.head = cc in
-          let line : l ≡ k.plan_line = cc in
-          let first : w.0 ≡ i = cc in
-          let cues : w.1 ≡ p = cc in (
+      go : (x : R.Result Case) → read_case text ≡ x → ReadsAs x r fields directory
+          → (k : Case) × Left k fields directory c.header c.initial c.plan × (c.plan_line ≡ k.plan_line) × (replay_text text ≡ replay_run k)
+      go (found k) q (initial, plan, nodes, answer, stands, finds, last) =
+          let same : c ≡ case_at k.head k.plan_line initial plan nodes = cc in (
             k,
             record {
-              nodes = w.2;
-              head = head;
+              nodes = c.nodes;
+              head = ap (λ (x : CaseRead). x.header) same;
               long = long;
               read = record { text = text; short = short; reads = q };
-              finds = transport (λ j. Finds k fields directory (first j) (cues j) w.2) w.5;
+              finds = subst (λ (x : CaseRead). Finds k fields directory x.initial x.plan x.nodes) (sym same) finds;
             },
-            line,
+            ap (λ (x : CaseRead). x.plan_line) same,
             short_text text short ∙ ap then_run q,
           )
-      go (refused b) q w = let z : ◌≡◌ {A = ℕ} 0 1 = cc in absurd (omega arith)
+      go (refused b) q w = absurd cc
 
 -- ---- Row 1
 
 module _ (text : List ℕ) (s w : ℕ) where
   -- Whether the state list is short, and whether the work space is.
-  abbrev lists : Bool → Bool → Result (Unit {0})
+  abbrev lists : Bool → Bool → R.Result (Unit {0})
   lists a b = elim a [ true ↦ refused (ShortList 1) | false ↦ elim b [ true ↦ refused (ShortList 3) | false ↦ found tt ] ]
 
   rows_one : (a b : Bool) → ltb s state_need ≡ a → ltb w work_need ≡ b → replay (replay_lists s w) text ≡ (lists a b >> replay_text text)

@@ -1,5 +1,5 @@
 // The open call, in the order of the table.
-ghost use Rattle.std.specs.Prelude.{◌≡◌, ◌≤◌, ◌<◌, length, replicate};
+ghost use Rattle.std.specs.Prelude.{◌≡◌, ◌*◌, ◌≤◌, ◌<◌, length, replicate};
 ghost use Rattle.rules.specs.Case.{Case};
 ghost use Rattle.rules.specs.Verdict.{state_need, work_need, text_most, replay_lists, replay, answer_of, reported};
 ghost use Rattle.rules.specs.Demands.{ReplayDemand1};
@@ -9,34 +9,27 @@ ghost use Rattle.replay.specs.Running.{replay_run, replay_text, Replayed};
 
 use fields::FIELDS;
 use reading::CaseRead;
-use rules::{Answer, Header, STATES, TEXT, WORK};
-use running::Ran;
+use rules::{Answer, STATES, TEXT, WORK};
+use running::Stopped;
 use state::WORDS;
 
 // Row 5, of a case that was read: "running: first cue that doesn't apply". Refused, the state list is zero throughout again.
-fn replay_case(
-    fields: &[u32],
-    directory: &[u32],
-    header: Header,
-    plan_line: u32,
-    initial: usize,
-    plan: usize,
-    states: &mut [u64],
-) -> Answer
-    requires left { (k : Case) × Left k fields.now directory.now header initial plan }
+fn replay_case(fields: &[u32], directory: &[u32], case: CaseRead, states: &mut [u64]) -> Answer
+    requires left { (k : Case) × Left k fields.now directory.now case.header case.initial case.plan }
     requires room { state_need ≤ length states.old }
     requires zero { states.old ≡ replicate (length states.old) 0 }
-    ensures { (k : Case) → Left k fields.now directory.now header initial plan → plan_line ≡ k.plan_line → Replayed (replay_run k) (length states.old) result states.new }
+    ensures { (k : Case) → Left k fields.now directory.now case.header case.initial case.plan → case.plan_line ≡ k.plan_line → Replayed (replay_run k) (length states.old) result states.new }
 {
-    match running::run(fields, directory, header, initial, plan, states) {
-        Ran::All => Answer::Accepted {
+    let header = case.header;
+    match running::run(fields, directory, header, case.initial, case.plan, states) {
+        Ok(()) => Answer::Accepted {
             cues: header.cues,
             nodes: header.nodes,
         },
-        Ran::Stopped { cue } => {
+        Err(Stopped { cue }) => {
             rows::clear(states);
             Answer::Inapplicable {
-                line: plan_line,
+                line: case.plan_line,
                 cue,
             }
         }
@@ -52,41 +45,28 @@ fn replay_fields(text: &[u8], states: &mut [u64], work: &mut [u32], fields: &mut
     ensures { Replayed (replay_text text.now) (length states.old) result states.new }
 {
     match reading::read_case(text, fields, work) {
-        CaseRead::Case {
-            header,
-            plan_line,
-            initial,
-            plan,
-            nodes: _,
-        } => replay_case(fields, work, header, plan_line, initial, plan, states),
-        CaseRead::Refused { answer } => answer,
+        Ok(case) => replay_case(fields, work, case, states),
+        Err(answer) => answer,
     }
 }
 
 // How many fields a short text can have: to clear room for all would cost more than to read it.
 const SMALL: usize = 2048;
 
-fn replay_short(text: &[u8], states: &mut [u64], work: &mut [u32]) -> Answer
+// The same with room for so many fields, as many as a text of fewer than twice as many bytes may have.
+fn replay_with_room<const N: usize>(text: &[u8], states: &mut [u64], work: &mut [u32]) -> Answer
+    requires few { N ≤ FIELDS }
     requires lists { (state_need ≤ length states.old) × (work_need ≤ length work.old) }
-    requires short { length text.now < 4096 }
+    requires short { (length text.now ≤ text_most) × (length text.now < 2 * N) }
     requires zero { states.old ≡ replicate (length states.old) 0 }
     ensures { Replayed (replay_text text.now) (length states.old) result states.new }
 {
-    let mut fields = [0u32; SMALL];
-    replay_fields(text, states, work, &mut fields)
-}
-
-fn replay_long(text: &[u8], states: &mut [u64], work: &mut [u32]) -> Answer
-    requires lists { (state_need ≤ length states.old) × (work_need ≤ length work.old) }
-    requires short { length text.now ≤ text_most }
-    requires zero { states.old ≡ replicate (length states.old) 0 }
-    ensures { Replayed (replay_text text.now) (length states.old) result states.new }
-{
-    let mut fields = [0u32; FIELDS];
+    let mut fields = [0u32; N];
     replay_fields(text, states, work, &mut fields)
 }
 
 // All rows, with a state list that is zero.
+#[tactic(auto, unfolding(rules::specs::Verdict::state_need, rules::specs::Verdict::work_need, rules::specs::Verdict::text_most, rules::specs::State::word_count))]
 fn replay_lent(text: &[u8], states: &mut [u64], work: &mut [u32]) -> Answer
     requires zero { states.old ≡ replicate (length states.old) 0 }
     ensures { Replayed (replay (replay_lists (length states.old) (length work.old)) text.now) (length states.old) result states.new }
@@ -101,9 +81,9 @@ fn replay_lent(text: &[u8], states: &mut [u64], work: &mut [u32]) -> Answer
         return Answer::LongText;
     }
     if text.len() < 2 * SMALL {
-        replay_short(text, states, work)
+        replay_with_room::<SMALL>(text, states, work)
     } else {
-        replay_long(text, states, work)
+        replay_with_room::<FIELDS>(text, states, work)
     }
 }
 

@@ -10,7 +10,8 @@ use importer::Outcome;
 use rules::Answer;
 use writer::Wrote;
 
-// The answer's row of the table: number, line and item, 0 for acceptance; k and n of an acceptance, 0 for a refusal.
+// The answer's row of the table: number, line and item, 0 for acceptance; k and n of an acceptance, 0 for a refusal. Numbers, as C gets them;
+// inside, an answer is an enum.
 #[repr(C)]
 #[derive(Clone, Copy)]
 pub struct Reply {
@@ -25,9 +26,9 @@ fn refusal(number: u32, line: u32, item: u32) -> Reply
     ensures { report_of result ≡ refusal number line item }
 {
     Reply {
-        number: number,
-        line: line,
-        item: item,
+        number,
+        line,
+        item,
         cues: 0,
         nodes: 0,
     }
@@ -42,8 +43,8 @@ pub fn as_reply(answer: Answer) -> Reply
             number: 0,
             line: 0,
             item: 0,
-            cues: cues,
-            nodes: nodes,
+            cues,
+            nodes,
         },
         Answer::ShortList { list } => refusal(1, 0, list),
         Answer::LongText => refusal(2, 0, 0),
@@ -82,7 +83,7 @@ pub struct Written {
     pub length: u32,
 }
 
-// How many records the write call comes with.
+// How many records the write call comes with. One such function for each call's answer: a trait for the three would be longer than they are.
 pub fn records_of(w: Wrote) -> usize
     ensures { result ≡ (reported w.answer).nodes }
 {

@@ -20,7 +20,7 @@ fn put(byte: u8, at: usize, out: &mut [u8]) -> usize
     i
 }
 
-// A number in base ten before place `at`.
+// A number in base ten before place `at`, by hand: no heap, and the bytes go to a lent list. A `while`: how many digits there are shows only as they are taken off.
 fn put_decimal(n: u32, at: usize, out: &mut [u8]) -> usize
     requires { (10 ≤ at) × (at ≤ length out.old) }
     ensures { Put (decimal n) 10 at out.old result out.new }
@@ -43,7 +43,7 @@ fn put_field(n: u32, at: usize, out: &mut [u8]) -> usize
     put(b',', i, out)
 }
 
-// The line of an answer, at the end of `out`; answers where it starts.
+// The line of an answer, at the end of `out`; answers where it starts. It takes the numbers that C gets, of which number 0 is an acceptance.
 pub fn line(number: u32, line: u32, item: u32, cues: u32, nodes: u32, out: &mut [u8]) -> usize
     requires { 35 ≤ length out.old }
     ensures out_after { drop result out.new ≡ printed_report (record { number = number; line = line; item = item; cues = cues; nodes = nodes }) }

@@ -1,3 +1,2 @@
 pub mod Written
 pub mod Filling
-pub mod Cleared

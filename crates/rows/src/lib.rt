@@ -12,18 +12,6 @@ use index::StateNumber;
 use rules::Sign;
 use state::{State, WORDS};
 
-// Writes the words of s to a row.
-fn put_words(row: &mut [u64], s: State)
-    requires { length row.old ≡ word_count }
-    ensures { row.new ≡ s.words }
-{
-    let mut i: usize = 0;
-    while i < WORDS {
-        row[i] = s.words[i];
-        i += 1;
-    }
-}
-
 // Where the row of state l starts: "each written to its own stretch".
 fn row_start(l: StateNumber) -> usize
     ensures { result ≡ word_count * state_of l }
@@ -38,7 +26,7 @@ pub fn put_row(states: &mut [u64], l: StateNumber, s: State)
 {
     let from = row_start(l);
     let to = from + WORDS;
-    put_words(&mut states[from..to], s);
+    states[from..to].copy_from_slice(&s.words);
 }
 
 // A test with a sign.
@@ -61,24 +49,16 @@ pub fn holds_at(states: &[u64], sign: Sign, p: u32, l: StateNumber) -> bool
     with_sign(sign, state::holds(&states[from..to], p))
 }
 
-// The state list, zero throughout.
+// The state list, zero throughout. It and `clear_work` are `fill` at two widths: generic, they would be `fill` again, with the zero handed in.
 pub fn clear(list: &mut [u64])
     ensures { list.new ≡ replicate (length list.old) 0 }
 {
-    let mut i: usize = 0;
-    while i < list.len() {
-        list[i] = 0;
-        i += 1;
-    }
+    list.fill(0);
 }
 
 // The work space, zero throughout.
 pub fn clear_work(work: &mut [u32])
     ensures { work.new ≡ replicate (length work.old) 0 }
 {
-    let mut i: usize = 0;
-    while i < work.len() {
-        work[i] = 0;
-        i += 1;
-    }
+    work.fill(0);
 }

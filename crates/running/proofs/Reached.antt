@@ -3,11 +3,11 @@ use mathlib.Core.Path.{◌≡◌, refl, sym, ap, ap₂, subst, ◌∙◌}
 use mathlib.Core.Bool.{Bool, true, false, false≢true}
 use mathlib.Core.List.{List, [], ◌∷◌, ◌++◌, append-nil}
 use mathlib.Core.Option.{Option, none, some}
-use Prim.Native.Nat.{ℕ, ◌+◌, ◌*◌, ◌≤◌, ◌<◌}
+use Prim.Native.Nat.{ℕ, ◌+◌, ◌-◌, ◌*◌, ◌≤◌, ◌<◌}
 use native.Mathlib.Numerals.{add-one}
 use native.Mathlib.Omega.{arith}
 use lib.ListN.{length, get_or, take, drop, take-append-drop, drop_of_length-le}
-use lib.Seq.{drop-cons, drop-drop}
+use lib.Seq.{drop-cons, drop-drop, take-append_seam}
 use Rattle.rules.specs.declared.Header.{Header}
 use Rattle.rules.specs.State.{proposition_most, Action, applies, next, step, no_action, action_at, states, first_stop}
 use Rattle.rules.specs.Case.{Case}
@@ -19,15 +19,19 @@ use Rattle.rules.proofs.Judgement.Sound.{GoodAction, Sound, sound}
 use Rattle.rules.proofs.Printing.{read_in_ranges}
 use Rattle.fields.specs.Standing.{Stands}
 use Rattle.fields.specs.Directory.{directory_size}
-use Rattle.fields.proofs.Standing.{stands_at, stands_inside, stands_as}
+use Rattle.fields.proofs.Standing.{stands_rest, stands_inside, stands_as}
 use Rattle.fields.proofs.Lines.{cues_fields}
 use Rattle.rows.specs.Rows.{put_row, put_rows}
 use Rattle.rows.proofs.Written.{put_next}
-use Rattle.running.specs.declared.Ran.TheVariants.{All, Stopped}
-use Rattle.running.specs.Running.{Left, ran_of, stop_of, reached, RanAs}
+use Rattle.std.specs.Prelude.{Ok}
+use Rattle.running.specs.Running.{Left, stopped, ran_of, stop_of, reached, RanAs}
 use Rattle.running.specs.Sets.{Fits, sets_of}
 
 -- ---- What reading left
+
+-- A list's part of n fields.
+abbrev pub cues_in : List ℕ → ℕ → ℕ → List ℕ
+cues_in fields from n = take (from + n - from) (drop from fields)
 
 module _ {k : Case} {fields directory : List ℕ} {h : Header} {initial plan : ℕ} (left : Left k fields directory h initial plan) where
   pub left_sound : Sound k
@@ -83,25 +87,35 @@ module _ {k : Case} {fields directory : List ℕ} {h : Header} {initial plan : �
         each_cons (Fits n) _ _ (fits _ b.needed_below) (each_cons (Fits n) _ _ (fits _ b.forbidden_below)
         (each_cons (Fits n) _ _ (fits _ b.added_below) (each_cons (Fits n) _ _ (fits _ b.deleted_below) (each_nil (Fits n)))))
 
-  -- The action of cue n, after i cues.
-  module _ (i n : ℕ) (more : i < h.cues) (e : n ≡ i + 1) where
-    pub cue_inside : plan + n < length fields
-    cue_inside =
-        let all = stands_inside fields plan (80 ∷ k.plan) plan_stands (omega arith) in
-        let long = plan_long in
-        omega arith
+  -- The cues follow the letter.
+  pub cues_inside : plan + 1 + h.cues ≤ length fields
+  cues_inside =
+      let all = stands_inside fields plan (80 ∷ k.plan) plan_stands (omega arith) in
+      let long = plan_long in
+      omega arith
 
-    cue_is : get_or fields (plan + n) 0 ≡ get_or k.plan i 0
-    cue_is =
-        let long = plan_long in
-        stands_at fields plan (80 ∷ k.plan) n plan_stands (omega arith) ∙ ap (λ (m : ℕ). get_or (80 ∷ k.plan) m 0) (e ∙ add-one i)
+  cues_are : cues_in fields (plan + 1) h.cues ≡ k.plan
+  cues_are =
+      let long = plan_long in
+      let here = stands_rest fields plan 80 k.plan plan_stands in
+      let count : plan + 1 + h.cues - (plan + 1) ≡ length k.plan = omega arith in
+      ap₂ take count here.here ∙ take-append_seam k.plan here.rest
 
-    pub cue_known : get_or fields (plan + n) 0 < h.actions
-    cue_known =
-        let long = plan_long in
-        let below : get_or k.plan i 0 < k.head.actions = each_at (λ x. x < k.head.actions) k.plan i 0 left_sound.plan_below (omega arith) in
-        let same = ap (λ (x : Header). x.actions) left.head in
-        omega (arith, cue_is)
+  pub cues_long : length (cues_in fields (plan + 1) h.cues) ≡ h.cues
+  cues_long = ap length cues_are ∙ plan_long
+
+  -- The action of the cue after i cues.
+  pub cue_due : (i n : ℕ) → i ≡ n → n < length (cues_in fields (plan + 1) h.cues)
+      → (i < h.cues) × (get_or (cues_in fields (plan + 1) h.cues) n 0 ≡ get_or k.plan i 0)
+  cue_due i n e more =
+      (omega (arith, cues_long), ap (λ (l : List ℕ). get_or l n 0) cues_are ∙ ap (λ (m : ℕ). get_or k.plan m 0) (sym e))
+
+  pub cue_known : (i a : ℕ) → i < h.cues → a ≡ get_or k.plan i 0 → a < h.actions
+  cue_known i a more e =
+      let long = plan_long in
+      let below : get_or k.plan i 0 < k.head.actions = each_at (λ x. x < k.head.actions) k.plan i 0 left_sound.plan_below (omega arith) in
+      let same = ap (λ (x : Header). x.actions) left.head in
+      omega arith
 
 pub few_cues : (k : Case) (fields directory : List ℕ) (h : Header) (initial plan : ℕ) → Left k fields directory h initial plan → h.cues ≤ 1000
 few_cues k fields directory h initial plan left = subst (λ (x : Header). x.cues ≤ 1000) (sym left.head) (left_sound left).head_good.few_cues
@@ -171,24 +185,19 @@ module _ {k : Case} {fields directory : List ℕ} {h : Header} {initial plan : �
       row ∙ ap₂ (λ (x : List ℕ) (n : ℕ). put_row x n s) w.rows none ∙ put_next (states_of k) i s rest before 0 here
       ∙ ap (λ (n : ℕ). put_rows before 0 (take n (states_of k))) (sym (add-one i))
 
-  -- Cue n is due, and its step is known.
-  module _ (n : ℕ) (more : i < h.cues) (e : n ≡ i + 1) (ok : Bool) (t : List ℕ)
-      (is : (x : Action) → GoodAction x → Stands fields (get_or directory (get_or fields (plan + n) 0) 0) (line_fields (action_line x)) → (ok, t) ≡ step s x) where
-    a : ℕ
-    a = get_or fields (plan + n) 0
-
+  -- A cue with action a is due, and its step is known.
+  module _ (a : ℕ) (more : i < h.cues) (e : a ≡ get_or k.plan i 0) (ok : Bool) (t : List ℕ)
+      (is : (x : Action) → GoodAction x → Stands fields (get_or directory a 0) (line_fields (action_line x)) → (ok, t) ≡ step s x) where
     steps : (ok, t) ≡ step s (action_at k.actions a)
-    unfolding a
     steps =
-        let known = cue_known left i n more e in
+        let known = cue_known left i a more e in
         is (action_at k.actions a) (action_good left a known) (action_stands left a known)
 
     -- That cue, and those after it.
     due : drop i k.plan ≡ a ∷ drop (i + 1) k.plan
-    unfolding a
     due =
         let long = plan_long left in
-        drop-cons k.plan i 0 (omega arith) ∙ ap₂ (λ (y m : ℕ). y ∷ drop m k.plan) (sym (cue_is left i n more e)) (sym (add-one i))
+        drop-cons k.plan i 0 (omega arith) ∙ ap₂ (λ (y m : ℕ). y ∷ drop m k.plan) (sym e) (sym (add-one i))
 
     -- State i and those after it.
     due_states : drop i (states_of k) ≡ s ∷ states k.actions (drop (i + 1) k.plan) (next s (action_at k.actions a))
@@ -205,7 +214,7 @@ module _ {k : Case} {fields directory : List ℕ} {h : Header} {initial plan : �
           rows = written _ due_states;
         }
 
-    pub reached_stop : ok ≡ false → RanAs k (Stopped (i + 1)) before m
+    pub reached_stop : ok ≡ false → RanAs k (stopped (i + 1)) before m
     reached_stop fails =
         let stops : stop_of k ≡ some (i + 1) =
         w.stop ∙ ap (λ (plan : List ℕ). first_stop k.actions plan s (i + 1)) due
@@ -217,7 +226,7 @@ module _ {k : Case} {fields directory : List ℕ} {h : Header} {initial plan : �
         }
 
   -- No cue is due.
-  pub reached_all : h.cues ≤ i → RanAs k All before m
+  pub reached_all : h.cues ≤ i → RanAs k (Ok tt) before m
   unfolding states first_stop
   reached_all over =
       let long = plan_long left in

@@ -1,5 +1,5 @@
 -- Running the plan of a case that was read, over its fields. Assumes nothing.
-use Rattle.std.specs.Prelude.{◌≡◌, List, ℕ, ◌≤◌, length, take}
+use Rattle.std.specs.Prelude.{◌≡◌, List, ℕ, ◌≤◌, length, take, Result, Ok, Err}
 use Rattle.std.proofs.Math.Option.{Option, none, some}
 use Rattle.rules.specs.declared.Header.{Header}
 use Rattle.rules.specs.State.{State, first_stop}
@@ -7,8 +7,7 @@ use Rattle.rules.specs.Case.{Case}
 use Rattle.rules.specs.Verdict.{states_of}
 use Rattle.fields.specs.Directory.{Finds, IsRead, directory_size}
 use Rattle.rows.specs.Rows.{put_rows}
-use Rattle.running.specs.declared.Ran.{Ran}
-use Rattle.running.specs.declared.Ran.TheVariants.{All, Stopped}
+use Rattle.running.specs.declared.Stopped.{Stopped}
 
 -- What reading left: the fields are those of a case that was read, whose header is h, and the directory finds its lines.
 pub record Left (k : Case) (fields directory : List ℕ) (h : Header) (initial plan : ℕ) : Type 0 where
@@ -19,9 +18,12 @@ pub record Left (k : Case) (fields directory : List ℕ) (h : Header) (initial p
   pub finds : Finds k fields directory initial plan nodes
 
 -- All cues apply; or the first that doesn't.
-abbrev pub ran_of : Option ℕ → Ran
-ran_of none = All
-ran_of (some i) = Stopped i
+abbrev pub stopped : ℕ → Result (Unit {0}) Stopped
+stopped i = Err (record { cue = i })
+
+abbrev pub ran_of : Option ℕ → Result (Unit {0}) Stopped
+ran_of none = Ok tt
+ran_of (some i) = stopped i
 
 -- The first cue of a case that doesn't apply.
 abbrev pub stop_of : Case → Option ℕ
@@ -33,6 +35,6 @@ reached none ss = ss
 reached (some i) ss = take i ss
 
 -- What running the plan of a case answers, and what it makes of a state list: the states that it reaches in turn, all after them as it was.
-pub record RanAs (k : Case) (r : Ran) (before after : List ℕ) : Type 0 where
+pub record RanAs (k : Case) (r : Result (Unit {0}) Stopped) (before after : List ℕ) : Type 0 where
   pub answer : r ≡ ran_of (stop_of k)
   pub written : after ≡ put_rows before 0 (reached (stop_of k) (states_of k))

@@ -15,11 +15,10 @@ use rules::Header;
 use sets::SET_COUNT;
 use state::{State, WORDS};
 
-// Whether every cue applied, or the first that did not: "running: first cue that doesn't apply".
+// A run that stops: "running: first cue that doesn't apply".
 #[derive(Clone, Copy)]
-pub enum Ran {
-    All,
-    Stopped { cue: u32 },
+pub struct Stopped {
+    pub cue: u32,
 }
 
 // The step of an action past those that the table holds, in the first words of a state: its sets are read from the fields.
@@ -73,7 +72,7 @@ fn run_cues(
     table: &[u64],
     size: usize,
     held: usize,
-) -> Ran
+) -> Result<(), Stopped>
     requires left { (k : Case) × Left k fields.now directory.now header initial plan }
     requires room { word_count * header.cues + word_count ≤ length states.old }
     requires sized { (size ≤ word_count) × (header.propositions ≤ 64 * size) }
@@ -83,17 +82,19 @@ fn run_cues(
     let first = sets::read_initial(fields, initial);
     let mut words = first.words;
     let mut l = StateNumber::initial();
-    while l.number() < header.cues {
+    // The cues follow the line's letter.
+    let from = plan + 1;
+    let end = from + header.cues as usize;
+    for action in &fields[from..end] {
         let next = l.next();
         rows::put_row(states, l, State { words });
-        let action = fields[plan + next.number() as usize];
-        if !take_cue(fields, directory, table, held, action, &mut words[0..size]) {
-            return Ran::Stopped { cue: next.number() };
+        if !take_cue(fields, directory, table, held, *action, &mut words[0..size]) {
+            return Err(Stopped { cue: next.number() });
         }
         l = next;
     }
     rows::put_row(states, l, State { words });
-    Ran::All
+    Ok(())
 }
 
 // The run with a table that is zero: first the sets of as many actions as it has room for.
@@ -106,7 +107,7 @@ fn run_with(
     states: &mut [u64],
     table: &mut [u64],
     size: usize,
-) -> Ran
+) -> Result<(), Stopped>
     requires left { (k : Case) × Left k fields.now directory.now header initial plan }
     requires room { word_count * header.cues + word_count ≤ length states.old }
     requires zero { table.old ≡ replicate (length table.old) 0 }
@@ -126,8 +127,8 @@ const FEW: usize = 512;
 // How many that of any other model has; the sets of an action past those that it holds are read at each of its cues.
 const MANY: usize = 8192;
 
-// The run of a small model.
-fn run_few(
+// The run with room for so many words in its table: a call for a small model clears few. No heap: the table is an array of the call's own.
+fn run_with_room<const N: usize>(
     fields: &[u32],
     directory: &[u32],
     header: Header,
@@ -135,34 +136,14 @@ fn run_few(
     plan: usize,
     states: &mut [u64],
     size: usize,
-) -> Ran
+) -> Result<(), Stopped>
+    requires few { N ≤ MANY }
     requires left { (k : Case) × Left k fields.now directory.now header initial plan }
     requires room { word_count * header.cues + word_count ≤ length states.old }
     requires sized { (1 ≤ size) × (size ≤ word_count) × (header.propositions ≤ 64 * size) }
     ensures { (k : Case) → Left k fields.now directory.now header initial plan → RanAs k result states.old states.new }
 {
-    let mut table = [0u64; FEW];
-    run_with(
-        fields, directory, header, initial, plan, states, &mut table, size,
-    )
-}
-
-// The run of any other model.
-fn run_many(
-    fields: &[u32],
-    directory: &[u32],
-    header: Header,
-    initial: usize,
-    plan: usize,
-    states: &mut [u64],
-    size: usize,
-) -> Ran
-    requires left { (k : Case) × Left k fields.now directory.now header initial plan }
-    requires room { word_count * header.cues + word_count ≤ length states.old }
-    requires sized { (1 ≤ size) × (size ≤ word_count) × (header.propositions ≤ 64 * size) }
-    ensures { (k : Case) → Left k fields.now directory.now header initial plan → RanAs k result states.old states.new }
-{
-    let mut table = [0u64; MANY];
+    let mut table = [0u64; N];
     run_with(
         fields, directory, header, initial, plan, states, &mut table, size,
     )
@@ -177,7 +158,7 @@ pub fn run(
     initial: usize,
     plan: usize,
     states: &mut [u64],
-) -> Ran
+) -> Result<(), Stopped>
     requires left { (k : Case) × Left k fields.now directory.now header initial plan }
     requires room { word_count * header.cues + word_count ≤ length states.old }
     ensures { (k : Case) → Left k fields.now directory.now header initial plan → RanAs k result states.old states.new }
@@ -185,8 +166,8 @@ pub fn run(
     let size = sets::words_of(header.propositions);
     let actions = header.actions;
     if table::held(actions, size, FEW) == actions as usize {
-        run_few(fields, directory, header, initial, plan, states, size)
+        run_with_room::<FEW>(fields, directory, header, initial, plan, states, size)
     } else {
-        run_many(fields, directory, header, initial, plan, states, size)
+        run_with_room::<MANY>(fields, directory, header, initial, plan, states, size)
     }
 }

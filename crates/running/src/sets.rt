@@ -14,18 +14,16 @@ use state::{State, WORDS};
 pub const SET_COUNT: usize = 4;
 
 // How many words so many propositions take; at least one, so that an action's sets have a place of their own.
+#[tactic(auto, unfolding(rules::specs::State::word_count, rules::specs::State::proposition_most))]
 pub fn words_of(propositions: u32) -> usize
     requires { propositions ≤ proposition_most }
     ensures { (1 ≤ result) × (result ≤ word_count) × (propositions ≤ 64 * result) }
 {
-    if propositions == 0 {
-        1
-    } else {
-        (propositions as usize - 1) / 64 + 1
-    }
+    (propositions as usize).div_ceil(64).max(1)
 }
 
 // The members of the list at `at` go into a set's words, each as it is loaded. Answers the place after the list.
+#[tactic(auto, unfolding(crate::specs::Sets::past))]
 fn put_members(fields: &[u32], at: usize, words: &mut [u64]) -> usize
     requires { past fields.now at ≤ length fields.now }
     ensures next { result ≡ past fields.now at }
@@ -33,11 +31,8 @@ fn put_members(fields: &[u32], at: usize, words: &mut [u64]) -> usize
 {
     let count = fields[at] as usize;
     let end = at + 1 + count;
-    let mut i = at + 1;
-    while i < end {
-        let member = fields[i];
-        state::insert(words, member);
-        i += 1;
+    for member in &fields[at + 1..end] {
+        state::insert(words, *member);
     }
     end
 }
@@ -51,12 +46,10 @@ pub fn decode(fields: &[u32], at: usize, size: usize, words: &mut [u64])
     ensures { IsAction fields.now at (action_in size words.new) }
 {
     let mut place = at + 1;
-    let mut i: usize = 0;
-    while i < SET_COUNT {
+    for i in 0..SET_COUNT {
         let from = size * i;
         let to = from + size;
         place = put_members(fields, place, &mut words[from..to]);
-        i += 1;
     }
 }
 

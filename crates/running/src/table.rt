@@ -7,13 +7,14 @@ use crate::sets;
 use crate::sets::SET_COUNT;
 
 // How many of so many actions, with sets of `size` words, a table of so many words has room for.
+#[tactic(auto, unfolding(rules::specs::State::word_count))]
 pub fn held(actions: u32, size: usize, words: usize) -> usize
     requires { (1 ≤ size) × (size ≤ word_count) }
     ensures { (result ≤ actions) × (set_count * size * result ≤ words) }
 {
     let all = actions as usize;
     let most = words / (SET_COUNT * size);
-    if all < most { all } else { most }
+    all.min(most)
 }
 
 // The sets of the first `count` actions, each in its own stretch of a table that is zero.
@@ -32,12 +33,10 @@ pub fn decode_actions(
     ensures { Holds fields.now directory.now table.new size count }
 {
     let stretch = SET_COUNT * size;
-    let mut a: usize = 0;
-    while a < count {
+    for a in 0..count {
         let at = directory[a] as usize;
         let from = stretch * a;
         let to = from + stretch;
         sets::decode(fields, at, size, &mut table[from..to]);
-        a += 1;
     }
 }

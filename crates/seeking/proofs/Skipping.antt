@@ -5,33 +5,35 @@ use mathlib.Core.List.{List}
 use Prim.Native.Nat.{ℕ, zero, suc, ◌≤◌}
 use native.Mathlib.Omega.{arith}
 use lib.ListN.{length}
+use Rattle.std.specs.Prelude.{Some}
 use Rattle.rules.specs.Gaps.{Within}
 use Rattle.choices.specs.Searching.{next, over, next_of, on_from, AllFail}
 use Rattle.choices.specs.Reasons.{Reason, Known, Learns}
 use Rattle.choices.proofs.Order.{Sized, sized, Kept, kept}
 use Rattle.choices.proofs.Skipping.{shorter, next_skips, over_fails}
-use Rattle.seeking.specs.Seeking.{GoesOn, Skipped, Nearer}
+use Rattle.seeking.specs.Seeking.{GoesOn, Nearer}
 
 -- No more gaps are blamed than there are: so `learn` promises of a condition that nothing meets.
 pub blame_inside : (k m b : ℕ) (c why after : List ℕ) → Learns k m c why b after → b ≤ length c
 blame_inside k m b c why after l = (l (λ d. false) (λ d h a. refl) (λ s i d h a x. refl)).0.0
 
-pub nearer : (k b : ℕ) (c d : List ℕ) → next_of k b c ≡ next d → Nearer k c b d
-nearer k zero c d e = tt
-nearer k (suc b) c d e =
-    (shorter k (suc b) c d e, subst (Sized (length c)) e (sized k (suc b) c), λ w. subst (Kept k) e (kept k (suc b) c w))
+-- There is a next choice only where a gap is to blame.
+pub nearer : (k b : ℕ) (c d : List ℕ) → b ≤ length c → next_of k b c ≡ next d → Nearer k c (Some b) d
+nearer k zero c d inside e = let z : ◌≡◌ {A = ℕ} 0 1 = cc in absurd (omega arith)
+nearer k (suc b) c d inside e = (
+  omega arith,
+  inside,
+  shorter k (suc b) c d e,
+  subst (Sized (length c)) e (sized k (suc b) c),
+  λ w. subst (Kept k) e (kept k (suc b) c w),
+)
 
 module _ (passing : List ℕ → Bool) (k : ℕ) (c : List ℕ) where
-  -- There is a next choice only where a gap is to blame.
-  skipped : (b : ℕ) (d why : List ℕ) → next_of k b c ≡ next d → GoesOn passing k c d why → Skipped passing k c b d why
-  skipped zero d why e g = let z : ◌≡◌ {A = ℕ} 0 1 = cc in absurd (omega arith)
-  skipped (suc b) d why e g = g
-
   pub goes : (m b : ℕ) (why after d : List ℕ) → Learns k m c why b after → next_of k b c ≡ next d → Within k c
-      → Reason passing k (length c) m c → Known passing k why c → Skipped passing k c b d after
+      → Reason passing k (length c) m c → Known passing k why c → GoesOn passing k c d after
   goes m b why after d l e w r known =
       let x = l passing r known in
-      skipped b d after e (record { skips = next_skips passing k b c d w x.0 e; known = x.1 d e })
+      record { skips = next_skips passing k b c d w x.0 e; known = x.1 d e }
 
   pub none_left_lem : (m b : ℕ) (why after : List ℕ) → Learns k m c why b after → next_of k b c ≡ over → Within k c
       → Reason passing k (length c) m c → Known passing k why c → AllFail passing (on_from k c)

@@ -6,6 +6,7 @@ use mathlib.Core.Option.{Option, none, some}
 use Prim.Native.Nat.{ℕ, suc, ◌+◌, ◌<◌}
 use native.Mathlib.Omega.{arith}
 use lib.ListN.{length, get_or, drop}
+use Rattle.std.specs.Prelude.{Some, None}
 use Rattle.rules.specs.declared.Answer.TheVariants.{WrongShape}
 use Rattle.rules.specs.Text.{is_digit, is_plain, feed_follows}
 use Rattle.rules.specs.Result.{found, refused, ◌>>=◌}
@@ -15,11 +16,12 @@ use Rattle.rules.specs.Form.{arrow_word, closing_word, Back, a_compound, the_end
 use Rattle.text.proofs.Feeds.{feed_inside}
 use Rattle.tokens.specs.Pieces.{ends_piece, piece_from, name_end}
 use Rattle.tokens.proofs.Lines.{piece_end}
-use Rattle.shapes.specs.declared.Back.TheVariants.{Compound, End, Other}
-use Rattle.shapes.specs.declared.Ids.TheVariants.{All, Other as OtherIds}
+use Rattle.tokens.proofs.Words.{no_name_told}
+use Rattle.shapes.specs.declared.Back.TheVariants.{Compound, End}
+use Rattle.shapes.specs.declared.Ids.{Ids}
 use Rattle.shapes.specs.Shapes.{bytes, words_at, end_at, words_after, end_after, Numbered, Headed, IdsAre, BackIs}
 use Rattle.rules.proofs.Import.Says.{same_bytes_lem}
-use Rattle.shapes.proofs.Words.{word_inside, word_feeds, word_ends, word_more, word_last, word_feed_or_space, words_after_lem, words_some, plain_apart, NameAt, name_here, no_name}
+use Rattle.shapes.proofs.Words.{word_inside, word_feeds, word_ends, word_more, word_last, word_feed_or_space, words_after_lem, words_some, plain_apart, NameAt, name_here}
 use Rattle.shapes.proofs.Fronts.{both_true, both_false, first_false}
 
 -- ---- By the words
@@ -84,7 +86,7 @@ module _ (t : List ℕ) (at : ℕ) where
       ]
       >>= λ (line, n', place'). shaped 0 n (back_of (words_of line)) >>= λ back. found (back, n', place')
 
-  pub back_out : feed_follows t at ≡ false → BackIs t at Other
+  pub back_out : feed_follows t at ≡ false → BackIs t at None
   unfolding back_line due_line
   back_out e n = ap (by_line n) e
 
@@ -93,7 +95,7 @@ module _ (t : List ℕ) (at : ℕ) where
     unfolding back_line due_line
     by_feed n = ap (by_line n) f
 
-    pub back_none : back_of (words_at t at) ≡ none → BackIs t at Other
+    pub back_none : back_of (words_at t at) ≡ none → BackIs t at None
     back_none e n = by_feed n ∙ ap (goes_on n) e
 
     pub back_some : (x : Back) (next : ℕ) → back_of (words_at t at) ≡ some x → next ≡ end_at t at + 1 → (n : ℕ) → back_line t n at ≡ found (x, n + 1, next)
@@ -113,13 +115,13 @@ module _ (t : List ℕ) (at : ℕ) (f : feed_follows t at ≡ true) where
   closing_inside is = word_inside t at (at + 3) f (closing_at is)
 
   module _ (plain : is_plain (piece_from 32 t at) ≡ false) where
-    pub no_closing_word : same_bytes (piece_from 32 t at) closing_word ≡ false → BackIs t at Other
+    pub no_closing_word : same_bytes (piece_from 32 t at) closing_word ≡ false → BackIs t at None
     no_closing_word e =
         back_none t at f
         (ap back_of (words_after_lem t at (piece_end 32 t at) f refl).0 ∙ no_id (piece_from 32 t at) (words_after t (piece_end 32 t at)) plain e)
 
     module _ (is : same_bytes (piece_from 32 t at) closing_word ≡ true) where
-      pub closing_goes_on : (get_or t (at + 3) 0 ≡ 10 → ⊥) → BackIs t at Other
+      pub closing_goes_on : (get_or t (at + 3) 0 ≡ 10 → ⊥) → BackIs t at None
       closing_goes_on m =
           let s = word_feed_or_space t at (at + 3) f (closing_at is) m in
           let some = words_some t (at + 3 + 1) in
@@ -127,7 +129,7 @@ module _ (t : List ℕ) (at : ℕ) (f : feed_follows t at ≡ true) where
           (ap back_of ((word_more t at (at + 3) f (closing_at is) s).0 ∙ ap (λ (ws : List (List ℕ)). piece_from 32 t at ∷ ws) some.2)
           ∙ no_id_two (piece_from 32 t at) some.0 some.1 plain)
 
-      pub closing_there : get_or t (at + 3) 0 ≡ 10 → BackIs t at (End (at + 3 + 1))
+      pub closing_there : get_or t (at + 3) 0 ≡ 10 → BackIs t at (Some (End (at + 3 + 1)))
       closing_there q n =
           let last = word_last t at (at + 3) f (closing_at is) (λ z. omega arith) in
           back_some t at f the_end (at + 3 + 1) (ap back_of last.0 ∙ alone_is (piece_from 32 t at) true is) (ap (λ (i : ℕ). i + 1) (sym last.1)) n
@@ -135,7 +137,7 @@ module _ (t : List ℕ) (at : ℕ) (f : feed_follows t at ≡ true) where
 -- ---- A compound line up to its task's name
 
 module _ (t : List ℕ) (at id next : ℕ) (w : Numbered t at id next) where
-  pub id_alone : (get_or t next 0 ≡ 32 → ⊥) → BackIs t at Other
+  pub id_alone : (get_or t next 0 ≡ 32 → ⊥) → BackIs t at None
   id_alone n =
       back_none t at w.feeds
       (ap back_of (word_last t at next w.feeds w.ends n).0 ∙ alone_is (piece_from 32 t at) false (no_closing (piece_from 32 t at) w.plain))
@@ -147,38 +149,37 @@ module _ (t : List ℕ) (at id next : ℕ) (w : Numbered t at id next) where
     split : words_at t at ≡ piece_from 32 t at ∷ words_at t (next + 1)
     split = (word_more t at next w.feeds w.ends s).0
 
-    module _ (to : ℕ) (e : to ≡ name_end (next + 1) (piece_from 32 t (next + 1))) where
-      pub no_task_name : to ≡ next + 1 → BackIs t at Other
-      no_task_name q =
+    pub no_task_name : None ≡ name_end (next + 1) (piece_from 32 t (next + 1)) → BackIs t at None
+    no_task_name e =
+        back_none t at w.feeds
+        (ap back_of (split ∙ ap (λ (ws : List (List ℕ)). piece_from 32 t at ∷ ws) (words_after_lem t (next + 1) (piece_end 32 t (next + 1)) task_feeds refl).0)
+        ∙ no_task (piece_from 32 t at) (piece_from 32 t (next + 1)) (words_after t (piece_end 32 t (next + 1))) (no_name_told (next + 1) (piece_from 32 t (next + 1)) e))
+
+    module _ (to : ℕ) (e : Some to ≡ name_end (next + 1) (piece_from 32 t (next + 1))) where
+      pub task_is : NameAt t (next + 1) to
+      task_is = name_here t (next + 1) to task_feeds e
+
+      pub task_last : (get_or t to 0 ≡ 32 → ⊥) → BackIs t at None
+      task_last m =
           back_none t at w.feeds
-          (ap back_of (split ∙ ap (λ (ws : List (List ℕ)). piece_from 32 t at ∷ ws) (words_after_lem t (next + 1) (piece_end 32 t (next + 1)) task_feeds refl).0)
-          ∙ no_task (piece_from 32 t at) (piece_from 32 t (next + 1)) (words_after t (piece_end 32 t (next + 1))) (no_name t (next + 1) to task_feeds e q))
+          (ap back_of (split ∙ ap (λ (ws : List (List ℕ)). piece_from 32 t at ∷ ws) (word_last t (next + 1) to task_feeds task_is.ends m).0))
 
-      module _ (n : to ≡ next + 1 → ⊥) where
-        pub task_is : NameAt t (next + 1) to
-        task_is = name_here t (next + 1) to task_feeds e n
-
-        pub task_last : (get_or t to 0 ≡ 32 → ⊥) → BackIs t at Other
-        task_last m =
-            back_none t at w.feeds
-            (ap back_of (split ∙ ap (λ (ws : List (List ℕ)). piece_from 32 t at ∷ ws) (word_last t (next + 1) to task_feeds task_is.ends m).0))
-
-        pub headed : get_or t to 0 ≡ 32 → Headed t at id (next + 1) to
-        headed q =
-            let more = word_more t (next + 1) to task_feeds task_is.ends q in
-            record {
-              feeds = w.feeds;
-              plain = w.plain;
-              worth = w.worth;
-              named = ap is_name (sym task_is.same) ∙ task_is.named;
-              order = task_is.order;
-              parts =
-                  split
-                  ∙ ap (λ (ws : List (List ℕ)). piece_from 32 t at ∷ ws)
-                  (more.0 ∙ ap (λ (l : List ℕ). l ∷ words_at t (to + 1)) task_is.same);
-              ends = (word_more t at next w.feeds w.ends s).1 ∙ more.1;
-              goes = more.2;
-            }
+      pub headed : get_or t to 0 ≡ 32 → Headed t at id (next + 1) to
+      headed q =
+          let more = word_more t (next + 1) to task_feeds task_is.ends q in
+          record {
+            feeds = w.feeds;
+            plain = w.plain;
+            worth = w.worth;
+            named = ap is_name (sym task_is.same) ∙ task_is.named;
+            order = task_is.order;
+            parts =
+                split
+                ∙ ap (λ (ws : List (List ℕ)). piece_from 32 t at ∷ ws)
+                (more.0 ∙ ap (λ (l : List ℕ). l ∷ words_at t (to + 1)) task_is.same);
+            ends = (word_more t at next w.feeds w.ends s).1 ∙ more.1;
+            goes = more.2;
+          }
 
 -- ---- A compound line from its task's name on
 
@@ -192,7 +193,7 @@ module _ (t : List ℕ) (at id from to : ℕ) (h : Headed t at id from to) where
   abbrev led : List (List ℕ) → List (List ℕ)
   led ws = piece_from 32 t at ∷ bytes t from to ∷ ws
 
-  pub no_arrow_word : same_bytes (piece_from 32 t (to + 1)) arrow_word ≡ false → BackIs t at Other
+  pub no_arrow_word : same_bytes (piece_from 32 t (to + 1)) arrow_word ≡ false → BackIs t at None
   no_arrow_word e =
       back_none t at h.feeds
       (ap back_of (h.parts ∙ ap led (words_after_lem t (to + 1) (piece_end 32 t (to + 1)) h.goes refl).0)
@@ -202,7 +203,7 @@ module _ (t : List ℕ) (at id from to : ℕ) (h : Headed t at id from to) where
     pub arrow_inside : to + 3 < length t
     arrow_inside = word_inside t (to + 1) (to + 3) h.goes (arrow_at is)
 
-    pub arrow_last : (get_or t (to + 3) 0 ≡ 32 → ⊥) → BackIs t at Other
+    pub arrow_last : (get_or t (to + 3) 0 ≡ 32 → ⊥) → BackIs t at None
     arrow_last n =
         back_none t at h.feeds (ap back_of (h.parts ∙ ap led (word_last t (to + 1) (to + 3) h.goes (arrow_at is) n).0))
 
@@ -220,61 +221,60 @@ module _ (t : List ℕ) (at id from to : ℕ) (h : Headed t at id from to) where
           ((word_more t (to + 1) (to + 3) h.goes (arrow_at is) s).0
           ∙ ap (λ (i : ℕ). piece_from 32 t (to + 1) ∷ words_at t i) same)
 
-      module _ (end : ℕ) (e : end ≡ name_end (to + 4) (piece_from 32 t (to + 4))) where
-        abbrev after : List (List ℕ) → List (List ℕ)
-        after ws = led (piece_from 32 t (to + 1) ∷ ws)
+      abbrev after : List (List ℕ) → List (List ℕ)
+      after ws = led (piece_from 32 t (to + 1) ∷ ws)
 
-        pub no_method_name : end ≡ to + 4 → BackIs t at Other
-        no_method_name q =
+      pub no_method_name : None ≡ name_end (to + 4) (piece_from 32 t (to + 4)) → BackIs t at None
+      no_method_name e =
+          back_none t at h.feeds
+          (ap back_of (three ∙ ap after (words_after_lem t (to + 4) (piece_end 32 t (to + 4)) method_feeds refl).0)
+          ∙ no_method_lem (piece_from 32 t at) (bytes t from to) (piece_from 32 t (to + 1)) (piece_from 32 t (to + 4)) (words_after t (piece_end 32 t (to + 4)))
+          (no_name_told (to + 4) (piece_from 32 t (to + 4)) e))
+
+      module _ (end : ℕ) (e : Some end ≡ name_end (to + 4) (piece_from 32 t (to + 4))) where
+        pub method_is : NameAt t (to + 4) end
+        method_is = name_here t (to + 4) end method_feeds e
+
+        pub ids_feed : feed_follows t end ≡ true
+        ids_feed = word_feeds t (to + 4) end method_feeds method_is.ends
+
+        pub ids_end : ends_piece 32 (get_or t end 0) ≡ true
+        ids_end = word_ends t (to + 4) end method_feeds method_is.ends
+
+        four : words_at t at ≡ after (piece_from 32 t (to + 4) ∷ words_after t end)
+        four = three ∙ ap after (words_after_lem t (to + 4) end method_feeds method_is.ends).0
+
+        pub other_ids : IdsAre t end None → BackIs t at None
+        other_ids i =
             back_none t at h.feeds
-            (ap back_of (three ∙ ap after (words_after_lem t (to + 4) (piece_end 32 t (to + 4)) method_feeds refl).0)
-            ∙ no_method_lem (piece_from 32 t at) (bytes t from to) (piece_from 32 t (to + 1)) (piece_from 32 t (to + 4)) (words_after t (piece_end 32 t (to + 4)))
-            (no_name t (to + 4) end method_feeds e q))
+            (ap back_of four
+            ∙ no_ids (piece_from 32 t at) (bytes t from to) (piece_from 32 t (to + 1)) (piece_from 32 t (to + 4)) (words_after t end) i)
 
-        module _ (n : end ≡ to + 4 → ⊥) where
-          pub method_is : NameAt t (to + 4) end
-          method_is = name_here t (to + 4) end method_feeds e n
-
-          pub ids_feed : feed_follows t end ≡ true
-          ids_feed = word_feeds t (to + 4) end method_feeds method_is.ends
-
-          pub ids_end : ends_piece 32 (get_or t end 0) ≡ true
-          ids_end = word_ends t (to + 4) end method_feeds method_is.ends
-
-          four : words_at t at ≡ after (piece_from 32 t (to + 4) ∷ words_after t end)
-          four = three ∙ ap after (words_after_lem t (to + 4) end method_feeds method_is.ends).0
-
-          pub other_ids : IdsAre t end OtherIds → BackIs t at Other
-          other_ids i =
-              back_none t at h.feeds
-              (ap back_of four
-              ∙ no_ids (piece_from 32 t at) (bytes t from to) (piece_from 32 t (to + 1)) (piece_from 32 t (to + 4)) (words_after t end) i)
-
-          pub all_ids : (count next : ℕ) → IdsAre t end (All count next) → BackIs t at (Compound id from to (to + 4) end count next)
-          all_ids count next (ids, spells, many, plains, values, past) =
-              let past_it = feed_inside t (to + 1) h.goes in
-              let tests =
-              both_true (is_plain (piece_from 32 t at)) _ h.plain
-              (both_true (is_name (bytes t from to)) _ h.named
-              (both_true (same_bytes (piece_from 32 t (to + 1)) arrow_word) _ is
-              (both_true (is_name (piece_from 32 t (to + 4))) (all_plain (words_after t end)) method_is.named plains))) in
-              let ends : end_at t at ≡ end_after t end =
-              h.ends
-              ∙ ((word_more t (to + 1) (to + 3) h.goes (arrow_at is) s).1
-              ∙ (ap (end_at t) same ∙ (words_after_lem t (to + 4) end method_feeds method_is.ends).1)) in (
-                h.order,
-                omega arith,
-                method_is.order,
-                method_is.inside,
-                (
-                  ids,
-                  spells,
-                  many,
-                  back_some t at h.feeds (a_compound id (bytes t from to) (bytes t (to + 4) end) ids) next
-                      (ap back_of four
-                      ∙ (four_is (piece_from 32 t at) (bytes t from to) (piece_from 32 t (to + 1)) (piece_from 32 t (to + 4)) (words_after t end) true tests
-                      ∙ (ap (λ (i : ℕ). some (a_compound i (bytes t from to) (piece_from 32 t (to + 4)) (map id_of (words_after t end)))) (sym h.worth)
-                      ∙ ap₂ (λ (m : List ℕ) (l : List ℕ). some (a_compound id (bytes t from to) m l)) method_is.same values)))
-                      (past ∙ ap (λ (i : ℕ). i + 1) (sym ends)),
-                ),
-              )
+        pub all_ids : (r : Ids) → IdsAre t end (Some r) → BackIs t at (Some (Compound id from to (to + 4) end r.count r.next))
+        all_ids r (ids, spells, many, plains, values, past) =
+            let past_it = feed_inside t (to + 1) h.goes in
+            let tests =
+            both_true (is_plain (piece_from 32 t at)) _ h.plain
+            (both_true (is_name (bytes t from to)) _ h.named
+            (both_true (same_bytes (piece_from 32 t (to + 1)) arrow_word) _ is
+            (both_true (is_name (piece_from 32 t (to + 4))) (all_plain (words_after t end)) method_is.named plains))) in
+            let ends : end_at t at ≡ end_after t end =
+            h.ends
+            ∙ ((word_more t (to + 1) (to + 3) h.goes (arrow_at is) s).1
+            ∙ (ap (end_at t) same ∙ (words_after_lem t (to + 4) end method_feeds method_is.ends).1)) in (
+              h.order,
+              omega arith,
+              method_is.order,
+              method_is.inside,
+              (
+                ids,
+                spells,
+                many,
+                back_some t at h.feeds (a_compound id (bytes t from to) (bytes t (to + 4) end) ids) r.next
+                    (ap back_of four
+                    ∙ (four_is (piece_from 32 t at) (bytes t from to) (piece_from 32 t (to + 1)) (piece_from 32 t (to + 4)) (words_after t end) true tests
+                    ∙ (ap (λ (i : ℕ). some (a_compound i (bytes t from to) (piece_from 32 t (to + 4)) (map id_of (words_after t end)))) (sym h.worth)
+                    ∙ ap₂ (λ (m : List ℕ) (l : List ℕ). some (a_compound id (bytes t from to) m l)) method_is.same values)))
+                    (past ∙ ap (λ (i : ℕ). i + 1) (sym ends)),
+              ),
+            )

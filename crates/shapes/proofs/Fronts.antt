@@ -6,6 +6,7 @@ use mathlib.Core.Option.{Option, none, some}
 use Prim.Native.Nat.{ℕ, suc, ◌+◌, ◌≤◌, ◌<◌}
 use native.Mathlib.Omega.{arith}
 use lib.ListN.{length, get_or, drop}
+use Rattle.std.specs.Prelude.{Some, None}
 use Rattle.rules.specs.declared.Answer.TheVariants.{WrongShape}
 use Rattle.rules.specs.Text.{is_digit, is_plain, feed_follows}
 use Rattle.rules.specs.Result.{found, refused, ◌>>=◌}
@@ -14,11 +15,11 @@ use Rattle.rules.specs.Tokens.{line_of, due_line, shaped, words_of, is_name, sam
 use Rattle.rules.specs.Form.{root_word, Front, an_action, the_root, front_of, front_line}
 use Rattle.tokens.specs.Pieces.{piece_from, name_end}
 use Rattle.tokens.proofs.Lines.{piece_end}
-use Rattle.tokens.proofs.Words.{IsNumber}
-use Rattle.shapes.specs.declared.Front.TheVariants.{Action, Root, Other}
+use Rattle.tokens.proofs.Words.{no_name_told, IsNumber}
+use Rattle.shapes.specs.declared.Front.TheVariants.{Action, Root}
 use Rattle.shapes.specs.Shapes.{bytes, words_at, end_at, words_after, Numbered, FrontIs}
 use Rattle.rules.proofs.Import.Says.{same_bytes_lem}
-use Rattle.shapes.proofs.Words.{apart, word_inside, word_more, word_last, word_feed_or_space, words_after_lem, words_some, plain_apart, NameAt, name_here, no_name}
+use Rattle.shapes.proofs.Words.{apart, word_inside, word_more, word_last, word_feed_or_space, words_after_lem, words_some, plain_apart, NameAt, name_here}
 
 -- ---- By the words
 
@@ -82,11 +83,11 @@ module _ (t : List ℕ) (at : ℕ) where
       >>= λ (line, n', place'). shaped 0 n (front_of (words_of line)) >>= λ front. found (front, n', place'))
       e
 
-  pub front_out : feed_follows t at ≡ false → FrontIs t at Other
+  pub front_out : feed_follows t at ≡ false → FrontIs t at None
   front_out e n = by_feed n false e
 
   module _ (f : feed_follows t at ≡ true) where
-    pub front_none : front_of (words_at t at) ≡ none → FrontIs t at Other
+    pub front_none : front_of (words_at t at) ≡ none → FrontIs t at None
     front_none e n = by_feed n true f ∙ ap (goes_on n) e
 
     front_some : (x : Front) (next : ℕ) → front_of (words_at t at) ≡ some x → next ≡ end_at t at + 1 → (n : ℕ) → front_line t n at ≡ found (x, n + 1, next)
@@ -95,17 +96,17 @@ module _ (t : List ℕ) (at : ℕ) where
         let same : at + suc m ≡ next = omega arith in
         by_feed n true f ∙ (ap (goes_on n) e ∙ ap (λ (i : ℕ). found (x, n + 1, i)) same)
 
-    pub front_root : (id next : ℕ) → front_of (words_at t at) ≡ some (the_root id) → next ≡ end_at t at + 1 → FrontIs t at (Root id next)
+    pub front_root : (id next : ℕ) → front_of (words_at t at) ≡ some (the_root id) → next ≡ end_at t at + 1 → FrontIs t at (Some (Root id next))
     front_root id next e q n = front_some (the_root id) next e q n
 
     pub front_action : (id from to : ℕ) → front_of (words_at t at) ≡ some (an_action id (bytes t from to)) → to ≡ end_at t at → from ≤ to → to < length t
-        → FrontIs t at (Action id from to)
+        → FrontIs t at (Some (Action id from to))
     front_action id from to e q o i = (o, i, λ n. front_some (an_action id (bytes t from to)) (to + 1) e (omega arith) n)
 
 -- ---- An action line
 
 module _ (t : List ℕ) (at id next : ℕ) (w : Numbered t at id next) where
-  pub id_alone : (get_or t next 0 ≡ 32 → ⊥) → FrontIs t at Other
+  pub id_alone : (get_or t next 0 ≡ 32 → ⊥) → FrontIs t at None
   id_alone n = front_none t at w.feeds (ap front_of (word_last t at next w.feeds w.ends n).0)
 
   module _ (s : get_or t next 0 ≡ 32) where
@@ -122,40 +123,39 @@ module _ (t : List ℕ) (at id next : ℕ) (w : Numbered t at id next) where
     not_root : (v : List ℕ) → (same_bytes (piece_from 32 t at) root_word && is_plain v) ≡ false
     not_root v = first_false (same_bytes (piece_from 32 t at) root_word) (is_plain v) (no_root (piece_from 32 t at) w.plain)
 
-    module _ (to : ℕ) (e : to ≡ name_end (next + 1) (piece_from 32 t (next + 1))) where
-      pub no_name_there : to ≡ next + 1 → FrontIs t at Other
-      no_name_there q =
-          front_none t at w.feeds
-          (ap front_of three
-          ∙ none_two (piece_from 32 t at) (piece_from 32 t (next + 1)) (words_after t (piece_end 32 t (next + 1)))
-          (not_root (piece_from 32 t (next + 1)))
-          (both_false (is_plain (piece_from 32 t at)) (is_name (piece_from 32 t (next + 1))) (no_name t (next + 1) to name_feeds e q)))
+    pub no_name_there : None ≡ name_end (next + 1) (piece_from 32 t (next + 1)) → FrontIs t at None
+    no_name_there e =
+        front_none t at w.feeds
+        (ap front_of three
+        ∙ none_two (piece_from 32 t at) (piece_from 32 t (next + 1)) (words_after t (piece_end 32 t (next + 1)))
+        (not_root (piece_from 32 t (next + 1)))
+        (both_false (is_plain (piece_from 32 t at)) (is_name (piece_from 32 t (next + 1))) (no_name_told (next + 1) (piece_from 32 t (next + 1)) e)))
 
-      module _ (n : to ≡ next + 1 → ⊥) where
-        pub name_is : NameAt t (next + 1) to
-        name_is = name_here t (next + 1) to name_feeds e n
+    module _ (to : ℕ) (e : Some to ≡ name_end (next + 1) (piece_from 32 t (next + 1))) where
+      pub name_is : NameAt t (next + 1) to
+      name_is = name_here t (next + 1) to name_feeds e
 
-        pub third_word : (get_or t to 0 ≡ 10 → ⊥) → FrontIs t at Other
-        third_word m = go (word_feed_or_space t (next + 1) to name_feeds name_is.ends m)
-          where
-            go : get_or t to 0 ≡ 32 → FrontIs t at Other
-            go q =
-                let more = (word_more t (next + 1) to name_feeds name_is.ends q).0 in
-                let some = words_some t (to + 1) in
-                front_none t at w.feeds
-                (ap front_of (split ∙ ap (λ (ws : List (List ℕ)). piece_from 32 t at ∷ ws) (more ∙ ap (λ (ws : List (List ℕ)). piece_from 32 t (next + 1) ∷ ws) some.2)))
+      pub third_word : (get_or t to 0 ≡ 10 → ⊥) → FrontIs t at None
+      third_word m = go (word_feed_or_space t (next + 1) to name_feeds name_is.ends m)
+        where
+          go : get_or t to 0 ≡ 32 → FrontIs t at None
+          go q =
+              let more = (word_more t (next + 1) to name_feeds name_is.ends q).0 in
+              let some = words_some t (to + 1) in
+              front_none t at w.feeds
+              (ap front_of (split ∙ ap (λ (ws : List (List ℕ)). piece_from 32 t at ∷ ws) (more ∙ ap (λ (ws : List (List ℕ)). piece_from 32 t (next + 1) ∷ ws) some.2)))
 
-        pub action_there : get_or t to 0 ≡ 10 → FrontIs t at (Action id (next + 1) to)
-        action_there q =
-            let last = word_last t (next + 1) to name_feeds name_is.ends (λ z. omega arith) in
-            let v = piece_from 32 t (next + 1) in
-            front_action t at w.feeds id (next + 1) to
-            (ap front_of (split ∙ ap (λ (ws : List (List ℕ)). piece_from 32 t at ∷ ws) last.0)
-            ∙ (pair_is (piece_from 32 t at) v false true (not_root v) (both_true (is_plain (piece_from 32 t at)) (is_name v) w.plain name_is.named)
-            ∙ ap₂ (λ (i : ℕ) (l : List ℕ). some (an_action i l)) (sym w.worth) name_is.same))
-            (sym last.1 ∙ sym (word_more t at next w.feeds w.ends s).1)
-            name_is.order
-            name_is.inside
+      pub action_there : get_or t to 0 ≡ 10 → FrontIs t at (Some (Action id (next + 1) to))
+      action_there q =
+          let last = word_last t (next + 1) to name_feeds name_is.ends (λ z. omega arith) in
+          let v = piece_from 32 t (next + 1) in
+          front_action t at w.feeds id (next + 1) to
+          (ap front_of (split ∙ ap (λ (ws : List (List ℕ)). piece_from 32 t at ∷ ws) last.0)
+          ∙ (pair_is (piece_from 32 t at) v false true (not_root v) (both_true (is_plain (piece_from 32 t at)) (is_name v) w.plain name_is.named)
+          ∙ ap₂ (λ (i : ℕ) (l : List ℕ). some (an_action i l)) (sym w.worth) name_is.same))
+          (sym last.1 ∙ sym (word_more t at next w.feeds w.ends s).1)
+          name_is.order
+          name_is.inside
 
 -- ---- The root line
 
@@ -175,13 +175,13 @@ module _ (t : List ℕ) (at : ℕ) (f : feed_follows t at ≡ true) where
     id_inside {id} {next} v = word_inside t (at + 4 + 1) next id_feeds v.ends
 
   module _ (plain : is_plain (piece_from 32 t at) ≡ false) where
-    pub no_root_word : same_bytes (piece_from 32 t at) root_word ≡ false → FrontIs t at Other
+    pub no_root_word : same_bytes (piece_from 32 t at) root_word ≡ false → FrontIs t at None
     no_root_word e =
         front_none t at f
         (ap front_of (words_after_lem t at (piece_end 32 t at) f refl).0 ∙ none_any (piece_from 32 t at) (words_after t (piece_end 32 t at)) e plain)
 
     module _ (is : same_bytes (piece_from 32 t at) root_word ≡ true) where
-      pub root_alone : (get_or t (at + 4) 0 ≡ 32 → ⊥) → FrontIs t at Other
+      pub root_alone : (get_or t (at + 4) 0 ≡ 32 → ⊥) → FrontIs t at None
       root_alone n = front_none t at f (ap front_of (word_last t at (at + 4) f (root_at_lem is) n).0)
 
       module _ (s : get_or t (at + 4) 0 ≡ 32) where
@@ -190,7 +190,7 @@ module _ (t : List ℕ) (at : ℕ) (f : feed_follows t at ≡ true) where
             (word_more t at (at + 4) f (root_at_lem is) s).0
             ∙ ap (λ (ws : List (List ℕ)). piece_from 32 t at ∷ ws) (words_after_lem t (at + 4 + 1) (piece_end 32 t (at + 4 + 1)) (id_feeds is s) refl).0
 
-        pub no_id : is_plain (piece_from 32 t (at + 4 + 1)) ≡ false → FrontIs t at Other
+        pub no_id : is_plain (piece_from 32 t (at + 4 + 1)) ≡ false → FrontIs t at None
         no_id e =
             front_none t at f
             (ap front_of both
@@ -199,7 +199,7 @@ module _ (t : List ℕ) (at : ℕ) (f : feed_follows t at ≡ true) where
             (first_false (is_plain (piece_from 32 t at)) (is_name (piece_from 32 t (at + 4 + 1))) plain))
 
         module _ (id next : ℕ) (v : IsNumber (at + 4 + 1) (piece_from 32 t (at + 4 + 1)) id next) where
-          pub more_words : (get_or t next 0 ≡ 10 → ⊥) → FrontIs t at Other
+          pub more_words : (get_or t next 0 ≡ 10 → ⊥) → FrontIs t at None
           more_words m =
               let q = word_feed_or_space t (at + 4 + 1) next (id_feeds is s) v.ends m in
               let more = (word_more t (at + 4 + 1) next (id_feeds is s) v.ends q).0 in
@@ -209,7 +209,7 @@ module _ (t : List ℕ) (at : ℕ) (f : feed_follows t at ≡ true) where
               ((word_more t at (at + 4) f (root_at_lem is) s).0
               ∙ ap (λ (ws : List (List ℕ)). piece_from 32 t at ∷ ws) (more ∙ ap (λ (ws : List (List ℕ)). piece_from 32 t (at + 4 + 1) ∷ ws) some.2)))
 
-          pub root_there : get_or t next 0 ≡ 10 → FrontIs t at (Root id (next + 1))
+          pub root_there : get_or t next 0 ≡ 10 → FrontIs t at (Some (Root id (next + 1)))
           unfolding id_of
           root_there q =
               let last = word_last t (at + 4 + 1) next (id_feeds is s) v.ends (λ z. omega arith) in

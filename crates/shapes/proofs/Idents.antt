@@ -5,6 +5,7 @@ use mathlib.Core.List.{List, [], ◌∷◌, ◌++◌, map, append_assoc, append-
 use Prim.Native.Nat.{ℕ, ◌+◌, ◌≤◌, ◌<◌}
 use native.Mathlib.Omega.{arith}
 use lib.ListN.{length, get_or, length-append}
+use Rattle.std.specs.Prelude.{Some, None}
 use borrow.Author.Tests.{eq-eqb, ne_eqb}
 use Rattle.rules.specs.Text.{is_plain, number, not_plain, number_in, value_of, feed_follows, Number}
 use Rattle.rules.specs.Tokens.{all_plain, id_of}
@@ -13,7 +14,6 @@ use Rattle.tokens.specs.Pieces.{ends_piece, piece_from, Spells}
 use Rattle.tokens.proofs.Pieces.{ends_by}
 use Rattle.tokens.proofs.Lines.{piece_end}
 use Rattle.tokens.proofs.Words.{IsNumber}
-use Rattle.shapes.specs.declared.Ids.TheVariants.{All, Other as OtherIds}
 use Rattle.shapes.specs.Shapes.{words_at, end_at, words_after, end_after, IdsAre}
 use Rattle.shapes.proofs.Words.{word_inside, word_feeds, word_ends, words_after_lem}
 use Rattle.shapes.proofs.Fronts.{first_false}
@@ -74,7 +74,7 @@ module _ (t : List ℕ) where
       here : words_after t at ≡ piece_from 32 t (at + 1) ∷ words_after t (piece_end 32 t (at + 1))
       here = (after_space at s).0 ∙ (words_after_lem t (at + 1) (piece_end 32 t (at + 1)) id_feeds refl).0
 
-      pub passed_other : is_plain (piece_from 32 t (at + 1)) ≡ false → IdsAre t from OtherIds
+      pub passed_other : is_plain (piece_from 32 t (at + 1)) ≡ false → IdsAre t from None
       passed_other e =
           p.plains ∙ (ap all_plain here ∙ first_false (is_plain (piece_from 32 t (at + 1))) (all_plain (words_after t (piece_end 32 t (at + 1)))) e)
 
@@ -105,7 +105,7 @@ module _ (t : List ℕ) where
           small = let e = n.ends in let m = p.small in omega arith;
         }
 
-    pub passed_all : (get_or t at 0 ≡ 32 → ⊥) → IdsAre t from (All count (at + 1))
+    pub passed_all : (get_or t at 0 ≡ 32 → ⊥) → IdsAre t from (Some (record { count = count; next = at + 1 }))
     passed_all n =
         let w = after_none at n in
         let feed = ends_by 32 (get_or t at 0) p.stops n in (

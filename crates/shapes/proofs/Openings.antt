@@ -6,6 +6,7 @@ use mathlib.Core.Option.{Option, none, some}
 use Prim.Native.Nat.{ℕ, suc, ◌+◌, ◌<◌}
 use native.Mathlib.Omega.{arith}
 use lib.ListN.{length, get_or}
+use Rattle.std.specs.Prelude.{Some, None}
 use Rattle.rules.specs.declared.Answer.TheVariants.{WrongShape}
 use Rattle.rules.specs.Text.{feed_follows}
 use Rattle.rules.specs.Result.{found, refused, ◌>>=◌}
@@ -35,11 +36,11 @@ module _ (t : List ℕ) where
       let same : 0 + suc (length (line_of t)) ≡ suc (length (line_of t)) = omega arith in
       ap (λ (n : ℕ). elim (feed_follows t 0) as (λ z. Read (List ℕ)) [ true ↦ found (line_of t, 2, n) | false ↦ refused (WrongShape 1 0) ]) same ∙ ap line e
 
-  pub opening_out : feed_follows t 0 ≡ false → OpeningIs t 0
+  pub opening_out : feed_follows t 0 ≡ false → OpeningIs t None
   opening_out e = ap (λ (r : Read (List ℕ)). r >>= λ x. shaped 0 1 (opening_of (words_of x.0))) (due_is false e)
 
   module _ (f : feed_follows t 0 ≡ true) where
-    opening_none : opening_of (words_at t 0) ≡ none → OpeningIs t 0
+    opening_none : opening_of (words_at t 0) ≡ none → OpeningIs t None
     opening_none e =
         ap (λ (r : Read (List ℕ)). r >>= λ x. shaped 0 1 (opening_of (words_of x.0))) (due_is true f) ∙ ap (shaped 0 1) e
 
@@ -50,20 +51,20 @@ module _ (t : List ℕ) where
     pub opening_inside : same_bytes (piece_from 32 t 0) opening_word ≡ true → 3 < length t
     opening_inside is = word_inside t 0 3 f (opening_at is)
 
-    pub no_opening : same_bytes (piece_from 32 t 0) opening_word ≡ false → OpeningIs t 0
+    pub no_opening : same_bytes (piece_from 32 t 0) opening_word ≡ false → OpeningIs t None
     no_opening e =
         opening_none
         (ap opening_of (words_after_lem t 0 (piece_end 32 t 0) f refl).0 ∙ no_opening_word (piece_from 32 t 0) (words_after t (piece_end 32 t 0)) e)
 
     module _ (is : same_bytes (piece_from 32 t 0) opening_word ≡ true) where
-      pub opening_goes_on : (get_or t 3 0 ≡ 10 → ⊥) → OpeningIs t 0
+      pub opening_goes_on : (get_or t 3 0 ≡ 10 → ⊥) → OpeningIs t None
       opening_goes_on m =
           let s = word_feed_or_space t 0 3 f (opening_at is) m in
           let some = words_some t 4 in
           opening_none
           (ap opening_of ((word_more t 0 3 f (opening_at is) s).0 ∙ ap (λ (ws : List (List ℕ)). piece_from 32 t 0 ∷ ws) some.2))
 
-      pub opening_there : get_or t 3 0 ≡ 10 → OpeningIs t 4
+      pub opening_there : get_or t 3 0 ≡ 10 → OpeningIs t (Some 4)
       opening_there q =
           let last = word_last t 0 3 f (opening_at is) (λ z. omega arith) in
           let past : suc (length (line_of t)) ≡ 4 = omega (arith, last.1) in

@@ -2,20 +2,21 @@
 use mathlib.Core.Path.{◌≡◌, refl, sym, ap, ◌∙◌}
 use mathlib.Core.Bool.{Bool, true, false, ◌&&◌, not}
 use mathlib.Core.List.{List, [], ◌∷◌}
-use Prim.Native.Nat.{ℕ, ◌+◌, ◌-◌, ◌≤◌, ◌<◌}
+use Prim.Native.Nat.{ℕ, ◌+◌, ◌≤◌, ◌<◌}
 use native.Mathlib.Decide.{dec_lt}
 use native.Mathlib.Omega.{arith}
 use lib.Dec.{eqb, ltb}
 use lib.ListN.{length, get_or, drop}
 use borrow.Author.Tests.{eqb-true, eqb-false, lt-ltb}
+use Rattle.std.specs.Prelude.{Some}
 use Rattle.rules.specs.Text.{is_feed, is_digit, digits_only, is_plain, feed_follows}
 use Rattle.rules.specs.Faults.{onto, pieces}
-use Rattle.rules.specs.Tokens.{line_of, is_space, words_of, all_in_name, is_name, same_bytes, id_of}
+use Rattle.rules.specs.Tokens.{line_of, is_space, words_of, is_name, same_bytes, id_of}
 use Rattle.text.proofs.Scan.{and_left}
 use Rattle.tokens.specs.Pieces.{ends_piece, piece_from, name_end}
 use Rattle.tokens.proofs.Pieces.{ends_by}
 use Rattle.tokens.proofs.Lines.{piece_end, end_feeds, end_stops, end_inside, line_last, line_more}
-use Rattle.tokens.proofs.Words.{IsNumber, name_told, no_name_told, piece_slice}
+use Rattle.tokens.proofs.Words.{IsNumber, name_told, piece_slice}
 use Rattle.shapes.specs.Shapes.{bytes, words_at, end_at, words_after, end_after, Numbered}
 
 pub apart : {A : Type 0} → ◌≡◌ {A = ℕ} 0 1 → A
@@ -91,22 +92,22 @@ module _ (t : List ℕ) (p e : ℕ) (f : feed_follows t p ≡ true) (here : e �
       go false q = let r = word_last (eqb-false (get_or t e 0) 32 q) in (r.0, r.1)
 
 -- A line has a word at least.
-abbrev pub Some : List (List ℕ) → Type 0
-Some ws = (w : List ℕ) × (rest : List (List ℕ)) × (ws ≡ w ∷ rest)
+abbrev pub SomeWord : List (List ℕ) → Type 0
+SomeWord ws = (w : List ℕ) × (rest : List (List ℕ)) × (ws ≡ w ∷ rest)
 
-onto_some : (b : ℕ) (ps : List (List ℕ)) → Some (onto b ps)
+onto_some : (b : ℕ) (ps : List (List ℕ)) → SomeWord (onto b ps)
 onto_some b [] = (b ∷ [], [], refl)
 onto_some b (p ∷ ps) = (b ∷ p, ps, refl)
 
-pieces_some : (ends : ℕ → Bool) (l : List ℕ) → Some (pieces ends l)
+pieces_some : (ends : ℕ → Bool) (l : List ℕ) → SomeWord (pieces ends l)
 pieces_some ends [] = ([], [], refl)
 pieces_some ends (b ∷ bs) = go (ends b)
   where
-    go : (x : Bool) → Some (elim x [ true ↦ [] ∷ pieces ends bs | false ↦ onto b (pieces ends bs) ])
+    go : (x : Bool) → SomeWord (elim x [ true ↦ [] ∷ pieces ends bs | false ↦ onto b (pieces ends bs) ])
     go true = ([], pieces ends bs, refl)
     go false = onto_some b (pieces ends bs)
 
-pub words_some : (t : List ℕ) (p : ℕ) → Some (words_at t p)
+pub words_some : (t : List ℕ) (p : ℕ) → SomeWord (words_at t p)
 unfolding words_of
 words_some t p = pieces_some is_space (line_of (drop p t))
 
@@ -141,32 +142,13 @@ pub record NameAt (t : List ℕ) (from to : ℕ) : Type 0 where
   pub order : from ≤ to
   pub inside : to < length t
 
-name_least : (from : ℕ) (piece : List ℕ) → from ≤ name_end from piece
-name_least from piece = go (all_in_name piece)
-  where
-    go : (x : Bool) → from ≤ elim x [ true ↦ from + length piece | false ↦ from ]
-    go true = omega arith
-    go false = omega arith
-
-module _ (t : List ℕ) (from to : ℕ) (f : feed_follows t from ≡ true) (e : to ≡ name_end from (piece_from 32 t from)) where
-  name_more : (to ≡ from → ⊥) → from < name_end from (piece_from 32 t from)
-  name_more n = go (dec_lt from (name_end from (piece_from 32 t from))) (name_least from (piece_from 32 t from))
-    where
-      go : Dec (from < name_end from (piece_from 32 t from)) → from ≤ name_end from (piece_from 32 t from) → from < name_end from (piece_from 32 t from)
-      go (yes h) least = h
-      go (no h) least = absurd (n (omega arith))
-
-  pub name_here : (to ≡ from → ⊥) → NameAt t from to
-  name_here n =
-      let r = name_told from (piece_from 32 t from) (name_more n) in
-      let ends : to ≡ piece_end 32 t from = e ∙ r.1 in
-      record {
-        named = r.0;
-        ends = ends;
-        same = piece_slice 32 t from to ends;
-        order = omega arith;
-        inside = word_inside t from to f ends;
-      }
-
-  pub no_name : to ≡ from → is_name (piece_from 32 t from) ≡ false
-  no_name q = no_name_told from (piece_from 32 t from) (omega arith)
+pub name_here : (t : List ℕ) (from to : ℕ) → feed_follows t from ≡ true → Some to ≡ name_end from (piece_from 32 t from) → NameAt t from to
+name_here t from to f e =
+    let r = name_told from (piece_from 32 t from) e in
+    record {
+      named = r.0;
+      ends = r.1;
+      same = piece_slice 32 t from to r.1;
+      order = omega (arith, r.1);
+      inside = word_inside t from to f r.1;
+    }

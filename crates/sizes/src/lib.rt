@@ -23,7 +23,7 @@ fn item_size(fields: &[u32], at: usize, item: u64, cues: u32) -> usize
     cues as usize
 }
 
-// The fields of the line at `at`: its letter, and its items by the shape's bytes, lowest first.
+// The fields of the line at `at`: its letter, and its items by the shape's bytes, lowest first. A `while`: the line ends where no byte is left.
 pub fn line_size(fields: &[u32], at: usize, cues: u32) -> usize
     requires { (x : Valued) × IsLine cues x × Stands fields.now at (line_fields x) }
     ensures { (x : Valued) → IsLine cues x → Stands fields.now at (line_fields x) → result ≡ length (line_fields x) }
@@ -43,10 +43,8 @@ pub fn past_lines(fields: &[u32], at: usize, count: usize, cues: u32) -> usize
     ensures { (xs : List Valued) → length xs ≡ count → AreLines cues xs → Stands fields.now at (lines_fields xs) → result ≡ at + length (lines_fields xs) }
 {
     let mut past = at;
-    let mut i: usize = 0;
-    while i < count {
+    for _i in 0..count {
         past += line_size(fields, past, cues);
-        i += 1;
     }
     past
 }

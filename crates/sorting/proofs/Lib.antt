@@ -1,4 +1,3 @@
-pub mod Words
 pub mod Order
-pub mod Pairs
 pub mod Constraints
+pub mod Places

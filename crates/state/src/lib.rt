@@ -16,7 +16,7 @@ pub struct State {
     pub words: [u64; WORDS],
 }
 
-// What a step gives: whether the action applies, and the next state, or the state as it came.
+// What a step gives: whether the action applies, and the next state, or the state as it came. No `Option`: a no gives a state too.
 #[derive(Clone, Copy)]
 pub struct Stepped {
     pub ok: bool,
@@ -28,11 +28,7 @@ pub fn holds(words: &[u64], p: u32) -> bool
     ensures { result ≡ member words.now p }
 {
     let i = (p / 64) as usize;
-    if i < words.len() {
-        (words[i] >> (p % 64)) % 2 == 1
-    } else {
-        false
-    }
+    i < words.len() && (words[i] >> (p % 64)) % 2 == 1
 }
 
 // Puts proposition p into a set's words, in their place: reading a set copies no words for a member. A p past the last word changes nothing.
@@ -41,11 +37,12 @@ pub fn insert(words: &mut [u64], p: u32)
 {
     let i = (p / 64) as usize;
     if i < words.len() {
-        words[i] = words[i] | (1u64 << (p % 64));
+        words[i] |= 1u64 << (p % 64);
     }
 }
 
 // The bits of a that are not in b.
+#[tactic(auto, unfolding(rules::specs::State::without))]
 fn word_without(a: u64, b: u64) -> u64
     ensures { result ≡ without a b }
 {
@@ -82,10 +79,8 @@ fn applies(s: &[u64], needed: &[u64], forbidden: &[u64]) -> bool
     ensures { result ≡ every (length s.now) 0 (λ i. applies_word (word s.now i) (word needed.now i) (word forbidden.now i)) }
 {
     let mut found: u64 = 0;
-    let mut i: usize = 0;
-    while i < s.len() {
-        found = found | obstacles(s[i], needed[i], forbidden[i]);
-        i += 1;
+    for i in 0..s.len() {
+        found |= obstacles(s[i], needed[i], forbidden[i]);
     }
     found == 0
 }
@@ -95,10 +90,8 @@ fn advance(s: &mut [u64], added: &[u64], deleted: &[u64])
     requires { (length added.now ≡ length s.old) × (length deleted.now ≡ length s.old) }
     ensures { s.new ≡ tabulate (length s.old) 0 (λ i. next_word (word s.old i) (word added.now i) (word deleted.now i)) }
 {
-    let mut i: usize = 0;
-    while i < s.len() {
+    for i in 0..s.len() {
         s[i] = word_next(s[i], added[i], deleted[i]);
-        i += 1;
     }
 }
 
@@ -144,15 +137,11 @@ pub fn step(s: State, needed: State, forbidden: State, added: State, deleted: St
 pub fn computed(added: State, deleted: State) -> u32
     ensures { result ≡ bits_below word_count (λ w. not (quiet (word added.words w) (word deleted.words w))) }
 {
-    let adds = added.words;
-    let deletes = deleted.words;
     let mut bits: u32 = 0;
-    let mut w: usize = 0;
-    while w < WORDS {
-        if !is_quiet(adds[w], deletes[w]) {
-            bits = bits | (1u32 << (w as u32));
+    for w in 0..WORDS {
+        if !is_quiet(added.words[w], deleted.words[w]) {
+            bits |= 1u32 << w;
         }
-        w += 1;
     }
     bits
 }

@@ -23,12 +23,7 @@ const MOST_WORK: usize = WORK + 32;
 fn used(row: &[u64]) -> usize
     ensures { result ≤ length row.now }
 {
-    for n in (0..row.len()).rev() {
-        if row[n] != 0 {
-            return n + 1;
-        }
-    }
-    0
+    row.iter().rposition(|word| *word != 0).map_or(0, |i| i + 1)
 }
 
 // `S`, the number of the state, its words, and a line feed.
@@ -45,32 +40,17 @@ fn print_row(i: usize, row: &[u64]) {
 
 // The rows below the count that the list has.
 fn print_rows(states: &[u64], count: usize) {
-    let mut from: usize = 0;
-    for i in 0..count {
-        if states.len() - from < WORDS {
-            return;
-        }
-        let to = from + WORDS;
-        print_row(i, &states[from..to]);
-        from = to;
+    for (i, row) in states.chunks_exact(WORDS).take(count).enumerate() {
+        print_row(i, row);
     }
 }
 
-// The place of the first number from there on that is not zero, or the length of the list.
-fn first_dirt(states: &[u64], from: usize) -> usize {
-    for at in from..states.len() {
-        if states[at] != 0 {
-            return at;
-        }
-    }
-    states.len()
-}
-
+// The place of the first number from there on that is not zero, if one isn't.
 fn print_dirt(states: &[u64], from: usize) {
-    let at = first_dirt(states, from);
-    if at < states.len() {
+    let found = states.iter().skip(from).position(|word| *word != 0);
+    if let Some(i) = found {
         io::write_all(STDOUT, b"dirty ");
-        io::print_decimal(STDOUT, at as u64);
+        io::print_decimal(STDOUT, (from + i) as u64);
         io::write_all(STDOUT, b"\n");
     }
 }

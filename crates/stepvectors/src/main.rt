@@ -12,9 +12,6 @@ const STDIN: i32 = 0;
 
 const STDOUT: i32 = 1;
 
-// The largest number that a word of a set can be.
-const MOST: u64 = 18446744073709551615;
-
 // A number, and the place after its digits.
 #[derive(Clone, Copy)]
 struct Number {
@@ -37,26 +34,9 @@ struct Case {
     next: usize,
 }
 
-// The digit that a byte is, or 10.
-fn digit(b: u8) -> u64 {
-    if b < b'0' {
-        return 10;
-    }
-    if b'9' < b {
-        return 10;
-    }
-    (b - b'0') as u64
-}
-
-// A number with one digit more; one that would pass 64 bits stays as it is.
-fn with_digit(value: u64, d: u64) -> u64
-    requires { d ≤ 9 }
-{
-    if value <= (MOST - d) / 10 {
-        value * 10 + d
-    } else {
-        value
-    }
+// A number with one digit more, or none that fits 64 bits.
+fn with_digit(value: u64, digit: u8) -> Option<u64> {
+    value.checked_mul(10)?.checked_add(u64::from(digit))
 }
 
 // The number whose digits start at a place: 0 where none stands there.
@@ -66,11 +46,12 @@ fn number_at(text: &[u8], from: usize) -> Number
 {
     let mut value: u64 = 0;
     for at in from..text.len() {
-        let d = digit(text[at]);
-        if 9 < d {
+        let b = text[at];
+        if !b.is_ascii_digit() {
             return Number { value, next: at };
         }
-        value = with_digit(value, d);
+        // One that would pass 64 bits stays as it is.
+        value = with_digit(value, b - b'0').unwrap_or(value);
     }
     Number {
         value,
@@ -84,15 +65,11 @@ fn past(text: &[u8], from: usize, bytes: &[u8]) -> usize
     requires { from ≤ length text.now }
     ensures { result ≤ length text.now }
 {
-    if text.len() - from < bytes.len() {
-        return text.len();
+    if text[from..].starts_with(bytes) {
+        from + bytes.len()
+    } else {
+        text.len()
     }
-    for i in 0..bytes.len() {
-        if text[from + i] != bytes[i] {
-            return text.len();
-        }
-    }
-    from + bytes.len()
 }
 
 // The place of the line feed that ends the line of a place, or the end of the text.
@@ -100,12 +77,8 @@ fn line_end(text: &[u8], from: usize) -> usize
     requires { from ≤ length text.now }
     ensures { (from ≤ result) × (result ≤ length text.now) }
 {
-    for at in from..text.len() {
-        if text[at] == b'\n' {
-            return at;
-        }
-    }
-    text.len()
+    let feed = text[from..].iter().position(|b| *b == b'\n');
+    feed.map_or(text.len(), |i| from + i)
 }
 
 // The set of the line that starts with a word: the place is that of the line feed before it, and the word has that line feed too.
@@ -205,6 +178,7 @@ fn run_case(text: &[u8], from: usize) -> usize
 // Every case of a text, up to a place where no whole one stands.
 fn run_text(text: &[u8]) {
     let mut at: usize = 0;
+    // A `while`: each case moves on by its own length.
     while at < text.len() {
         let next = run_case(text, at);
         if next <= at {

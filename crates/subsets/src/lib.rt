@@ -10,14 +10,14 @@ ghost use Rattle.subsets.specs.Members.{members_of};
 pub fn lowest(u: u32) -> u32
     ensures { result ≡ head_d (members_of u) 32 }
 {
-    u32::trailing_zeros(u)
+    u.trailing_zeros()
 }
 
 // How many members there are.
 pub fn size(u: u32) -> u32
     ensures { result ≡ length (members_of u) }
 {
-    u32::count_ones(u)
+    u.count_ones()
 }
 
 // The set without its lowest member: empty for the empty set.

@@ -16,66 +16,67 @@ pub struct Cursor {
     pub at: usize,
 }
 
-// What stands where a number is due.
+// A plain number that stands where one is due, and the byte that ended its field.
 #[derive(Clone, Copy)]
-pub enum Field {
-    Number { value: u32, next: Cursor },
+pub struct Number {
+    pub value: u32,
+    pub next: Cursor,
+}
+
+// Why no number stands there.
+#[derive(Clone, Copy)]
+pub enum FieldError {
     // A field that is no plain number.
     NotPlain,
     // The line has no further field.
     Missing,
 }
 
-// What stands where a line's letter is due: a field of one byte, or another field.
+// A line's letter: a field of one byte.
 #[derive(Clone, Copy)]
-pub enum Letter {
-    Byte { byte: u8, next: Cursor },
-    Wrong,
-}
-
-// What stands where a line is to end: its line feed, with the start of the next line, or something else.
-#[derive(Clone, Copy)]
-pub enum Ending {
-    Line { next: Cursor },
-    Surplus,
+pub struct Letter {
+    pub byte: u8,
+    pub next: Cursor,
 }
 
 fn ends_field(b: u8) -> bool
     ensures { result ≡ ends_field b }
 {
-    if b == b',' { true } else { b == b'\n' }
+    b == b',' || b == b'\n'
 }
 
+// The library's test, in the definition's word.
 pub fn is_digit(b: u8) -> bool
     ensures { result ≡ is_digit b }
 {
-    if b'0' <= b { b <= b'9' } else { false }
+    b.is_ascii_digit()
 }
 
 pub fn digit_value(b: u8) -> u64
     requires { is_digit b ≡ true }
     ensures { result ≡ b - 48 }
 {
-    (b - b'0') as u64
+    u64::from(b - b'0')
 }
 
 // The number `value`, where its field is over here.
-fn close(text: &[u8], at: usize, value: u64) -> Field
+fn close(text: &[u8], at: usize, value: u64) -> Result<Number, FieldError>
     requires { (value ≤ 4294967295) × (feed_follows text.now at ≡ true) }
     ensures { result ≡ as_field (closed value at (field_of (drop at text.now))) }
 {
     if ends_field(text[at]) {
-        Field::Number {
+        Ok(Number {
             value: value as u32,
             next: Cursor { at },
-        }
+        })
     } else {
-        Field::NotPlain
+        Err(FieldError::NotPlain)
     }
 }
 
-// The number whose digits so far are `first`, which is not 0, and go on here. One load and two comparisons a digit.
-fn digits(text: &[u8], from: usize, first: u64) -> Field
+// The number whose digits so far are `first`, which is not 0, and go on here. One load and two comparisons a digit. A `while`: the place moves
+// on as far as the digits go.
+fn digits(text: &[u8], from: usize, first: u64) -> Result<Number, FieldError>
     requires { (first ≤ 4294967295) × (feed_follows text.now from ≡ true) }
     ensures { result ≡ as_field (continued first from (field_of (drop from text.now))) }
 {
@@ -84,7 +85,7 @@ fn digits(text: &[u8], from: usize, first: u64) -> Field
     while is_digit(text[at]) {
         value = value * 10 + digit_value(text[at]);
         if 4294967295 < value {
-            return Field::NotPlain;
+            return Err(FieldError::NotPlain);
         }
         at += 1;
     }
@@ -92,21 +93,21 @@ fn digits(text: &[u8], from: usize, first: u64) -> Field
 }
 
 // The number whose first two digits stand here. A leading zero is told from the first.
-fn longer(text: &[u8], from: usize) -> Field
+fn longer(text: &[u8], from: usize) -> Result<Number, FieldError>
     requires from_value { (is_digit (get_or text.now from 0) ≡ true) × (is_digit (get_or text.now (from + 1) 0) ≡ true) }
     requires from_value_2 { feed_follows text.now from ≡ true }
     ensures { result ≡ as_field (number_in from (field_of (drop from text.now))) }
 {
     let b = text[from];
     if b == b'0' {
-        return Field::NotPlain;
+        return Err(FieldError::NotPlain);
     }
     let value = digit_value(b) * 10 + digit_value(text[from + 1]);
     digits(text, from + 2, value)
 }
 
 // The number that the field from here is: most have one digit or two, which need no test of the limit.
-fn plain(text: &[u8], from: usize) -> Field
+fn plain(text: &[u8], from: usize) -> Result<Number, FieldError>
     requires { feed_follows text.now from ≡ true }
     ensures { result ≡ as_field (number_in from (field_of (drop from text.now))) }
 {
@@ -118,7 +119,7 @@ fn plain(text: &[u8], from: usize) -> Field
             close(text, from + 1, digit_value(b))
         }
     } else {
-        Field::NotPlain
+        Err(FieldError::NotPlain)
     }
 }
 
@@ -129,24 +130,24 @@ impl Cursor {
         Cursor { at: 0 }
     }
 
-    // The letter of the line that starts here, with a byte that ends no field.
-    pub fn letter(self, text: &[u8]) -> Letter
+    // The letter of the line that starts here, with a byte that ends no field: nothing for a field of more bytes.
+    pub fn letter(self, text: &[u8]) -> Option<Letter>
         requires { (feed_follows text.now self.at ≡ true) × (ends_field (get_or text.now self.at 0) ≡ false) }
         ensures { result ≡ as_letter (letter_at text.now self.at) }
     {
         let at = self.at;
         if ends_field(text[at + 1]) {
-            Letter::Byte {
+            Some(Letter {
                 byte: text[at],
                 next: Cursor { at: at + 1 },
-            }
+            })
         } else {
-            Letter::Wrong
+            None
         }
     }
 
     // The number after the comma here.
-    pub fn number(self, text: &[u8]) -> Field
+    pub fn number(self, text: &[u8]) -> Result<Number, FieldError>
         requires { feed_follows text.now self.at ≡ true }
         ensures { result ≡ as_field (number_at text.now self.at) }
     {
@@ -154,22 +155,20 @@ impl Cursor {
         if text[at] == b',' {
             plain(text, at + 1)
         } else {
-            Field::Missing
+            Err(FieldError::Missing)
         }
     }
 
-    // The start of the next line, past the line feed here.
-    pub fn line_end(self, text: &[u8]) -> Ending
+    // The start of the next line, past the line feed here: nothing where another field follows.
+    pub fn line_end(self, text: &[u8]) -> Option<Cursor>
         requires { feed_follows text.now self.at ≡ true }
         ensures { result ≡ as_ending (ending_at text.now self.at) }
     {
         let at = self.at;
         if text[at] == b'\n' {
-            Ending::Line {
-                next: Cursor { at: at + 1 },
-            }
+            Some(Cursor { at: at + 1 })
         } else {
-            Ending::Surplus
+            None
         }
     }
 }
@@ -180,12 +179,10 @@ pub fn past_last_feed(text: &[u8]) -> usize
     ensures follows { (p : ℕ) → feed_follows text.now p ≡ ltb p result }
     ensures within { result ≤ length text.now }
 {
-    let mut end = text.len();
-    while 0 < end {
-        if text[end - 1] == b'\n' {
-            return end;
+    for i in (0..text.len()).rev() {
+        if text[i] == b'\n' {
+            return i + 1;
         }
-        end -= 1;
     }
-    end
+    0
 }

@@ -15,48 +15,29 @@ use rules::Header;
 use sizes::{line_size, past_lines};
 use sorting::less;
 
-// Whether constraints stand in order; and if so, where the fields after them are.
-#[derive(Clone, Copy)]
-struct Ordered {
-    yes: bool,
-    next: usize,
-}
-
-// Whether the `count` constraints whose lines start at `from` stand in order, each before the next.
-fn in_order(fields: &[u32], from: usize, count: usize) -> Ordered
+// Whether the `count` constraints whose lines start at `from` stand in order, each before the next; if so, where the fields after them are.
+fn in_order(fields: &[u32], from: usize, count: usize) -> Option<usize>
     requires { (cs : List Constraint) × ConstraintsHere fields.now from count cs }
     ensures { (cs : List Constraint) → ConstraintsHere fields.now from count cs → Orders cs from (constraints_fields cs) result }
 {
     if count == 0 {
-        return Ordered {
-            yes: true,
-            next: from,
-        };
+        return Some(from);
     }
     let mut last = key_at(fields, from);
     let mut at = from + key_size(last);
-    let mut i: usize = 1;
-    while i < count {
+    for _i in 1..count {
         let key = key_at(fields, at);
-        if less(last, key) {
-            last = key;
-            at += key_size(key);
-            i += 1;
-        } else {
-            return Ordered {
-                yes: false,
-                next: at,
-            };
+        if !less(last, key) {
+            return None;
         }
+        last = key;
+        at += key_size(key);
     }
-    Ordered {
-        yes: true,
-        next: at,
-    }
+    Some(at)
 }
 
 // Whether the constraints of the method whose fields stand at `from` do. The last field of its M line is c.
-fn method_in_order(fields: &[u32], from: usize, cues: u32) -> Ordered
+fn method_in_order(fields: &[u32], from: usize, cues: u32) -> Option<usize>
     requires { (m : Method) × Stands fields.now from (method_fields m) }
     ensures { (m : Method) → Stands fields.now from (method_fields m) → Orders m.constraints from (method_fields m) result }
 {
@@ -71,15 +52,11 @@ fn methods_in_order(fields: &[u32], from: usize, count: usize, cues: u32) -> boo
     ensures { (ms : List Method) → MethodsHere fields.now from count ms → result ≡ true ↔ Each InOrder ms }
 {
     let mut at = from;
-    let mut i: usize = 0;
-    while i < count {
-        let m = method_in_order(fields, at, cues);
-        if m.yes {
-            at = m.next;
-            i += 1;
-        } else {
+    for _i in 0..count {
+        let Some(next) = method_in_order(fields, at, cues) else {
             return false;
-        }
+        };
+        at = next;
     }
     true
 }

@@ -2,17 +2,16 @@
 use mathlib.Core.Path.{◌≡◌, refl, sym, ap, ◌∙◌}
 use mathlib.Core.Bool.{Bool, true, false, ◌&&◌, ◌||◌}
 use mathlib.Core.List.{List, [], ◌∷◌}
-use Prim.Native.Nat.{ℕ, zero, suc, ◌+◌, ◌-◌, ◌*◌, ◌≤◌, ◌<◌}
-use native.Mathlib.Numerals.{add-one}
+use Prim.Native.Nat.{ℕ, suc, ◌+◌, ◌-◌, ◌*◌, ◌≤◌, ◌<◌}
 use native.Mathlib.Omega.{arith}
 use lib.Dec.{eqb}
-use lib.ListN.{length, get_or, drop, drop_of_length-le}
-use lib.Seq.{drop-cons}
-use borrow.Author.Tests.{eq-eqb, ne_eqb, eqb-true}
+use lib.ListN.{length, get_or, take, drop}
+use lib.Pointwise.{pointwise}
+use borrow.Author.Tests.{eq-eqb, ne_eqb, eqb-true, eqb-false}
 use Rattle.rules.specs.Text.{is_feed, is_digit, number, not_plain, number_in, feed_follows}
-use Rattle.rules.specs.Tokens.{in_name, all_in_name, same_bytes}
+use Rattle.rules.specs.Tokens.{in_name, all_in_name, is_name, same_bytes}
 use Rattle.text.specs.Scan.{closed, continued}
-use Rattle.text.proofs.Scan.{continued_over, continued_digit, continued_other, first_none, first_wrong_lem, first_zero, first_digit}
+use Rattle.text.proofs.Scan.{and_left, and_right, continued_over, continued_digit, continued_other, first_none, first_wrong_lem, first_zero, first_digit}
 use Rattle.text.proofs.Places.{drop_in}
 use Rattle.text.proofs.Feeds.{feed_inside, feed_past}
 use Rattle.tokens.specs.Pieces.{ends_piece, up_to, piece_from, NoneEnds}
@@ -131,29 +130,34 @@ module _ (separator : ℕ) (t : List ℕ) (i : ℕ) (f : feed_follows t i ≡ tr
 
 -- ---- A name
 
--- Where a name that goes on from here would end; or `from`, if it is none.
-abbrev pub name_goes : ℕ → ℕ → List ℕ → ℕ
-name_goes from at piece = elim (all_in_name piece) [ true ↦ at + length piece | false ↦ from ]
-
-module _ (separator : ℕ) (t : List ℕ) (from i : ℕ) (f : feed_follows t i ≡ true) where
+module _ (separator : ℕ) (t : List ℕ) (i : ℕ) (f : feed_follows t i ≡ true) where
+  -- Past a name's byte it is as before whether all bytes are a name's, and where the piece ends.
   pub name_on : in_name separator ≡ false → in_name (get_or t i 0) ≡ true
-      → name_goes from i (piece_from separator t i) ≡ name_goes from (i + 1) (piece_from separator t (i + 1))
+      → (all_in_name (piece_from separator t i) ≡ all_in_name (piece_from separator t (i + 1)))
+      × (i + length (piece_from separator t i) ≡ i + 1 + length (piece_from separator t (i + 1)))
   name_on s e =
       let rest = piece_from separator t (i + 1) in
       let same : i + suc (length rest) ≡ i + 1 + length rest = omega arith in
-      ap (name_goes from i) (piece_on separator t i (feed_inside t i f) (name_stays separator (get_or t i 0) s e))
-      ∙ (ap (λ (y : Bool). elim (y && all_in_name rest) as (λ z. ℕ) [ true ↦ i + suc (length rest) | false ↦ from ]) e
-      ∙ ap (λ (n : ℕ). elim (all_in_name rest) as (λ z. ℕ) [ true ↦ n | false ↦ from ]) same)
+      let on = piece_on separator t i (feed_inside t i f) (name_stays separator (get_or t i 0) s e) in
+      (ap all_in_name on ∙ ap (λ (y : Bool). y && all_in_name rest) e, ap (λ (p : List ℕ). i + length p) on ∙ same)
 
-  pub name_ends : ends_piece separator (get_or t i 0) ≡ true → name_goes from i (piece_from separator t i) ≡ i
-  name_ends e = ap (name_goes from i) (piece_over separator t i (feed_inside t i f) e) ∙ omega arith
+  pub name_over : ends_piece separator (get_or t i 0) ≡ true → (all_in_name (piece_from separator t i) ≡ true) × (i + length (piece_from separator t i) ≡ i)
+  name_over e =
+      let over = piece_over separator t i (feed_inside t i f) e in
+      (ap all_in_name over, ap (λ (p : List ℕ). i + length p) over ∙ omega arith)
 
-  pub name_fails : ends_piece separator (get_or t i 0) ≡ false → in_name (get_or t i 0) ≡ false → name_goes from i (piece_from separator t i) ≡ from
+  pub name_fails : ends_piece separator (get_or t i 0) ≡ false → in_name (get_or t i 0) ≡ false → all_in_name (piece_from separator t i) ≡ false
   name_fails e n =
-      ap (name_goes from i) (piece_on separator t i (feed_inside t i f) e)
-      ∙ ap
-      (λ (y : Bool). elim (y && all_in_name (piece_from separator t (i + 1))) as (λ z. ℕ) [ true ↦ i + suc (length (piece_from separator t (i + 1))) | false ↦ from ])
-      n
+      ap all_in_name (piece_on separator t i (feed_inside t i f) e) ∙ ap (λ (y : Bool). y && all_in_name (piece_from separator t (i + 1))) n
+
+  -- A piece that starts with no name's byte, or with none.
+  pub no_first : in_name (get_or t i 0) ≡ false → is_name (piece_from separator t i) ≡ false
+  no_first n = go (ends_piece separator (get_or t i 0)) refl
+    where
+      go : (x : Bool) → ends_piece separator (get_or t i 0) ≡ x → is_name (piece_from separator t i) ≡ false
+      go true e = ap is_name (piece_over separator t i (feed_inside t i f) e)
+      go false e =
+          ap is_name (piece_on separator t i (feed_inside t i f) e) ∙ ap (λ (y : Bool). y && all_in_name (piece_from separator t (i + 1))) n
 
 -- ---- A word
 
@@ -182,27 +186,44 @@ module _ (separator : ℕ) (t : List ℕ) (i : ℕ) (f : feed_follows t i ≡ tr
       go true e = ap (λ (p : List ℕ). same_bytes p []) (piece_over separator t i (feed_inside t i f) e)
       go false e = ap (λ (p : List ℕ). same_bytes p []) (piece_on separator t i (feed_inside t i f) e)
 
--- A byte of a word that ends no piece, by its place.
-none_at : (separator : ℕ) (word : List ℕ) (i : ℕ) → NoneEnds separator word → i < length word → ends_piece separator (get_or word i 0) ≡ false
-none_at separator [] i n h = absurd (omega arith)
-none_at separator (b ∷ bs) zero n h = n.0
-none_at separator (b ∷ bs) (suc i) n h = none_at separator bs i n.1 (omega arith)
+-- The bytes from the next place on are those of a word.
+abbrev from_next : List ℕ → List ℕ → ℕ → Bool
+from_next t ws p = pointwise eqb ws (take (length ws) (drop (p + 1) t))
 
-module _ (separator : ℕ) (t : List ℕ) (p : ℕ) (f : feed_follows t p ≡ true) (word : List ℕ) (i : ℕ) where
-  ahead : i < length word → drop i word ≡ get_or word i 0 ∷ drop (i + 1) word
-  ahead h = drop-cons word i 0 h ∙ ap (λ (n : ℕ). get_or word i 0 ∷ drop n word) (sym (add-one i))
+first_byte : (t : List ℕ) (w : ℕ) (ws : List ℕ) (p : ℕ) → feed_follows t p ≡ true
+    → pointwise eqb (w ∷ ws) (take (suc (length ws)) (drop p t)) ≡ (eqb w (get_or t p 0) && from_next t ws p)
+first_byte t w ws p f = ap (λ (l : List ℕ). pointwise eqb (w ∷ ws) (take (suc (length ws)) l)) (drop_in t p (feed_inside t p f))
 
-  pub word_next : NoneEnds separator word → i < length word → get_or t p 0 ≡ get_or word i 0
-      → same_bytes (piece_from separator t p) (drop i word) ≡ same_bytes (piece_from separator t (p + 1)) (drop (i + 1) word)
-  word_next n h q =
-      ap (same_bytes (piece_from separator t p)) (ahead h)
-      ∙ word_on separator t p f (get_or word i 0) (drop (i + 1) word) (none_at separator word i n h) q
+-- The text goes on with a word's bytes: a line feed follows still, and the piece is the word exactly if it ends there.
+pub word_begins : (separator : ℕ) (t word : List ℕ) (p : ℕ) → NoneEnds separator word → feed_follows t p ≡ true
+    → pointwise eqb word (take (length word) (drop p t)) ≡ true
+    → (feed_follows t (p + length word) ≡ true) × (same_bytes (piece_from separator t p) word ≡ ends_piece separator (get_or t (p + length word) 0))
+word_begins separator t [] p n f e =
+    let here : p ≡ p + 0 = omega arith in
+    (ap (feed_follows t) (sym here) ∙ f, word_over separator t p f ∙ ap (λ (i : ℕ). ends_piece separator (get_or t i 0)) here)
+word_begins separator t (w ∷ ws) p n f e =
+    let q = sym (first_byte t w ws p f) ∙ e in
+    let same : get_or t p 0 ≡ w = sym (eqb-true w (get_or t p 0) (and_left (eqb w (get_or t p 0)) (from_next t ws p) q)) in
+    let rest =
+    word_begins separator t ws (p + 1) n.1 (inner_feeds separator t p f (ap (ends_piece separator) same ∙ n.0)) (and_right (eqb w (get_or t p 0)) (from_next t ws p) q) in
+    let there : p + 1 + length ws ≡ p + suc (length ws) = omega arith in (
+      ap (feed_follows t) (sym there) ∙ rest.0,
+      word_on separator t p f w ws n.0 same ∙ (rest.1 ∙ ap (λ (i : ℕ). ends_piece separator (get_or t i 0)) there),
+    )
 
-  pub word_feeds : NoneEnds separator word → i < length word → get_or t p 0 ≡ get_or word i 0 → feed_follows t (p + 1) ≡ true
-  word_feeds n h q = inner_feeds separator t p f (ap (ends_piece separator) q ∙ none_at separator word i n h)
+-- It goes on with other bytes.
+pub word_differs : (separator : ℕ) (t word : List ℕ) (p : ℕ) → NoneEnds separator word → feed_follows t p ≡ true
+    → pointwise eqb word (take (length word) (drop p t)) ≡ false → same_bytes (piece_from separator t p) word ≡ false
+word_differs separator t [] p n f e = apart (cc)
+word_differs separator t (w ∷ ws) p n f e = go (word_differs separator t ws (p + 1) n.1) (eqb w (get_or t p 0)) refl
+  where
+    q : (eqb w (get_or t p 0) && from_next t ws p) ≡ false
+    q = sym (first_byte t w ws p f) ∙ e
 
-  pub word_stops : i < length word → (get_or t p 0 ≡ get_or word i 0 → ⊥) → same_bytes (piece_from separator t p) (drop i word) ≡ false
-  word_stops h n = ap (same_bytes (piece_from separator t p)) (ahead h) ∙ word_off separator t p f (get_or word i 0) (drop (i + 1) word) n
-
-  pub word_done : length word ≤ i → same_bytes (piece_from separator t p) (drop i word) ≡ ends_piece separator (get_or t p 0)
-  word_done h = ap (same_bytes (piece_from separator t p)) (drop_of_length-le word h) ∙ word_over separator t p f
+    go : (feed_follows t (p + 1) ≡ true → from_next t ws p ≡ false → same_bytes (piece_from separator t (p + 1)) ws ≡ false)
+        → (x : Bool) → eqb w (get_or t p 0) ≡ x → same_bytes (piece_from separator t p) (w ∷ ws) ≡ false
+    go on true s =
+        let same : get_or t p 0 ≡ w = sym (eqb-true w (get_or t p 0) s) in
+        word_on separator t p f w ws n.0 same
+        ∙ on (inner_feeds separator t p f (ap (ends_piece separator) same ∙ n.0)) (sym (ap (λ (y : Bool). y && from_next t ws p) s) ∙ q)
+    go on false s = word_off separator t p f w ws (λ z. eqb-false w (get_or t p 0) s (sym z))

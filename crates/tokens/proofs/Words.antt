@@ -1,9 +1,9 @@
 -- What the answers of this crate say of a piece: which number it is, whether it is a name and where it ends, and the bytes it has. Assumes
 -- nothing.
-use mathlib.Core.Path.{◌≡◌, refl, ap, ◌∙◌}
+use mathlib.Core.Path.{◌≡◌, refl, sym, ap, ◌∙◌}
 use mathlib.Core.Bool.{Bool, true, false}
 use mathlib.Core.List.{List, [], ◌∷◌}
-use Prim.Native.Nat.{ℕ, ◌+◌, ◌-◌, ◌≤◌, ◌<◌}
+use Prim.Native.Nat.{ℕ, ◌+◌, ◌-◌, ◌<◌}
 use native.Mathlib.Omega.{arith}
 use lib.ListN.{length, take, drop}
 use borrow.Author.Tests.{leb-true}
@@ -11,7 +11,8 @@ use lib.Dec.{leb}
 use Rattle.rules.specs.Text.{digits_only, value_of, is_plain, Number, number, not_plain, number_in}
 use Rattle.rules.specs.Tokens.{all_in_name, is_name}
 use Rattle.text.proofs.Scan.{and_right}
-use Rattle.tokens.specs.declared.Plain.TheVariants.{Number as PlainNumber, Other}
+use Rattle.std.specs.Prelude.{Option, None, Some}
+use Rattle.tokens.specs.declared.Plain.{Plain}
 use Rattle.tokens.specs.Pieces.{ends_piece, up_to, piece_from, as_plain, name_end}
 
 apart : {A : Type 0} → ◌≡◌ {A = ℕ} 0 1 → A
@@ -29,21 +30,22 @@ module _ (from : ℕ) (piece : List ℕ) where
   abbrev as_read : Bool → Number
   as_read x = elim x [ true ↦ number (value_of 0 piece) (from + length piece) | false ↦ not_plain ]
 
-  pub number_told : {v n : ℕ} → PlainNumber v n ≡ as_plain (number_in from piece) → IsNumber from piece v n
+  pub number_told : {p : Plain} → Some p ≡ as_plain (number_in from piece) → IsNumber from piece p.value p.next
   unfolding is_plain
-  number_told {v} {n} e = go (is_plain piece) refl e
+  number_told {p} e = go (is_plain piece) refl e
     where
-      go : (x : Bool) → is_plain piece ≡ x → PlainNumber v n ≡ as_plain (as_read x) → IsNumber from piece v n
+      go : (x : Bool) → is_plain piece ≡ x → Some p ≡ as_plain (as_read x) → IsNumber from piece p.value p.next
       go true q r =
-          let value : v ≡ value_of 0 piece = cc in
+          let same : p ≡ record { value = value_of 0 piece; next = from + length piece } = cc in
+          let value : p.value ≡ value_of 0 piece = ap (λ (q : Plain). q.value) same in
           let h = leb-true (value_of 0 piece) 4294967295 (and_right (digits_only piece) (leb (value_of 0 piece) 4294967295) q) in
-          record { plain = q; worth = value; ends = cc; small = omega arith }
+          record { plain = q; worth = value; ends = ap (λ (q : Plain). q.next) same; small = omega arith }
       go false q r = apart (cc)
 
-  pub other_told : Other ≡ as_plain (number_in from piece) → is_plain piece ≡ false
+  pub other_told : None ≡ as_plain (number_in from piece) → is_plain piece ≡ false
   other_told e = go (is_plain piece) refl e
     where
-      go : (x : Bool) → is_plain piece ≡ x → Other ≡ as_plain (as_read x) → is_plain piece ≡ false
+      go : (x : Bool) → is_plain piece ≡ x → None ≡ as_plain (as_read x) → is_plain piece ≡ false
       go true q r = apart (cc)
       go false q r = q
 
@@ -54,30 +56,34 @@ name_all [] h = absurd (omega arith)
 name_all (b ∷ bs) h = refl
 
 module _ (from : ℕ) (piece : List ℕ) where
-  abbrev up_to_end : Bool → ℕ
-  up_to_end x = elim x [ true ↦ from + length piece | false ↦ from ]
+  abbrev end_if : Bool → Option ℕ
+  end_if x = elim x [ true ↦ Some (from + length piece) | false ↦ None ]
 
-  pub name_told : from < name_end from piece → (is_name piece ≡ true) × (name_end from piece ≡ from + length piece)
-  name_told h = go (all_in_name piece) refl h
+  -- What the scan finds: a name that ends past its start; or none.
+  pub named : (to : ℕ) → all_in_name piece ≡ true → from + length piece ≡ to → from < to → Some to ≡ name_end from piece
+  named to e same h = sym (ap end_if (name_all piece (omega arith) ∙ e) ∙ ap (λ (i : ℕ). Some i) same)
+
+  pub unnamed : is_name piece ≡ false → None ≡ name_end from piece
+  unnamed e = sym (ap end_if e)
+
+  pub name_told : {to : ℕ} → Some to ≡ name_end from piece → (is_name piece ≡ true) × (to ≡ from + length piece)
+  name_told {to} e = go (is_name piece) refl e
     where
-      go : (x : Bool) → all_in_name piece ≡ x → from < up_to_end x → (is_name piece ≡ true) × (up_to_end (all_in_name piece) ≡ from + length piece)
-      go true e r = (name_all piece (omega arith) ∙ e, ap up_to_end e)
-      go false e r = absurd (omega arith)
+      go : (x : Bool) → is_name piece ≡ x → Some to ≡ end_if x → (is_name piece ≡ true) × (to ≡ from + length piece)
+      go true q r = (q, cc)
+      go false q r = apart (cc)
 
-  pub no_name_told : name_end from piece ≤ from → is_name piece ≡ false
-  no_name_told h = go (all_in_name piece) refl h
+  pub no_name_told : None ≡ name_end from piece → is_name piece ≡ false
+  no_name_told e = go (is_name piece) refl e
     where
-      empty : (p : List ℕ) → length p ≤ 0 → is_name p ≡ false
-      empty [] q = refl
-      empty (b ∷ bs) q = absurd (omega arith)
+      go : (x : Bool) → is_name piece ≡ x → None ≡ end_if x → is_name piece ≡ false
+      go true q r = apart (cc)
+      go false q r = q
 
-      fails : (p : List ℕ) → all_in_name p ≡ false → is_name p ≡ false
-      fails [] e = apart (cc)
-      fails (b ∷ bs) e = e
-
-      go : (x : Bool) → all_in_name piece ≡ x → up_to_end x ≤ from → is_name piece ≡ false
-      go true e r = empty piece (omega arith)
-      go false e r = fails piece e
+-- A byte that is no name's keeps the piece from being one.
+pub part_unnamed : (piece : List ℕ) → all_in_name piece ≡ false → is_name piece ≡ false
+part_unnamed [] e = apart (cc)
+part_unnamed (b ∷ bs) e = e
 
 -- ---- Its bytes
 

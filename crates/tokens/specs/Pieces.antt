@@ -1,9 +1,8 @@
 -- The piece of a line that starts at a place of a text, up to a separator or the line feed. Assumes nothing.
-use Rattle.std.specs.Prelude.{◌≡◌, Bool, true, false, ◌||◌, List, [], ◌∷◌, ℕ, ◌+◌, eqb, length, get_or, drop}
+use Rattle.std.specs.Prelude.{◌≡◌, Bool, true, false, ◌||◌, List, [], ◌∷◌, ℕ, ◌+◌, eqb, length, get_or, drop, Option, None, Some}
 use Rattle.rules.specs.Text.{is_feed, Number, number, not_plain, missing, number_in, feed_follows}
-use Rattle.rules.specs.Tokens.{all_in_name}
+use Rattle.rules.specs.Tokens.{is_name}
 use Rattle.tokens.specs.declared.Plain.{Plain}
-use Rattle.tokens.specs.declared.Plain.TheVariants.{Number as PlainNumber, Other}
 
 unfoldable pub ends_piece : ℕ → ℕ → Bool
 ends_piece separator b = eqb b separator || is_feed b
@@ -21,14 +20,14 @@ NoneEnds separator [] = Unit {0}
 NoneEnds separator (b ∷ bs) = (ends_piece separator b ≡ false) × NoneEnds separator bs
 
 -- A number as the code's type.
-abbrev pub as_plain : Number → Plain
-as_plain (number value next) = PlainNumber value next
-as_plain not_plain = Other
-as_plain missing = Other
+abbrev pub as_plain : Number → Option Plain
+as_plain (number value next) = Some (record { value = value; next = next })
+as_plain not_plain = None
+as_plain missing = None
 
--- Where the piece ends that starts here, if all its bytes are a name's; or else here. An empty piece, which is no name, ends here too.
-abbrev pub name_end : ℕ → List ℕ → ℕ
-name_end from piece = elim (all_in_name piece) [ true ↦ from + length piece | false ↦ from ]
+-- Where the piece ends that starts here, if it is a name.
+abbrev pub name_end : ℕ → List ℕ → Option ℕ
+name_end from piece = elim (is_name piece) [ true ↦ Some (from + length piece) | false ↦ None ]
 
 -- From a place on a line goes on with these numbers, a space ahead of each, and then it ends.
 abbrev pub Spells : List ℕ → ℕ → List ℕ → Type 0

@@ -9,36 +9,37 @@ ghost use Rattle.rules.specs.Tokens.{in_name, same_bytes};
 ghost use Rattle.text.specs.Scan.{closed, continued};
 ghost use Rattle.tokens.specs.Pieces.{ends_piece, piece_from, NoneEnds, as_plain, name_end};
 
-// A piece as a plain number, with the place of the byte that ends it; or another piece.
+// A piece that is a plain number, with the place of the byte that ends it.
 #[derive(Clone, Copy)]
-pub enum Plain {
-    Number { value: u32, next: usize },
-    Other,
+pub struct Plain {
+    pub value: u32,
+    pub next: usize,
 }
 
+#[tactic(auto, unfolding(crate::specs::Pieces::ends_piece, rules::specs::Text::is_feed))]
 fn ends_piece(b: u8, separator: u8) -> bool
     ensures { result ≡ ends_piece separator b }
 {
-    if b == separator { true } else { b == b'\n' }
+    b == separator || b == b'\n'
 }
 
 // The number `value`, where its piece is over here.
-fn close(text: &[u8], at: usize, value: u64, separator: u8) -> Plain
+fn close(text: &[u8], at: usize, value: u64, separator: u8) -> Option<Plain>
     requires { (value < 4294967296) × (feed_follows text.now at ≡ true) }
     ensures { result ≡ as_plain (closed value at (piece_from separator text.now at)) }
 {
     if ends_piece(text[at], separator) {
-        Plain::Number {
+        Some(Plain {
             value: value as u32,
             next: at,
-        }
+        })
     } else {
-        Plain::Other
+        None
     }
 }
 
-// The number of all digits from here, whatever the first is.
-fn digits(text: &[u8], from: usize, separator: u8) -> Plain
+// The number of all digits from here, whatever the first is. A `while`: the line feed that follows ends the scan, and no length is given.
+fn digits(text: &[u8], from: usize, separator: u8) -> Option<Plain>
     requires { (is_digit separator ≡ false) × (feed_follows text.now from ≡ true) }
     ensures { result ≡ as_plain (continued 0 from (piece_from separator text.now from)) }
 {
@@ -47,7 +48,7 @@ fn digits(text: &[u8], from: usize, separator: u8) -> Plain
     while text::is_digit(text[at]) {
         value = value * 10 + text::digit_value(text[at]);
         if 4294967295 < value {
-            return Plain::Other;
+            return None;
         }
         at += 1;
     }
@@ -55,13 +56,13 @@ fn digits(text: &[u8], from: usize, separator: u8) -> Plain
 }
 
 // The plain number that the piece from here is: "ids are plain numbers".
-pub fn number_at(text: &[u8], from: usize, separator: u8) -> Plain
+pub fn number_at(text: &[u8], from: usize, separator: u8) -> Option<Plain>
     requires { (is_digit separator ≡ false) × (feed_follows text.now from ≡ true) }
     ensures { result ≡ as_plain (number_in from (piece_from separator text.now from)) }
 {
     let b = text[from];
     if ends_piece(b, separator) {
-        return Plain::Other;
+        return None;
     }
     if b == b'0' {
         return close(text, from + 1, 0, separator);
@@ -69,20 +70,16 @@ pub fn number_at(text: &[u8], from: usize, separator: u8) -> Plain
     digits(text, from, separator)
 }
 
+#[tactic(auto, unfolding(rules::specs::Tokens::in_name, rules::specs::Text::is_comma))]
 fn in_name(b: u8) -> bool
     ensures { result ≡ in_name b }
 {
-    if b < 33 {
-        return false;
-    }
-    if 126 < b {
-        return false;
-    }
-    b != b','
+    33 <= b && b <= 126 && b != b','
 }
 
-// Where the name ends that the piece from here is: "names one or more bytes 33 to 126 but comma". This place itself, if it is none.
-pub fn name_end(text: &[u8], from: usize, separator: u8) -> usize
+// Where the name ends that the piece from here is: "names one or more bytes 33 to 126 but comma". None, if it is no name.
+// A `while`: the line feed that follows ends the scan, and no length is given.
+pub fn name_end(text: &[u8], from: usize, separator: u8) -> Option<usize>
     requires { (in_name separator ≡ false) × (feed_follows text.now from ≡ true) }
     ensures { result ≡ name_end from (piece_from separator text.now from) }
 {
@@ -90,10 +87,13 @@ pub fn name_end(text: &[u8], from: usize, separator: u8) -> usize
     while in_name(text[at]) {
         at += 1;
     }
+    if at == from {
+        return None;
+    }
     if ends_piece(text[at], separator) {
-        at
+        Some(at)
     } else {
-        from
+        None
     }
 }
 
@@ -102,12 +102,5 @@ pub fn is_word(text: &[u8], from: usize, separator: u8, word: &[u8]) -> bool
     requires { NoneEnds separator word.now × (feed_follows text.now from ≡ true) }
     ensures { result ≡ same_bytes (piece_from separator text.now from) word.now }
 {
-    let mut i: usize = 0;
-    while i < word.len() {
-        if text[from + i] != word[i] {
-            return false;
-        }
-        i += 1;
-    }
-    ends_piece(text[from + i], separator)
+    text[from..].starts_with(word) && ends_piece(text[from + word.len()], separator)
 }

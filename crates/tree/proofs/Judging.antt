@@ -9,6 +9,7 @@ use borrow.Author.Tests.{ltb-true, ltb-false, eqb-false, not-true}
 use lib.Dec.{eqb, ltb}
 use lib.ListN.{length, get_or, drop, drop_of_length-le}
 use lib.Seq.{drop-cons, get_or-take}
+use Rattle.std.specs.Prelude.{Result as Returned, Ok, Err}
 use Rattle.rules.specs.declared.Answer.{Answer}
 use Rattle.rules.specs.declared.Answer.TheVariants.{WrongTask, TooDeep, WrongLetter, MissingNode}
 use Rattle.rules.specs.Result.{Result, found, refused, ◌>>◌}
@@ -23,9 +24,9 @@ use Rattle.rules.proofs.Judgement.WalkFinds.{node_fits_lem, node_deep}
 use Rattle.fields.specs.Directory.{methods_from}
 use Rattle.tree.specs.declared.fit.Place.{Place}
 use Rattle.tree.specs.declared.fit.Fit.{Fit}
-use Rattle.tree.specs.declared.fit.Fit.TheVariants.{Refused, Open, Empty as EmptyFit, Leaf as LeafFit}
+use Rattle.tree.specs.declared.fit.Fit.TheVariants.{Open, Empty as EmptyFit, Leaf as LeafFit}
 use Rattle.tree.specs.Layout.{marks_from, directory_of}
-use Rattle.tree.specs.Fits.{line_at, as_entry, method_head, head_in, pick_fit, fit_if, fit_of, deep_fit, at_level}
+use Rattle.tree.specs.Fits.{line_at, as_entry, method_head, head_in, pick_fit, fit_if, fit_of, at_level}
 use Rattle.tree.specs.Standing.{MethodsAt, ClaimWithin, node_from, as_task, Beyond, Judged}
 use Rattle.tree.proofs.Entries.{HeadIs, head_is}
 
@@ -86,6 +87,16 @@ module _ (k : Case) (ok : ClaimTest) (t line : ℕ) (claimed : List ℕ) where
 
 -- ---- What the code's fit makes of it
 
+-- A fit at a level, or the answer that refuses it.
+abbrev pub levelled : ℕ → Returned Fit Answer → Answer → Returned Fit Answer
+levelled level (Ok f) deep = at_level level f deep
+levelled level (Err a) deep = Err a
+
+-- The same by the test of the level.
+abbrev levelled_by : Bool → Returned Fit Answer → Answer → Returned Fit Answer
+levelled_by v (Ok f) deep = pick_fit v (Ok f) (Err deep)
+levelled_by v (Err a) deep = Err a
+
 module _ (k : Case) (fields : List ℕ) (p : Place) (t level : ℕ) where
   abbrev n : ℕ
   n = p.node
@@ -99,24 +110,24 @@ module _ (k : Case) (fields : List ℕ) (p : Place) (t level : ℕ) where
   abbrev deep : Answer
   deep = TooDeep here
 
-  pub judged_lacking : k.head.nodes ≤ n → Sound k → Judged k fields p t level (Refused (MissingNode here))
+  pub judged_lacking : k.head.nodes ≤ n → Sound k → Judged k fields p t level (Err (MissingNode here))
   judged_lacking h s claimed =
       let none : drop n k.nodes ≡ [] = drop_of_length-le k.nodes {i = n} (let l = s.nodes_length in omega arith) in
       ap (λ (l : List NodeLine). walk_node (65 - level) k ok t here l claimed) none ∙ walk_lacking k ok t here claimed (65 - level)
 
   module _ (x : NodeLine) (there : drop n k.nodes ≡ x ∷ drop (n + 1) k.nodes) where
-    misfits : (a : Answer) → node_fits (of_task k x t) (right_letter k x) here ≡ refused a → Judged k fields p t level (Refused a)
+    misfits : (a : Answer) → node_fits (of_task k x t) (right_letter k x) here ≡ refused a → Judged k fields p t level (Err a)
     misfits a e claimed =
         ap (λ (l : List NodeLine). walk_node (65 - level) k ok t here l claimed) there
         ∙ walk_refused k ok t here claimed x (drop (n + 1) k.nodes) (65 - level) a e
 
-    other_task : of_task k x t ≡ false → Judged k fields p t level (Refused (WrongTask here))
+    other_task : of_task k x t ≡ false → Judged k fields p t level (Err (WrongTask here))
     other_task e = misfits (WrongTask here) (ap (λ (b : Bool). node_fits b (right_letter k x) here) e)
 
-    wrong_letter : of_task k x t ≡ true → right_letter k x ≡ false → Judged k fields p t level (Refused (WrongLetter here))
+    wrong_letter : of_task k x t ≡ true → right_letter k x ≡ false → Judged k fields p t level (Err (WrongLetter here))
     wrong_letter e z = misfits (WrongLetter here) (λ j. node_fits (e j) (z j) here)
 
-    too_deep : fits k x t ≡ true → ltb level 65 ≡ false → Judged k fields p t level (Refused deep)
+    too_deep : fits k x t ≡ true → ltb level 65 ≡ false → Judged k fields p t level (Err deep)
     too_deep e h claimed =
         let z : 65 - level ≡ zero = let q = ltb-false level 65 h in omega arith in
         ap (λ (l : List NodeLine). walk_node (65 - level) k ok t here l claimed) there
@@ -132,15 +143,13 @@ module _ (k : Case) (fields : List ℕ) (p : Place) (t level : ℕ) where
         ∙ node_fits_lem k ok (64 - level) t here x (drop (n + 1) k.nodes) claimed e
 
     -- A fit f, if both tests say so and a level is left.
-    judged_by : (f : Fit) (a b v : Bool) → of_task k x t ≡ a → right_letter k x ≡ b → ltb level 65 ≡ v → deep_fit f deep ≡ Refused deep
-        → (fits k x t ≡ true → ltb level 65 ≡ true → Judged k fields p t level f)
-        → Judged k fields p t level (pick_fit v (fit_if a b f here) (deep_fit (fit_if a b f here) deep))
-    judged_by f true true true e q h z w = w (and_both e q) h
-    judged_by f true true false e q h z w = subst (Judged k fields p t level) (sym z) (too_deep (and_both e q) h)
-    judged_by f true false true e q h z w = wrong_letter e q
-    judged_by f true false false e q h z w = wrong_letter e q
-    judged_by f false b true e q h z w = other_task e
-    judged_by f false b false e q h z w = other_task e
+    judged_by : (f : Fit) (a b v : Bool) → of_task k x t ≡ a → right_letter k x ≡ b → ltb level 65 ≡ v
+        → (fits k x t ≡ true → ltb level 65 ≡ true → Judged k fields p t level (Ok f))
+        → Judged k fields p t level (levelled_by v (fit_if a b f here) deep)
+    judged_by f true true true e q h w = w (and_both e q) h
+    judged_by f true true false e q h w = too_deep (and_both e q) h
+    judged_by f true false v e q h w = wrong_letter e q
+    judged_by f false b v e q h w = other_task e
 
   next_line : here + 1 ≡ line_at k.plan_line (n + 1)
   unfolding line_at
@@ -148,7 +157,7 @@ module _ (k : Case) (fields : List ℕ) (p : Place) (t level : ℕ) where
 
   module _ (w : List ℕ) (s : Sound k) (there-are : MethodsAt k fields (directory_of w)) where
     open_judged : (m : ℕ) (next : Place) → drop n k.nodes ≡ D m ∷ drop (n + 1) k.nodes → m < k.head.methods → Beyond k fields p next
-        → fits k (D m) t ≡ true → ltb level 65 ≡ true → Judged k fields p t level (Open (head_in fields w m).subtasks next)
+        → fits k (D m) t ≡ true → ltb level 65 ≡ true → Judged k fields p t level (Ok (Open (head_in fields w m).subtasks next))
     unfolding method_head
     open_judged m next there h b e v =
         let c = (head_in fields w m).subtasks in
@@ -164,7 +173,7 @@ module _ (k : Case) (fields : List ℕ) (p : Place) (t level : ℕ) where
         )
 
     empty_judged : (m g : ℕ) (next : Place) → drop n k.nodes ≡ E m g ∷ drop (n + 1) k.nodes → g ≤ k.head.cues → Beyond k fields p next
-        → fits k (E m g) t ≡ true → ltb level 65 ≡ true → Judged k fields p t level (EmptyFit g next)
+        → fits k (E m g) t ≡ true → ltb level 65 ≡ true → Judged k fields p t level (Ok (EmptyFit g next))
     empty_judged m g next there h b e v = (
       m,
       (λ claimed. goes (E m g) there e v claimed ∙ ap (λ (l : ℕ). found (empty m g, l, drop (n + 1) k.nodes, claimed)) next_line),
@@ -173,7 +182,7 @@ module _ (k : Case) (fields : List ℕ) (p : Place) (t level : ℕ) where
     )
 
     leaf_judged : (a i : ℕ) (next : Place) → drop n k.nodes ≡ L a i ∷ drop (n + 1) k.nodes → ClaimWithin k n i → Beyond k fields p next
-        → fits k (L a i) t ≡ true → ltb level 65 ≡ true → Judged k fields p t level (LeafFit a i next)
+        → fits k (L a i) t ≡ true → ltb level 65 ≡ true → Judged k fields p t level (Ok (LeafFit a i next))
     leaf_judged a i next there h b e v = (
       (λ claimed. goes (L a i) there e v claimed
           ∙ ap (λ (l : ℕ). elim (ok a i claimed) as (λ z. Walk Tree) [
@@ -185,15 +194,15 @@ module _ (k : Case) (fields : List ℕ) (p : Place) (t level : ℕ) where
     )
 
     pub judged : (x : NodeLine) (next : Place) → drop n k.nodes ≡ x ∷ drop (n + 1) k.nodes → GoodNode k.head x → Beyond k fields p next
-        → Judged k fields p t level (at_level level (fit_of fields w (as_entry x) next t here) deep)
+        → Judged k fields p t level (levelled level (fit_of fields w (as_entry x) next t here) deep)
     unfolding at_level fit_of right_letter
     judged (D m) next there good b =
         judged_by (D m) there (Open (head_in fields w m).subtasks next) (eqb (head_in fields w m).task t)
         (not (eqb (head_in fields w m).subtasks.count 0)) (ltb level 65)
-        (of_task_D k fields w s there-are m good t) (letter_D k fields w s there-are m good) refl refl (open_judged m next there good b)
+        (of_task_D k fields w s there-are m good t) (letter_D k fields w s there-are m good) refl (open_judged m next there good b)
     judged (E m g) next there good b =
         judged_by (E m g) there (EmptyFit g next) (eqb (head_in fields w m).task t) (eqb (head_in fields w m).subtasks.count 0) (ltb level 65)
-        (of_task_E k fields w s there-are m good.0 t g good.1) (letter_E k fields w s there-are m good.0 g) refl refl (empty_judged m g next there good.1 b)
+        (of_task_E k fields w s there-are m good.0 t g good.1) (letter_E k fields w s there-are m good.0 g) refl (empty_judged m g next there good.1 b)
     judged (L a i) next there good b =
-        judged_by (L a i) there (LeafFit a i next) (eqb a t) true (ltb level 65) (of_task_lem k s (L a i) t good) refl refl refl
+        judged_by (L a i) there (LeafFit a i next) (eqb a t) true (ltb level 65) (of_task_lem k s (L a i) t good) refl refl
         (leaf_judged a i next there (record { node = b.there; low = good.1; high = good.2 }) b)

@@ -7,22 +7,24 @@ use Prim.Native.Nat.{ℕ, ◌+◌, ◌-◌, ◌*◌, ◌≤◌, ◌<◌}
 use native.Mathlib.Omega.{arith}
 use borrow.Author.Tests.{eq-eqb, ne_eqb}
 use lib.Dec.{eqb}
-use lib.ListN.{length, get_or, set, take, drop, length-drop}
-use lib.Seq.{sets, length-take-le}
+use lib.ListN.{get_or, set, take, drop}
+use lib.Seq.{sets}
+use Rattle.std.specs.Prelude.{Result, Ok, Err}
 use Rattle.rules.specs.declared.Answer.{Answer}
 use Rattle.rules.specs.declared.Answer.TheVariants.{WrongClaim}
 use Rattle.rules.specs.Index.{at, of_cue, of_gap, hull}
 use Rattle.rules.specs.Result.{found, refused}
 use Rattle.rules.specs.Case.{Case}
 use Rattle.rules.specs.Tree.{Tree, Trees, leaf, span, spans, Walk, may_claim, is_in}
+use Rattle.tree.specs.declared.fit.Fit.TheVariants.{Open, Empty as EmptyFit, Leaf as LeafFit}
 use Rattle.tree.specs.declared.fit.Given.{Given}
 use Rattle.tree.specs.declared.fit.Place.{Place}
 use Rattle.tree.specs.declared.fit.Subtasks.{Subtasks}
 use Rattle.tree.specs.declared.rows.Walked.{Walked}
-use Rattle.tree.specs.declared.rows.Walked.TheVariants.{Refused}
+use Rattle.index.specs.Spans.{span_of}
 use Rattle.tree.specs.Layout.{rows_from, marks_from, size, sizes, row, rows, rows_all, marks_of, directory_of, marks_in}
-use Rattle.tree.specs.Fits.{line_at, SubtasksWithin, subtasks_in}
-use Rattle.tree.specs.Standing.{as_task, Steady, ClaimWithin, list_from, claim_from, Beyond, Judged, put_row, settled, noted, Told, ToldAll, ClaimTold, Claims, WalksNode, WalksList}
+use Rattle.tree.specs.Fits.{line_at, subtasks_in}
+use Rattle.tree.specs.Standing.{as_task, Steady, ClaimWithin, list_from, claim_from, Beyond, Judged, put_row, settled, Told, ToldAll, ClaimTold, Claims, WalksNode, WalksList}
 use Rattle.tree.proofs.Stores.{in_front, row_rows, row_directory, row_marks, mark_rows, mark_directory, mark_marks}
 use Rattle.tree.proofs.Claimed.{marks_claim, mark_clear, mark_set}
 
@@ -51,15 +53,15 @@ module _ (k : Case) (n a i x : ℕ) (next : Place) (w : List ℕ) (c : ClaimWith
       ]
 
   pub claim_right : (r : Walked) (v : List ℕ) → x ≡ a → get_or w (marks_from + (i - 1)) 0 ≡ 0
-      → r ≡ settled (of_cue i) next → v ≡ put_row n (at (of_cue i)) next.node (set w (marks_from + (i - 1)) 1) → Claims k n a i next w r v
+      → r ≡ settled (of_cue i) next → v ≡ put_row n (at (of_cue i)) next.node (set w (marks_from + (i - 1)) 1) → Claims k n a i next w (Ok r) v
   unfolding may_claim
   claim_right r v p q er ev claimed m =
       let u = set w (marks_from + (i - 1)) 1 in
       let free : is_in i claimed ≡ false = sym (ap (λ (x : ℕ). is_in x claimed) same_place) ∙ mark_clear k.head.cues (i - 1) claimed w (omega arith) m q in
       let test : may_claim k.plan a i claimed ≡ true =
       ap (λ (b : Bool). b && not (is_in i claimed)) (planned true (eq-eqb _ _ p)) ∙ ap not free in
-      subst (λ (b : Bool). ClaimTold k n a i next w (by_test claimed b) r v) (sym test) (
-        er,
+      subst (λ (b : Bool). ClaimTold k n a i next w (by_test claimed b) (Ok r) v) (sym test) (
+        ap Ok er,
         ap (drop rows_from) ev ∙ row_rows n (at (of_cue i)) next.node u
             ∙ ap (λ (l : List ℕ). sets l (3 * n) (row (at (of_cue i)) next.node)) (mark_rows w (i - 1) 1 (omega arith)),
         ap (marks_in k.head.cues) ev ∙ row_marks n (at (of_cue i)) next.node u k.head.cues few
@@ -68,22 +70,22 @@ module _ (k : Case) (n a i x : ℕ) (next : Place) (w : List ℕ) (c : ClaimWith
         ap directory_of ev ∙ row_directory n (at (of_cue i)) next.node u ∙ mark_directory w (i - 1) 1,
       )
 
-  claim_wrong : (r : Walked) (v claimed : List ℕ) → may_claim k.plan a i claimed ≡ false → r ≡ Refused (WrongClaim (line_at k.plan_line n) i)
-      → ClaimTold k n a i next w (claim_from k n a i claimed) r v
-  claim_wrong r v claimed test er = subst (λ (b : Bool). ClaimTold k n a i next w (by_test claimed b) r v) (sym test) er
+  claim_wrong : (l : ℕ) (v claimed : List ℕ) → may_claim k.plan a i claimed ≡ false → l ≡ line_at k.plan_line n
+      → ClaimTold k n a i next w (claim_from k n a i claimed) (Err (WrongClaim l i)) v
+  claim_wrong l v claimed test e =
+      subst (λ (b : Bool). ClaimTold k n a i next w (by_test claimed b) (Err (WrongClaim l i)) v) (sym test) (ap (λ (x : ℕ). Err (WrongClaim x i)) e)
 
-  pub claim_other : (r : Walked) (v : List ℕ) → (x ≡ a → ⊥) → r ≡ Refused (WrongClaim (line_at k.plan_line n) i)
-      → Claims k n a i next w r v
+  pub claim_other : (l : ℕ) (v : List ℕ) → (x ≡ a → ⊥) → l ≡ line_at k.plan_line n → Claims k n a i next w (Err (WrongClaim l i)) v
   unfolding may_claim
-  claim_other r v p er claimed m =
-      claim_wrong r v claimed (ap (λ (b : Bool). b && not (is_in i claimed)) (planned false (ne_eqb _ _ p))) er
+  claim_other l v p e claimed m =
+      claim_wrong l v claimed (ap (λ (b : Bool). b && not (is_in i claimed)) (planned false (ne_eqb _ _ p))) e
 
-  pub claim_taken : (r : Walked) (v : List ℕ) → x ≡ a → (get_or w (marks_from + (i - 1)) 0 ≡ 0 → ⊥)
-      → r ≡ Refused (WrongClaim (line_at k.plan_line n) i) → Claims k n a i next w r v
+  pub claim_taken : (l : ℕ) (v : List ℕ) → x ≡ a → (get_or w (marks_from + (i - 1)) 0 ≡ 0 → ⊥) → l ≡ line_at k.plan_line n
+      → Claims k n a i next w (Err (WrongClaim l i)) v
   unfolding may_claim
-  claim_taken r v p q er claimed m =
+  claim_taken l v p q e claimed m =
       let taken : is_in i claimed ≡ true = sym (ap (λ (x : ℕ). is_in x claimed) same_place) ∙ mark_set k.head.cues (i - 1) claimed w (omega arith) m q in
-      claim_wrong r v claimed (ap (λ (b : Bool). b && not (is_in i claimed)) (planned true (eq-eqb _ _ p)) ∙ ap not taken) er
+      claim_wrong l v claimed (ap (λ (b : Bool). b && not (is_in i claimed)) (planned true (eq-eqb _ _ p)) ∙ ap not taken) e
 
 -- ---- A method's subtasks, as the part of the fields that is lent
 
@@ -94,12 +96,13 @@ module _ (fields : List ℕ) (s : Subtasks) where
   pub lent_subtasks : take (s.at + s.count - s.at) (drop s.at fields) ≡ subtasks_in fields s
   lent_subtasks = ap (λ (c : ℕ). take c (drop s.at fields)) lent_count
 
-  pub lent_some : SubtasksWithin fields s → 0 < length (take (s.at + s.count - s.at) (drop s.at fields))
-  lent_some h =
-      let o = h.some in
-      let i = h.inside in
-      let e = ap length lent_subtasks ∙ length-take-le s.count (drop s.at fields) (omega (arith, length-drop s.at fields)) in
-      omega arith
+-- ---- What a call answered
+
+pub same_ok : {a b : Walked} → ◌≡◌ {A = Result Walked Answer} (Ok a) (Ok b) → a ≡ b
+same_ok e = cc
+
+pub ok_not_err : {a : Walked} {b : Answer} → ◌≡◌ {A = Result Walked Answer} (Ok a) (Err b) → ⊥
+ok_not_err e = cc
 
 -- ---- A node, by how it fits
 
@@ -107,11 +110,11 @@ module _ (k : Case) (fields : List ℕ) (t level : ℕ) (p : Place) (w : List �
   abbrev n : ℕ
   n = p.node
 
-  abbrev Here : Walked → List ℕ → Type 0
+  abbrev Here : Result Walked Answer → List ℕ → Type 0
   Here r v = WalksNode k fields (65 - level) t n w r v
 
-  pub refuses : (a : Answer) (v : List ℕ) → Judged k fields p t level (Rattle.tree.specs.declared.fit.Fit.TheVariants.Refused a) → Here (Refused a) v
-  refuses a v j claimed m = subst (λ (x : Walk Tree). Told k fields n w x (Refused a) v) (sym (j claimed)) refl
+  pub refuses : (a : Answer) (v : List ℕ) → Judged k fields p t level (Err a) → Here (Err a) v
+  refuses a v j claimed m = subst (λ (x : Walk Tree). Told k fields n w x (Err a) v) (sym (j claimed)) refl
 
   module _ (next : Place) (b : Beyond k fields p next) where
     pub inside : (g : Given) → Steady k fields g w → n < g.nodes
@@ -123,15 +126,15 @@ module _ (k : Case) (fields : List ℕ) (t level : ℕ) (p : Place) (w : List �
     step_left : drop (n + 1) k.nodes ≡ drop next.node k.nodes
     step_left = ap (λ (m : ℕ). drop m k.nodes) (sym b.one)
 
-    pub rests : (g : ℕ) (r : Walked) (v : List ℕ) → Judged k fields p t level (Rattle.tree.specs.declared.fit.Fit.TheVariants.Empty g next)
-        → k.head.cues ≤ 1000 → r ≡ settled (of_gap g) next → v ≡ put_row n (at (of_gap g)) next.node w → Here r v
+    pub rests : (g : ℕ) (r : Walked) (v : List ℕ) → Judged k fields p t level (Ok (EmptyFit g next))
+        → k.head.cues ≤ 1000 → r ≡ settled (of_gap g) next → v ≡ put_row n (at (of_gap g)) next.node w → Here (Ok r) v
     unfolding span size rows
     rests g r v j few er ev claimed m =
         let s = at (of_gap g) in
-        subst (λ (x : Walk Tree). Told k fields n w x r v) (sym (j.1 claimed))
+        subst (λ (x : Walk Tree). Told k fields n w x (Ok r) v) (sym (j.1 claimed))
         (record {
           next = next;
-          answer = er;
+          answer = ap Ok er;
           after = b.one;
           follows = b.follows;
           lines = step_line next.node refl;
@@ -141,7 +144,7 @@ module _ (k : Case) (fields : List ℕ) (t level : ℕ) (p : Place) (w : List �
           directory = ap directory_of ev ∙ row_directory n s next.node w;
         })
 
-    leaf_told : (a i : ℕ) (claimed : List ℕ) (c : Bool) (r : Walked) (v : List ℕ)
+    leaf_told : (a i : ℕ) (claimed : List ℕ) (c : Bool) (r : Result Walked Answer) (v : List ℕ)
         → ClaimTold k n a i next w (elim c [
           | true ↦ found (leaf a i, line_at k.plan_line (n + 1), drop (n + 1) k.nodes, i ∷ claimed)
           | false ↦ refused (WrongClaim (line_at k.plan_line n) i)
@@ -165,21 +168,21 @@ module _ (k : Case) (fields : List ℕ) (t level : ℕ) (p : Place) (w : List �
         }
     leaf_told a i claimed false r v h = h
 
-    pub claims : (a i : ℕ) (r : Walked) (v : List ℕ) → Judged k fields p t level (Rattle.tree.specs.declared.fit.Fit.TheVariants.Leaf a i next)
+    pub claims : (a i : ℕ) (r : Result Walked Answer) (v : List ℕ) → Judged k fields p t level (Ok (LeafFit a i next))
         → Claims k n a i next w r v → Here r v
     claims a i r v j h claimed m =
         subst (λ (x : Walk Tree). Told k fields n w x r v) (sym (j.0 claimed)) (leaf_told a i claimed (may_claim k.plan a i claimed) r v (h claimed m))
 
     -- The task whose subtasks are walked, from the node after its own.
-    task_told : (m : ℕ) (ws : Walk Trees) (r : Walked) (u v : List ℕ) → k.head.cues ≤ 1000 → ToldAll k fields next.node w ws r u → v ≡ noted n r u
-        → Told k fields n w (as_task m ws) r v
+    task_told : (m : ℕ) (ws : Walk Trees) (r : Walked) (u v : List ℕ) → k.head.cues ≤ 1000 → ToldAll k fields next.node w ws (Ok r) u
+        → v ≡ put_row n (span_of r.span) r.next.node u → Told k fields n w (as_task m ws) (Ok r) v
     unfolding span size rows
     task_told m (found (ts, line, left, claimed)) r u v few h ev =
         let f = h.1 in
         let s = hull (spans ts) in
         let count : f.next.node ≡ n + (1 + sizes ts) = let a = f.after in let o = b.one in omega arith in
         let same : f.next.node ≡ n + 1 + sizes ts = omega arith in
-        let e : v ≡ put_row n s f.next.node u = ev ∙ ap (λ (x : Walked). noted n x u) f.answer in
+        let e : v ≡ put_row n s f.next.node u = ev ∙ ap (λ (x : Walked). put_row n (span_of x.span) x.next.node u) (same_ok f.answer) in
         record {
           next = f.next;
           answer = f.answer;
@@ -195,11 +198,12 @@ module _ (k : Case) (fields : List ℕ) (t level : ℕ) (p : Place) (w : List �
           marked = ap (marks_in k.head.cues) e ∙ row_marks n s f.next.node u k.head.cues few ∙ f.marked;
           directory = ap directory_of e ∙ row_directory n s f.next.node u ∙ f.directory;
         }
-    task_told m (refused a) r u v few h ev = h
+    task_told m (refused a) r u v few h ev = absurd (ok_not_err h)
 
-    pub opens : (s : Subtasks) (r : Walked) (u v : List ℕ) → Judged k fields p t level (Rattle.tree.specs.declared.fit.Fit.TheVariants.Open s next)
-        → k.head.cues ≤ 1000 → WalksList k fields (64 - level) (subtasks_in fields s) next.node w r u → v ≡ noted n r u → Here r v
+    pub opens : (s : Subtasks) (r : Walked) (u v : List ℕ) → Judged k fields p t level (Ok (Open s next))
+        → k.head.cues ≤ 1000 → WalksList k fields (64 - level) (subtasks_in fields s) next.node w (Ok r) u
+        → v ≡ put_row n (span_of r.span) r.next.node u → Here (Ok r) v
     opens s r u v j few h ev claimed m =
-        subst (λ (x : Walk Tree). Told k fields n w x r v) (sym (j.1 claimed))
+        subst (λ (x : Walk Tree). Told k fields n w x (Ok r) v) (sym (j.1 claimed))
         (task_told j.0 (list_from k (64 - level) (subtasks_in fields s) (n + 1) claimed) r u v few
-        (subst (λ (x : ℕ). ToldAll k fields next.node w (list_from k (64 - level) (subtasks_in fields s) x claimed) r u) b.one (h claimed m)) ev)
+        (subst (λ (x : ℕ). ToldAll k fields next.node w (list_from k (64 - level) (subtasks_in fields s) x claimed) (Ok r) u) b.one (h claimed m)) ev)

@@ -8,6 +8,7 @@ use native.Mathlib.Decide.{ℕ_discrete}
 use native.Mathlib.Omega.{arith}
 use lib.ListN.{length, get_or, take, drop, take-append-drop}
 use lib.Seq.{sets, take-suc, take_all}
+use Rattle.std.specs.Prelude.{Result, Ok, Err}
 use Rattle.rules.specs.declared.Answer.{Answer}
 use Rattle.rules.specs.Index as Ix
 use Rattle.rules.specs.Index.{hull}
@@ -20,12 +21,12 @@ use Rattle.index.specs.Spans.{span_of, as_span}
 use Rattle.tree.specs.declared.fit.Given.{Given}
 use Rattle.tree.specs.declared.fit.Place.{Place}
 use Rattle.tree.specs.declared.rows.Walked.{Walked}
-use Rattle.tree.specs.declared.rows.Walked.TheVariants.{Next, Refused}
 use Rattle.tree.specs.Layout.{rows_from, size, sizes, rows, rows_all, marks_of, marks_in}
 use Rattle.tree.specs.Fits.{line_at, Follows}
 use Rattle.tree.specs.Standing.{MethodsAt, Steady, node_from, list_from, joined, Passed, Told, Some, ToldAll, WalksNode, WalksList}
 use Rattle.fields.proofs.Standing.{sets_append}
 use Rattle.tree.proofs.Stores.{length_rows_all}
+use Rattle.tree.proofs.Passing.{same_ok, ok_not_err}
 
 -- ---- Trees, and trees after them
 
@@ -124,23 +125,24 @@ walk_append walk (t ∷ ts) us line left claimed =
 
 -- ---- What the code has done after the one and the other
 
-pub refused_next : {a : Answer} {next : Place} {s : Span} → Next next s ≡ Refused a → ⊥
-refused_next e = let z : ◌≡◌ {A = ℕ} 0 1 = cc in omega arith
+-- A walk that ended at `next`, of so wide a span.
+abbrev pub went : Place → Span → Result Walked Answer
+went next s = Ok (record { next = next; span = s })
 
 -- A walk after one whose span is s.
-abbrev joined_to : Ix.Span → Walked → Walked
-joined_to s (Next next o) = Next next (as_span (hull (s ∷ span_of o ∷ [])))
-joined_to s (Refused a) = Refused a
+abbrev joined_to : Ix.Span → Result Walked Answer → Result Walked Answer
+joined_to s (Ok o) = went o.next (as_span (hull (s ∷ span_of o.span ∷ [])))
+joined_to s (Err a) = Err a
 
 -- One task alone.
-one_told : (k : Case) (fields : List ℕ) (n : ℕ) (w : List ℕ) (r : Walked) (v : List ℕ) (x : Walk Tree) → Told k fields n w x r v
+one_told : (k : Case) (fields : List ℕ) (n : ℕ) (w : List ℕ) (r : Result Walked Answer) (v : List ℕ) (x : Walk Tree) → Told k fields n w x r v
     → ToldAll k fields n w (follow_tree x (λ line left claimed. found (no_tree, line, left, claimed))) r v
 unfolding sizes spans rows_all
 one_told k fields n w r v (found (t, line, left, claimed)) f = (
   tt,
   record {
     next = f.next;
-    answer = f.answer ∙ ap (λ (x : Ix.Span). Next f.next (as_span x)) (sym (hull_one (span t)));
+    answer = f.answer ∙ ap (λ (x : Ix.Span). went f.next (as_span x)) (sym (hull_one (span t)));
     after = let a = f.after in omega arith;
     follows = f.follows;
     lines = f.lines;
@@ -153,14 +155,14 @@ one_told k fields n w r v (found (t, line, left, claimed)) f = (
 one_told k fields n w r v (refused a) f = f
 
 -- And back: what is told of a list of one task is told of that task.
-pub alone_told : (k : Case) (fields : List ℕ) (n : ℕ) (w : List ℕ) (r : Walked) (v : List ℕ) (x : Walk Tree)
+pub alone_told : (k : Case) (fields : List ℕ) (n : ℕ) (w : List ℕ) (r : Result Walked Answer) (v : List ℕ) (x : Walk Tree)
     → ToldAll k fields n w (follow_tree x (λ line left claimed. found (no_tree, line, left, claimed))) r v → Told k fields n w x r v
 unfolding sizes spans rows_all
 alone_told k fields n w r v (found (t, line, left, claimed)) h =
     let f = h.1 in
     record {
       next = f.next;
-      answer = f.answer ∙ ap (λ (x : Ix.Span). Next f.next (as_span x)) (hull_one (span t));
+      answer = f.answer ∙ ap (λ (x : Ix.Span). went f.next (as_span x)) (hull_one (span t));
       after = let a = f.after in omega arith;
       follows = f.follows;
       lines = f.lines;
@@ -174,12 +176,12 @@ alone_told k fields n w r v (refused a) f = f
 module _ (k : Case) (fields : List ℕ) (n : ℕ) (w : List ℕ) (next : Place) (s : Span) (v₁ : List ℕ) where
   -- A walk that ended at `next` found trees.
   same_next : (ts : Trees) {line : ℕ} {left : List NodeLine} {claimed : List ℕ}
-      (f : Passed k fields n (sizes ts) (hull (spans ts)) (rows_all ts n) line left claimed w (Next next s) v₁) → (next ≡ f.next) × (s ≡ as_span (hull (spans ts)))
-  same_next ts f = (cc f.answer, cc f.answer)
+      (f : Passed k fields n (sizes ts) (hull (spans ts)) (rows_all ts n) line left claimed w (went next s) v₁) → (next ≡ f.next) × (s ≡ as_span (hull (spans ts)))
+  same_next ts f = let e = same_ok f.answer in (ap (λ (x : Walked). x.next) e, ap (λ (x : Walked). x.span) e)
 
-  module _ (r r₂ : Walked) (v : List ℕ) (e : r ≡ joined_to (span_of s) r₂) where
+  module _ (r r₂ : Result Walked Answer) (v : List ℕ) (e : r ≡ joined_to (span_of s) r₂) where
     both_told : (ts : Trees) (line : ℕ) (left : List NodeLine) (claimed : List ℕ) (ws : Walk Trees) → Some ts
-        → Passed k fields n (sizes ts) (hull (spans ts)) (rows_all ts n) line left claimed w (Next next s) v₁ → ToldAll k fields next.node v₁ ws r₂ v
+        → Passed k fields n (sizes ts) (hull (spans ts)) (rows_all ts n) line left claimed w (went next s) v₁ → ToldAll k fields next.node v₁ ws r₂ v
         → ToldAll k fields n w (with_trees ts ws) r v
     both_told ts line left claimed (found (us, line₂, left₂, claimed₂)) some f h =
         let g = h.1 in
@@ -191,7 +193,7 @@ module _ (k : Case) (fields : List ℕ) (n : ℕ) (w : List ℕ) (next : Place) 
           some_append ts us some,
           record {
             next = g.next;
-            answer = e ∙ ap (joined_to (span_of s)) g.answer ∙ ap (λ (x : Ix.Span). Next g.next (as_span x)) whole;
+            answer = e ∙ ap (joined_to (span_of s)) g.answer ∙ ap (λ (x : Ix.Span). went g.next (as_span x)) whole;
             after = let a = g.after in let b = sizes_append ts us in omega arith;
             follows = g.follows;
             lines = g.lines;
@@ -207,7 +209,7 @@ module _ (k : Case) (fields : List ℕ) (n : ℕ) (w : List ℕ) (next : Place) 
         )
     both_told ts line left claimed (refused a) some f h = e ∙ ap (joined_to (span_of s)) h
 
-    then_told : (x : Walk Trees) (rest : ℕ → List NodeLine → List ℕ → Walk Trees) → ToldAll k fields n w x (Next next s) v₁
+    then_told : (x : Walk Trees) (rest : ℕ → List NodeLine → List ℕ → Walk Trees) → ToldAll k fields n w x (went next s) v₁
         → ((claimed : List ℕ) → marks_in k.head.cues v₁ ≡ marks_of k.head.cues claimed
         → ToldAll k fields next.node v₁ (rest (line_at k.plan_line next.node) (drop next.node k.nodes) claimed) r₂ v)
         → ToldAll k fields n w (follow_trees x rest) r v
@@ -217,9 +219,9 @@ module _ (k : Case) (fields : List ℕ) (n : ℕ) (w : List ℕ) (next : Place) 
         let over : left ≡ drop next.node k.nodes = f.1.lefts ∙ ap (λ (m : ℕ). drop m k.nodes) there in
         both_told ts line left claimed (rest line left claimed) f.0 f.1
         (subst (λ (ws : Walk Trees). ToldAll k fields next.node v₁ ws r₂ v) (λ j. rest (sym on j) (sym over j) claimed) (h claimed f.1.marked))
-    then_told (refused a) rest f h = absurd (refused_next f)
+    then_told (refused a) rest f h = absurd (ok_not_err f)
 
-  moves_on : (g : Given) (x : Walk Trees) → Steady k fields g w → length v₁ ≡ length w → ToldAll k fields n w x (Next next s) v₁
+  moves_on : (g : Given) (x : Walk Trees) → Steady k fields g w → length v₁ ≡ length w → ToldAll k fields n w x (went next s) v₁
       → Steady k fields g v₁ × Follows k fields next × (n ≤ next.node)
   moves_on g (found (ts, line, left, claimed)) st l h =
       let f = h.1 in
@@ -237,24 +239,24 @@ module _ (k : Case) (fields : List ℕ) (n : ℕ) (w : List ℕ) (next : Place) 
         subst (Follows k fields) (sym there) f.follows,
         (let e = ap (λ (p : Place). p.node) there in let a = f.after in omega arith),
       )
-  moves_on g (refused a) st l f = absurd (refused_next f)
+  moves_on g (refused a) st l f = absurd (ok_not_err f)
 
 stop_told : (k : Case) (fields : List ℕ) (n : ℕ) (w : List ℕ) (a : Answer) (v : List ℕ) (x : Walk Trees) (rest : ℕ → List NodeLine → List ℕ → Walk Trees)
-    → ToldAll k fields n w x (Refused a) v → ToldAll k fields n w (follow_trees x rest) (Refused a) v
-stop_told k fields n w a v (found (ts, line, left, claimed)) rest f = absurd (refused_next (sym f.1.answer))
+    → ToldAll k fields n w x (Err a) v → ToldAll k fields n w (follow_trees x rest) (Err a) v
+stop_told k fields n w a v (found (ts, line, left, claimed)) rest f = absurd (ok_not_err (sym f.1.answer))
 stop_told k fields n w a v (refused b) rest f = f
 
 -- ---- The loop
 
 module _ (k : Case) (fields : List ℕ) (level : ℕ) where
-  abbrev Done : List ℕ → ℕ → List ℕ → Walked → List ℕ → Type 0
+  abbrev Done : List ℕ → ℕ → List ℕ → Result Walked Answer → List ℕ → Type 0
   Done ts n w r v = WalksList k fields (64 - level) ts n w r v
 
   -- A subtask is one level below its task.
-  abbrev DoneOne : ℕ → ℕ → List ℕ → Walked → List ℕ → Type 0
+  abbrev DoneOne : ℕ → ℕ → List ℕ → Result Walked Answer → List ℕ → Type 0
   DoneOne t n w r v = WalksNode k fields (65 - (level + 1)) t n w r v
 
-  one_done : (t n : ℕ) (w : List ℕ) (r : Walked) (v : List ℕ) → DoneOne t n w r v → Done (t ∷ []) n w r v
+  one_done : (t n : ℕ) (w : List ℕ) (r : Result Walked Answer) (v : List ℕ) → DoneOne t n w r v → Done (t ∷ []) n w r v
   one_done t n w r v f claimed m =
       let d : 65 - (level + 1) ≡ 64 - level = omega arith in
       one_told k fields n w r v (node_from k (64 - level) t n claimed) (subst (λ (l : ℕ). Told k fields n w (node_from k l t n claimed) r v) d (f claimed m))
@@ -264,25 +266,25 @@ module _ (k : Case) (fields : List ℕ) (level : ℕ) where
     rest line left claimed = walk_subtasks (walk_node (64 - level) k (may_claim k.plan)) us line left claimed
 
     -- The walk of all the tasks, from the walk of the first ones.
-    append_told : (r : Walked) (v claimed : List ℕ) → ToldAll k fields n w (follow_trees (list_from k (64 - level) ts n claimed) rest) r v
+    append_told : (r : Result Walked Answer) (v claimed : List ℕ) → ToldAll k fields n w (follow_trees (list_from k (64 - level) ts n claimed) rest) r v
         → ToldAll k fields n w (list_from k (64 - level) (ts ++ us) n claimed) r v
     append_told r v claimed h =
         subst (λ (x : Walk Trees). ToldAll k fields n w x r v)
         (sym (walk_append (walk_node (64 - level) k (may_claim k.plan)) ts us (line_at k.plan_line n) (drop n k.nodes) claimed)) h
 
-    append_done : (next : Place) (s : Span) (v₁ : List ℕ) (r₂ r : Walked) (v : List ℕ) → Done ts n w (Next next s) v₁ → Done us next.node v₁ r₂ v
+    append_done : (next : Place) (s : Span) (v₁ : List ℕ) (r₂ r : Result Walked Answer) (v : List ℕ) → Done ts n w (went next s) v₁ → Done us next.node v₁ r₂ v
         → r ≡ joined_to (span_of s) r₂ → Done (ts ++ us) n w r v
     append_done next s v₁ r₂ r v f h e claimed m =
         append_told r v claimed (then_told k fields n w next s v₁ r r₂ v e (list_from k (64 - level) ts n claimed) rest (f claimed m) h)
 
-    append_refused : (a : Answer) (v : List ℕ) → Done ts n w (Refused a) v → Done (ts ++ us) n w (Refused a) v
+    append_refused : (a : Answer) (v : List ℕ) → Done ts n w (Err a) v → Done (ts ++ us) n w (Err a) v
     append_refused a v f claimed m =
-        append_told (Refused a) v claimed (stop_told k fields n w a v (list_from k (64 - level) ts n claimed) rest (f claimed m))
+        append_told (Err a) v claimed (stop_told k fields n w a v (list_from k (64 - level) ts n claimed) rest (f claimed m))
 
   -- From the place p and the work space w the first i tasks are walked, to the place `next`, their span and the work space v.
   pub record Begun (tasks : List ℕ) (i : ℕ) (p : Place) (w : List ℕ) (next : Place) (s : Span) (v : List ℕ) : Type 0 where
     pub none : i ≡ 0 → (next ≡ p) × (v ≡ w)
-    pub some : 0 < i → Done (take i tasks) p.node w (Next next s) v
+    pub some : 0 < i → Done (take i tasks) p.node w (went next s) v
 
   pub begins : (tasks : List ℕ) (p : Place) (w : List ℕ) (s : Span) → Begun tasks 0 p w p s w
   begins tasks p w s = record { none = λ e. (refl, refl); some = λ h. absurd (omega arith) }
@@ -304,7 +306,7 @@ module _ (k : Case) (fields : List ℕ) (level : ℕ) where
             (b.some (omega arith) st.claimed st.marks)
 
     -- One more task is walked, to the answer r.
-    one_more : (r₂ r : Walked) (v₂ : List ℕ) → i < length tasks → (i ≡ 0 → r ≡ r₂) → (0 < i → r ≡ joined_to (span_of s) r₂)
+    one_more : (r₂ r : Result Walked Answer) (v₂ : List ℕ) → i < length tasks → (i ≡ 0 → r ≡ r₂) → (0 < i → r ≡ joined_to (span_of s) r₂)
         → DoneOne (get_or tasks i 0) next.node v r₂ v₂ → Done (take (i + 1) tasks) p.node w r v₂
     one_more r₂ r v₂ h first later f =
         let more : take (i + 1) tasks ≡ take i tasks ++ (get_or tasks i 0 ∷ []) = rw (add-one, take-suc tasks i 0 h) in
@@ -317,35 +319,32 @@ module _ (k : Case) (fields : List ℕ) (level : ℕ) where
             subst (λ (l : List ℕ). Done l p.node w r v₂) (sym alone)
             (subst (λ (q : Place). Done (get_or tasks i 0 ∷ []) q.node w r v₂) o.0
             (subst (λ (u : List ℕ). Done (get_or tasks i 0 ∷ []) next.node u r v₂) o.1
-            (subst (λ (x : Walked). Done (get_or tasks i 0 ∷ []) next.node v x v₂) (sym (first e))
+            (subst (λ (x : Result Walked Answer). Done (get_or tasks i 0 ∷ []) next.node v x v₂) (sym (first e))
             (one_done (get_or tasks i 0) next.node v r₂ v₂ f))))
         go (no n) =
             append_done (take i tasks) (get_or tasks i 0 ∷ []) p.node w next s v r₂ r v₂ (b.some (omega arith))
             (one_done (get_or tasks i 0) next.node v r₂ v₂ f) (later (omega arith))
 
-    pub goes_on_lem : (r₂ : Walked) (v₂ : List ℕ) (after : Place) (last whole : Span) → i < length tasks → r₂ ≡ Next after last
-        → span_of whole ≡ joined i (span_of s) (span_of last) → DoneOne (get_or tasks i 0) next.node v r₂ v₂ → Begun tasks (i + 1) p w after whole v₂
-    goes_on_lem r₂ v₂ after last whole h e j f =
+    pub goes_on_lem : (o : Walked) (v₂ : List ℕ) (whole : Span) → i < length tasks → span_of whole ≡ joined i (span_of s) (span_of o.span)
+        → DoneOne (get_or tasks i 0) next.node v (Ok o) v₂ → Begun tasks (i + 1) p w o.next whole v₂
+    goes_on_lem o v₂ whole h j f =
         record {
           none = λ z. absurd (omega arith);
-          some = λ z. one_more r₂ (Next after whole) v₂ h first later f;
+          some = λ z. one_more (Ok o) (went o.next whole) v₂ h first later f;
         }
       where
-        first : i ≡ 0 → Next after whole ≡ r₂
-        first z =
-            ap (λ (x : Ix.Span). Next after (as_span x)) (j ∙ ap (λ (c : ℕ). joined c (span_of s) (span_of last)) z) ∙ sym e
+        first : i ≡ 0 → went o.next whole ≡ Ok o
+        first z = ap (λ (x : Ix.Span). went o.next (as_span x)) (j ∙ ap (λ (c : ℕ). joined c (span_of s) (span_of o.span)) z)
 
-        later : 0 < i → Next after whole ≡ joined_to (span_of s) r₂
+        later : 0 < i → went o.next whole ≡ joined_to (span_of s) (Ok o)
         later z =
             let c : i ≡ suc (i - 1) = omega arith in
-            ap (λ (x : Ix.Span). Next after (as_span x)) (j ∙ ap (λ (c : ℕ). joined c (span_of s) (span_of last)) c) ∙ ap (joined_to (span_of s)) (sym e)
+            ap (λ (x : Ix.Span). went o.next (as_span x)) (j ∙ ap (λ (c : ℕ). joined c (span_of s) (span_of o.span)) c)
 
-    pub stops : (r₂ : Walked) (v₂ : List ℕ) (a : Answer) → i < length tasks → r₂ ≡ Refused a → DoneOne (get_or tasks i 0) next.node v r₂ v₂
-        → Done tasks p.node w (Refused a) v₂
-    stops r₂ v₂ a h e f =
-        subst (λ (l : List ℕ). Done l p.node w (Refused a) v₂) (take-append-drop (i + 1) tasks)
-        (append_refused (take (i + 1) tasks) (drop (i + 1) tasks) p.node w a v₂
-        (one_more r₂ (Refused a) v₂ h (λ z. sym e) (λ z. ap (joined_to (span_of s)) (sym e)) f))
+    pub stops : (v₂ : List ℕ) (a : Answer) → i < length tasks → DoneOne (get_or tasks i 0) next.node v (Err a) v₂ → Done tasks p.node w (Err a) v₂
+    stops v₂ a h f =
+        subst (λ (l : List ℕ). Done l p.node w (Err a) v₂) (take-append-drop (i + 1) tasks)
+        (append_refused (take (i + 1) tasks) (drop (i + 1) tasks) p.node w a v₂ (one_more (Err a) (Err a) v₂ h (λ z. refl) (λ z. refl) f))
 
-    pub ends : 0 < length tasks → length tasks ≤ i → Done tasks p.node w (Next next s) v
-    ends some all = subst (λ (l : List ℕ). Done l p.node w (Next next s) v) (take_all i tasks all) (b.some (omega arith))
+    pub ends : 0 < length tasks → length tasks ≤ i → Done tasks p.node w (went next s) v
+    ends some all = subst (λ (l : List ℕ). Done l p.node w (went next s) v) (take_all i tasks all) (b.some (omega arith))

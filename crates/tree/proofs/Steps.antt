@@ -7,8 +7,9 @@ use native.Mathlib.Omega.{arith}
 use borrow.Author.Tests.{lt-ltb, le-ltb}
 use lib.Dec.{eqb}
 use lib.ListN.{length, get_or, drop}
+use Rattle.std.specs.Prelude.{Result, Ok, Err}
 use Rattle.rules.specs.declared.Answer.{Answer}
-use Rattle.rules.specs.declared.Answer.TheVariants.{TooDeep, WrongClaim, MissingNode}
+use Rattle.rules.specs.declared.Answer.TheVariants.{TooDeep, MissingNode}
 use Rattle.rules.specs.Case.{NodeLine, D, E, L, Case}
 use Rattle.rules.proofs.Judgement.Sound.{Sound, GoodNode, sound}
 use Rattle.fields.specs.Directory.{node_size}
@@ -18,12 +19,11 @@ use Rattle.tree.specs.declared.fit.Entry.{Entry}
 use Rattle.tree.specs.declared.fit.Entry.TheVariants.{Task, Empty, Leaf}
 use Rattle.tree.specs.declared.fit.MethodHead.{MethodHead}
 use Rattle.tree.specs.declared.fit.Fit.{Fit}
-use Rattle.tree.specs.declared.fit.Fit.TheVariants.{Refused, Open, Empty as EmptyFit, Leaf as LeafFit}
-use Rattle.tree.specs.declared.rows.Walked.{Walked}
-use Rattle.tree.specs.Fits.{line_at, Follows, as_entry, entry_at, HeadWithin, MethodWithin, head_in, pick_fit, fit_if, fit_of, deep_fit, at_level}
+use Rattle.tree.specs.declared.fit.Fit.TheVariants.{Open, Empty as EmptyFit, Leaf as LeafFit}
+use Rattle.tree.specs.Fits.{line_at, Follows, as_entry, entry_at, HeadWithin, MethodWithin, head_in, pick_fit, fit_if, fit_of, at_level}
 use Rattle.tree.specs.Standing.{Steady, ClaimWithin, Beyond, Judged}
 use Rattle.tree.proofs.Entries.{EntryHere, entry_here, plan_at_lem, plan_inside}
-use Rattle.tree.proofs.Judging.{good_node, head_here, judged_lacking, judged}
+use Rattle.tree.proofs.Judging.{good_node, head_here, levelled, judged_lacking, judged}
 use Rattle.tree.proofs.Within.{plan_line_few}
 
 -- ---- How a line fits
@@ -49,14 +49,13 @@ module _ (fields w : List ℕ) (entry : Entry) (next : Place) (task line : ℕ) 
 
 -- ---- The level
 
-pub level_left : (level : ℕ) (fit : Fit) (deep : Answer) → level < 65 → fit ≡ at_level level fit deep
+pub level_left : (level : ℕ) (fit : Fit) (deep : Answer) → level < 65 → Ok fit ≡ at_level level fit deep
 unfolding at_level
-level_left level fit deep h = ap (λ (b : Bool). pick_fit b fit (deep_fit fit deep)) (sym (lt-ltb level 65 h))
+level_left level fit deep h = ap (λ (b : Bool). pick_fit b (Ok fit) (Err deep)) (sym (lt-ltb level 65 h))
 
-pub level_none : (level : ℕ) (fit f : Fit) (deep : Answer) → 65 ≤ level → fit ≡ f → deep_fit f deep ≡ at_level level fit deep
+pub level_none : (level : ℕ) (fit : Fit) (deep : Answer) → 65 ≤ level → Err deep ≡ at_level level fit deep
 unfolding at_level
-level_none level fit f deep h e =
-    ap (λ (x : Fit). deep_fit x deep) (sym e) ∙ ap (λ (b : Bool). pick_fit b fit (deep_fit fit deep)) (sym (le-ltb level 65 h))
+level_none level fit deep h = ap (λ (b : Bool). pick_fit b (Ok fit) (Err deep)) (sym (le-ltb level 65 h))
 
 -- ---- The judgement
 
@@ -84,13 +83,10 @@ module _ (k : Case) (fields : List ℕ) (g : Given) (w : List ℕ) (st : Steady 
   claim_planned n i c =
       plan_at_lem fields g.plan k.plan i st.plan c.low (let l = case_sound.plan_length in let h = c.high in omega arith)
 
-  pub claim_node : (n i : ℕ) {r : Walked} → r ≡ Walked.Refused (WrongClaim (line_at g.line n) i) → r ≡ Walked.Refused (WrongClaim (line_at k.plan_line n) i)
-  claim_node n i e = e ∙ ap (λ (x : ℕ). Walked.Refused (WrongClaim (line_at x n) i)) st.planned
-
   module _ (p : Place) (f : Follows k fields p) where
-    pub judge_lacking : (t level l : ℕ) → l ≡ line_at g.line p.node → g.nodes ≤ p.node → Judged k fields p t level (Refused (MissingNode l))
+    pub judge_lacking : (t level l : ℕ) → l ≡ line_at g.line p.node → g.nodes ≤ p.node → Judged k fields p t level (Err (MissingNode l))
     judge_lacking t level l e h =
-        subst (λ (x : ℕ). Judged k fields p t level (Refused (MissingNode x))) (sym (line_is p.node l e))
+        subst (λ (x : ℕ). Judged k fields p t level (Err (MissingNode x))) (sym (line_is p.node l e))
         (judged_lacking k fields p t level (let q = st.count in omega arith) case_sound)
 
     module _ (inside : p.node < g.nodes) where
@@ -121,17 +117,17 @@ module _ (k : Case) (fields : List ℕ) (g : Given) (w : List ℕ) (st : Steady 
       pub entry_within : (entry : Entry) → entry ≡ entry_at fields p.at → MethodWithin fields w entry
       entry_within entry ee = subst (MethodWithin fields w) (sym (ee ∙ stands_here.entry)) (method_within stands_here.line entry_good)
 
-      pub judge_fit : (t level l size : ℕ) (entry : Entry) (fit res : Fit) → l ≡ line_at g.line p.node → entry ≡ entry_at fields p.at
+      pub judge_fit : (t level l size : ℕ) (entry : Entry) (fit : Result Fit Answer) → l ≡ line_at g.line p.node → entry ≡ entry_at fields p.at
           → size ≡ node_size (get_or fields p.at 0)
-          → fit ≡ fit_of fields w entry (record { node = p.node + 1; at = p.at + size }) t l → res ≡ at_level level fit (TooDeep l)
-          → Judged k fields p t level res
-      judge_fit t level l size entry fit res e ee es ef er =
+          → fit ≡ fit_of fields w entry (record { node = p.node + 1; at = p.at + size }) t l
+          → Judged k fields p t level (levelled level fit (TooDeep l))
+      judge_fit t level l size entry fit e ee es ef =
           let li = line_is p.node l e in
           let next : Place = record { node = p.node + 1; at = p.at + node_size (get_or fields p.at 0) } in
           let b : Beyond k fields p next =
           record { one = refl; there = below; follows = record { nodes = stands_here.rest; within = let h = below in omega arith } } in
           let en = ee ∙ stands_here.entry in
           subst (Judged k fields p t level)
-          (sym (er ∙ ap (λ (x : Fit). at_level level x (TooDeep l)) ef
-          ∙ λ j. at_level level (fit_of fields w (en j) (record { node = p.node + 1; at = p.at + es j }) t (li j)) (TooDeep (li j))))
+          (sym (ap (λ (x : Result Fit Answer). levelled level x (TooDeep l)) ef
+          ∙ λ j. levelled level (fit_of fields w (en j) (record { node = p.node + 1; at = p.at + es j }) t (li j)) (TooDeep (li j))))
           (judged k fields p t level w case_sound st.methods stands_here.line next stands_here.here entry_good b)

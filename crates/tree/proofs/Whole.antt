@@ -5,6 +5,7 @@ use Prim.Native.Nat.{ℕ, ◌+◌, ◌*◌, ◌≤◌, ◌<◌}
 use native.Mathlib.Omega.{arith}
 use lib.ListN.{take, drop, length-drop, drop_of_length-le}
 use lib.Seq.{sets, take-take, drop-cons, get_or-take}
+use Rattle.std.specs.Prelude.{Result as Returned, Ok, Err}
 use Rattle.rules.specs.declared.Answer.{Answer}
 use Rattle.rules.specs.declared.Answer.TheVariants.{SurplusNode}
 use Rattle.rules.specs.declared.Header.{Header}
@@ -13,20 +14,16 @@ use Rattle.rules.specs.Case.{NodeLine, D, Case, method_at}
 use Rattle.rules.specs.Fields.{lines_fields, method_lines}
 use Rattle.rules.specs.Tree.{Tree, Walk, may_claim, walk_node, none_over, level_count, walk_tree}
 use Rattle.rules.proofs.Judgement.Sound.{Sound, sound}
-use Rattle.index.specs.declared.Span.{Span}
 use Rattle.fields.specs.Standing.{Stands}
 use Rattle.fields.specs.Directory.{methods_from}
 use Rattle.tree.specs.declared.fit.Given.{Given}
-use Rattle.tree.specs.declared.fit.Place.{Place}
 use Rattle.tree.specs.declared.rows.Walked.{Walked}
-use Rattle.tree.specs.declared.rows.Walked.TheVariants.{Next, Refused}
-use Rattle.tree.specs.declared.walk.TreeWalk.{TreeWalk}
-use Rattle.tree.specs.declared.walk.TreeWalk.TheVariants.{Right, Refused as TreeRefused}
 use Rattle.tree.specs.Layout.{marks_from, rows_from, rows_past, size, rows, directory_of, rows_in}
 use Rattle.tree.specs.Fits.{line_at, Follows}
 use Rattle.tree.specs.Standing.{MethodsAt, Steady, node_from, list_from, Told, ToldAll, WalksList}
 use Rattle.tree.specs.Whole.{WalkReady, TreeTold}
-use Rattle.tree.proofs.Siblings.{refused_next, alone_told}
+use Rattle.tree.proofs.Passing.{same_ok, ok_not_err}
+use Rattle.tree.proofs.Siblings.{alone_told}
 use Rattle.tree.proofs.Stores.{drop_take, take_sets_all, length_rows}
 use Rattle.tree.proofs.Within.{plan_line_few}
 
@@ -97,61 +94,61 @@ module _ (k : Case) (fields : List ℕ) (header : Header) (plan_line plan nodes 
       let e : k.plan_line + 1 ≡ k.plan_line + 1 + 0 = omega arith in
       ap (λ (l : ℕ). none_left (walk_node 64 k (may_claim k.plan) k.head.goal l k.nodes [])) e
 
-  takes_all : (x : Walk Tree) (next : Place) (s : Span) (v : List ℕ) → Told k fields 0 w x (Next next s) v → k.head.nodes ≤ next.node
-      → TreeTold k w (none_left x) Right v
-  takes_all (found (t, line, left, claimed)) next s v f h =
-      let same : next ≡ f.next = cc f.answer in
-      let there : next.node ≡ f.next.node = ap (λ (p : Place). p.node) same in
+  takes_all : (x : Walk Tree) (o : Walked) (v : List ℕ) → Told k fields 0 w x (Ok o) v → k.head.nodes ≤ o.next.node
+      → TreeTold k w (none_left x) (Ok tt) v
+  takes_all (found (t, line, left, claimed)) o v f h =
+      let there : o.next.node ≡ f.next.node = ap (λ (x : Walked). x.next.node) (same_ok f.answer) in
       let few = root_sound.head_good.few_nodes in
       let all = root_sound.nodes_length in
       let in? = f.follows.within in
       let none : left ≡ [] = f.lefts ∙ drop_of_length-le k.nodes {i = f.next.node} (omega arith) in
-      subst (λ (l : List NodeLine). TreeTold k w (none_left (found (t, line, l, claimed))) Right v) (sym none)
+      subst (λ (l : List NodeLine). TreeTold k w (none_left (found (t, line, l, claimed))) (Ok tt) v) (sym none)
       (record {
         right = refl;
         rowed = rows_kept t v (let a = f.after in omega arith) f.rowed;
         marked = f.marked;
         directory = f.directory;
       })
-  takes_all (refused a) next s v f h = absurd (refused_next f)
+  takes_all (refused a) o v f h = absurd (ok_not_err f)
 
-  leaves_some : (x : Walk Tree) (next : Place) (s : Span) (v : List ℕ) (l : ℕ) → Told k fields 0 w x (Next next s) v → next.node < k.head.nodes
-      → l ≡ line_at k.plan_line next.node → TreeTold k w (none_left x) (TreeRefused (SurplusNode l)) v
-  leaves_some (found (t, line, left, claimed)) next s v l f h e =
-      let same : next ≡ f.next = cc f.answer in
-      let there : next.node ≡ f.next.node = ap (λ (p : Place). p.node) same in
+  leaves_some : (x : Walk Tree) (o : Walked) (v : List ℕ) (l : ℕ) → Told k fields 0 w x (Ok o) v → o.next.node < k.head.nodes
+      → l ≡ line_at k.plan_line o.next.node → TreeTold k w (none_left x) (Err (SurplusNode l)) v
+  leaves_some (found (t, line, left, claimed)) o v l f h e =
+      let there : o.next.node ≡ f.next.node = ap (λ (x : Walked). x.next.node) (same_ok f.answer) in
       let all = root_sound.nodes_length in
       let some = f.lefts ∙ drop-cons k.nodes f.next.node (D 0) (omega arith) in
-      subst (λ (y : List NodeLine). TreeTold k w (none_left (found (t, line, y, claimed))) (TreeRefused (SurplusNode l)) v) (sym some)
-      (ap (λ (y : ℕ). TreeRefused (SurplusNode y)) (e ∙ ap (line_at k.plan_line) there ∙ sym f.lines))
-  leaves_some (refused a) next s v l f h e = absurd (refused_next f)
+      subst (λ (y : List NodeLine). TreeTold k w (none_left (found (t, line, y, claimed))) (Err (SurplusNode l)) v) (sym some)
+      (ap (λ (y : ℕ). Err (SurplusNode y)) (e ∙ ap (line_at k.plan_line) there ∙ sym f.lines))
+  leaves_some (refused a) o v l f h e = absurd (ok_not_err f)
 
-  is_refused : (x : Walk Tree) (a : Answer) (v : List ℕ) → Told k fields 0 w x (Refused a) v → TreeTold k w (none_left x) (TreeRefused a) v
-  is_refused (found (t, line, left, claimed)) a v f = absurd (refused_next (sym f.answer))
-  is_refused (refused b) a v f = ap TreeRefused (let q : a ≡ b = cc f in q)
+  is_refused : (x : Walk Tree) (a : Answer) (v : List ℕ) → Told k fields 0 w x (Err a) v → TreeTold k w (none_left x) (Err a) v
+  is_refused (found (t, line, left, claimed)) a v f = absurd (ok_not_err (sym f.answer))
+  is_refused (refused b) a v f = ap Err (let q : a ≡ b = cc f in q)
 
-  module _ (r : Walked) (v : List ℕ) (tells : Steady k fields given w → Follows k fields (record { node = 0; at = nodes }) → WalksList k fields 64 (header.goal ∷ []) 0 w r v) where
-    root_told : (r' : Walked) → r ≡ r' → Told k fields 0 w root r' v
-    root_told r' e =
-        alone_told k fields 0 w r' v root
-        (subst (λ (y : Walked). ToldAll k fields 0 w (list_from k 64 (k.head.goal ∷ []) 0 []) y v) e
-        (subst (λ (h : Header). ToldAll k fields 0 w (list_from k 64 (h.goal ∷ []) 0 []) r v) rd.head (tells root_steady root_follows [] rd.unmarked)))
+  module _ (v : List ℕ) where
+    abbrev Tells : Returned Walked Answer → Type 0
+    Tells r = Steady k fields given w → Follows k fields (record { node = 0; at = nodes }) → WalksList k fields 64 (header.goal ∷ []) 0 w r v
 
-    abbrev Whole : TreeWalk → Type 0
+    root_told : (r : Returned Walked Answer) → Tells r → Told k fields 0 w root r v
+    root_told r tells =
+        alone_told k fields 0 w r v root
+        (subst (λ (h : Header). ToldAll k fields 0 w (list_from k 64 (h.goal ∷ []) 0 []) r v) rd.head (tells root_steady root_follows [] rd.unmarked))
+
+    abbrev Whole : Returned (Unit {0}) Answer → Type 0
     Whole a = TreeTold k w (walk_tree k (may_claim k.plan)) a v
 
-    pub right : (next : Place) (s : Span) → r ≡ Next next s → header.nodes ≤ next.node → Whole Right
-    right next s e h =
-        subst (λ (x : Result (Tree × List ℕ)). TreeTold k w x Right v) (sym whole_is)
-        (takes_all root next s v (root_told (Next next s) e) (let q = ap (λ (y : Header). y.nodes) rd.head in omega arith))
+  pub right : (o : Walked) (v : List ℕ) → Tells v (Ok o) → header.nodes ≤ o.next.node → Whole v (Ok tt)
+  right o v tells h =
+      subst (λ (x : Result (Tree × List ℕ)). TreeTold k w x (Ok tt) v) (sym whole_is)
+      (takes_all root o v (root_told v (Ok o) tells) (let q = ap (λ (y : Header). y.nodes) rd.head in omega arith))
 
-    pub over : (next : Place) (s : Span) (l : ℕ) → r ≡ Next next s → next.node < header.nodes → l ≡ line_at plan_line next.node
-        → Whole (TreeRefused (SurplusNode l))
-    over next s l e h z =
-        subst (λ (x : Result (Tree × List ℕ)). TreeTold k w x (TreeRefused (SurplusNode l)) v) (sym whole_is)
-        (leaves_some root next s v l (root_told (Next next s) e) (let q = ap (λ (y : Header). y.nodes) rd.head in omega arith)
-        (z ∙ ap (λ (y : ℕ). line_at y next.node) rd.planned))
+  pub over : (o : Walked) (v : List ℕ) → Tells v (Ok o) → (l : ℕ) → o.next.node < header.nodes → l ≡ line_at plan_line o.next.node
+      → Whole v (Err (SurplusNode l))
+  over o v tells l h z =
+      subst (λ (x : Result (Tree × List ℕ)). TreeTold k w x (Err (SurplusNode l)) v) (sym whole_is)
+      (leaves_some root o v l (root_told v (Ok o) tells) (let q = ap (λ (y : Header). y.nodes) rd.head in omega arith)
+      (z ∙ ap (λ (y : ℕ). line_at y o.next.node) rd.planned))
 
-    pub refuses : (a : Answer) → r ≡ Refused a → Whole (TreeRefused a)
-    refuses a e =
-        subst (λ (x : Result (Tree × List ℕ)). TreeTold k w x (TreeRefused a) v) (sym whole_is) (is_refused root a v (root_told (Refused a) e))
+  pub refuses : (a : Answer) (v : List ℕ) → Tells v (Err a) → Whole v (Err a)
+  refuses a v tells =
+      subst (λ (x : Result (Tree × List ℕ)). TreeTold k w x (Err a) v) (sym whole_is) (is_refused root a v (root_told v (Err a) tells))

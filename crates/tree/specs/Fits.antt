@@ -1,5 +1,5 @@
 -- A node's line, a method's line, and how the one fits the task expected there, as the code takes them from the fields. Assumes nothing.
-use Rattle.std.specs.Prelude.{Bool, true, false, not, List, ℕ, ◌+◌, ◌≤◌, ◌<◌, eqb, ltb, length, get_or, take, drop}
+use Rattle.std.specs.Prelude.{Bool, true, false, not, List, ℕ, ◌+◌, ◌≤◌, ◌<◌, eqb, ltb, length, get_or, take, drop, Result, Ok, Err}
 use Rattle.rules.specs.declared.Answer.{Answer}
 use Rattle.rules.specs.declared.Answer.TheVariants.{WrongTask, WrongLetter}
 use Rattle.rules.specs.Case.{NodeLine, D, E, L, node_of, Case}
@@ -10,7 +10,7 @@ use Rattle.tree.specs.declared.fit.Entry.{Entry}
 use Rattle.tree.specs.declared.fit.Entry.TheVariants.{Task, Empty, Leaf}
 use Rattle.tree.specs.declared.fit.MethodHead.{MethodHead}
 use Rattle.tree.specs.declared.fit.Fit.{Fit}
-use Rattle.tree.specs.declared.fit.Fit.TheVariants.{Refused, Open, Empty as EmptyFit, Leaf as LeafFit}
+use Rattle.tree.specs.declared.fit.Fit.TheVariants.{Open, Empty as EmptyFit, Leaf as LeafFit}
 use Rattle.tree.specs.Layout.{NodesFrom}
 
 -- The line of a node, where the P line has the number `plan`.
@@ -49,16 +49,16 @@ MethodWithin fields directory (Task m) = HeadWithin fields directory m
 MethodWithin fields directory (Empty m g) = HeadWithin fields directory m
 MethodWithin fields directory (Leaf a i) = Unit {0}
 
-abbrev pub pick_fit : Bool → Fit → Fit → Fit
+abbrev pub pick_fit : Bool → Result Fit Answer → Result Fit Answer → Result Fit Answer
 pick_fit true f g = f
 pick_fit false f g = g
 
 -- A fit, if the node is of the task and its letter is right: 6, then 20.
-abbrev pub fit_if : Bool → Bool → Fit → ℕ → Fit
-fit_if own letter fit line = pick_fit own (pick_fit letter fit (Refused (WrongLetter line))) (Refused (WrongTask line))
+abbrev pub fit_if : Bool → Bool → Fit → ℕ → Result Fit Answer
+fit_if own letter fit line = pick_fit own (pick_fit letter (Ok fit) (Err (WrongLetter line))) (Err (WrongTask line))
 
 -- "an action leaf for an action; for a compound task one of its own methods", not empty for D and empty for E
-unfoldable pub fit_of : List ℕ → List ℕ → Entry → Place → ℕ → ℕ → Fit
+unfoldable pub fit_of : List ℕ → List ℕ → Entry → Place → ℕ → ℕ → Result Fit Answer
 fit_of fields directory (Task m) next task line =
     fit_if (eqb (head_in fields directory m).task task) (not (eqb (head_in fields directory m).subtasks.count 0))
     (Open (head_in fields directory m).subtasks next) line
@@ -67,14 +67,8 @@ fit_of fields directory (Empty m g) next task line =
 fit_of fields directory (Leaf a i) next task line = fit_if (eqb a task) true (LeafFit a i next) line
 
 -- At level 65 nothing fits.
-abbrev pub deep_fit : Fit → Answer → Fit
-deep_fit (Refused a) deep = Refused a
-deep_fit (Open s next) deep = Refused deep
-deep_fit (EmptyFit g next) deep = Refused deep
-deep_fit (LeafFit a i next) deep = Refused deep
-
-unfoldable pub at_level : ℕ → Fit → Answer → Fit
-at_level level fit deep = pick_fit (ltb level 65) fit (deep_fit fit deep)
+unfoldable pub at_level : ℕ → Fit → Answer → Result Fit Answer
+at_level level fit deep = pick_fit (ltb level 65) (Ok fit) (Err deep)
 
 -- The subtasks: the numbers that stand there.
 abbrev pub subtasks_in : List ℕ → Subtasks → List ℕ

@@ -1,7 +1,8 @@
 -- What a walk stands on, and what it has done where it ends: the node after what it walked, the rows of that, and its claims marked.
 -- Assumes nothing.
-use Rattle.std.specs.Prelude.{◌≡◌, true, false, List, [], ◌∷◌, ℕ, zero, suc, ◌+◌, ◌-◌, ◌*◌, ◌≤◌, ◌<◌, length, get_or, drop}
+use Rattle.std.specs.Prelude.{◌≡◌, true, false, List, [], ◌∷◌, ℕ, zero, suc, ◌+◌, ◌-◌, ◌*◌, ◌≤◌, ◌<◌, length, get_or, drop, Result, Ok, Err}
 use Rattle.std.proofs.lemmas.List.Edits.{sets}
+use Rattle.rules.specs.declared.Answer.{Answer}
 use Rattle.rules.specs.declared.Answer.TheVariants.{WrongClaim}
 use Rattle.rules.specs.Index as Ix
 use Rattle.rules.specs.Index.{at, hull}
@@ -9,16 +10,14 @@ use Rattle.rules.specs.Result.{found, refused, ◌>>=◌}
 use Rattle.rules.specs.Case.{NodeLine, Case, method_at}
 use Rattle.rules.specs.Fields.{line_fields, lines_fields, method_lines, cues_line}
 use Rattle.rules.specs.Tree.{Tree, leaf, empty, task, Trees, no_tree, more, span, spans, Walk, walk_subtasks, may_claim, walk_node}
-use Rattle.index.specs.declared.Span.{Span}
-use Rattle.index.specs.Spans.{span_of, as_span}
+use Rattle.index.specs.Spans.{as_span}
 use Rattle.fields.specs.Standing.{Stands}
 use Rattle.fields.specs.Directory.{methods_from, IsRead}
 use Rattle.tree.specs.declared.fit.Given.{Given}
 use Rattle.tree.specs.declared.fit.Place.{Place}
 use Rattle.tree.specs.declared.fit.Fit.{Fit}
-use Rattle.tree.specs.declared.fit.Fit.TheVariants.{Refused as RefusedFit, Open, Empty as EmptyFit, Leaf as LeafFit}
+use Rattle.tree.specs.declared.fit.Fit.TheVariants.{Open, Empty as EmptyFit, Leaf as LeafFit}
 use Rattle.tree.specs.declared.rows.Walked.{Walked}
-use Rattle.tree.specs.declared.rows.Walked.TheVariants.{Next, Refused}
 use Rattle.tree.specs.Layout.{rows_from, size, sizes, row, rows, rows_all, marks_of, directory_of, marks_in}
 use Rattle.tree.specs.Fits.{line_at, Follows, SubtasksWithin, subtasks_in}
 
@@ -76,17 +75,17 @@ pub record Beyond (k : Case) (fields : List ℕ) (p next : Place) : Type 0 where
   pub follows : Follows k fields next
 
 -- What the fit of the node at p, where task t is expected at a level, makes of its walk.
-abbrev pub Judged : Case → List ℕ → Place → ℕ → ℕ → Fit → Type 0
-Judged k fields p t level (RefusedFit a) = (claimed : List ℕ) → node_from k (65 - level) t p.node claimed ≡ refused a
-Judged k fields p t level (Open s next) =
+abbrev pub Judged : Case → List ℕ → Place → ℕ → ℕ → Result Fit Answer → Type 0
+Judged k fields p t level (Err a) = (claimed : List ℕ) → node_from k (65 - level) t p.node claimed ≡ refused a
+Judged k fields p t level (Ok (Open s next)) =
     (m : ℕ) × ((claimed : List ℕ) → node_from k (65 - level) t p.node claimed
     ≡ as_task m (list_from k (64 - level) (subtasks_in fields s) (p.node + 1) claimed))
     × (level < 65) × SubtasksWithin fields s × Beyond k fields p next
-Judged k fields p t level (EmptyFit g next) =
+Judged k fields p t level (Ok (EmptyFit g next)) =
     (m : ℕ) × ((claimed : List ℕ) → node_from k (65 - level) t p.node claimed
     ≡ found (empty m g, line_at k.plan_line (p.node + 1), drop (p.node + 1) k.nodes, claimed))
     × (g ≤ 1000) × Beyond k fields p next
-Judged k fields p t level (LeafFit a i next) =
+Judged k fields p t level (Ok (LeafFit a i next)) =
     ((claimed : List ℕ) → node_from k (65 - level) t p.node claimed ≡ claim_from k p.node a i claimed) × ClaimWithin k p.node i
     × Beyond k fields p next
 
@@ -96,11 +95,7 @@ unfoldable pub put_row : ℕ → Ix.Span → ℕ → List ℕ → List ℕ
 put_row n s after w = sets w (rows_from + 3 * n) (row s after)
 
 abbrev pub settled : ℕ → Place → Walked
-settled index next = Next next (as_span (at index))
-
-abbrev pub noted : ℕ → Walked → List ℕ → List ℕ
-noted n (Next next s) w = put_row n (span_of s) next.node w
-noted n (Refused a) w = w
+settled index next = record { next = next; span = as_span (at index) }
 
 -- The span of the first subtasks, so many of them, and then of the next one.
 abbrev pub joined : ℕ → Ix.Span → Ix.Span → Ix.Span
@@ -110,9 +105,9 @@ joined (suc count) s last = hull (s ∷ last ∷ [])
 -- ---- What a walk has done
 
 -- From node n and the work space w a walk went on, over so many nodes: its answer r, and the work space v.
-pub record Passed (k : Case) (fields : List ℕ) (n count : ℕ) (whole : Ix.Span) (stored : List ℕ) (line : ℕ) (left : List NodeLine) (claimed : List ℕ) (w : List ℕ) (r : Walked) (v : List ℕ) : Type 0 where
+pub record Passed (k : Case) (fields : List ℕ) (n count : ℕ) (whole : Ix.Span) (stored : List ℕ) (line : ℕ) (left : List NodeLine) (claimed : List ℕ) (w : List ℕ) (r : Result Walked Answer) (v : List ℕ) : Type 0 where
   pub next : Place
-  pub answer : r ≡ Next next (as_span whole)
+  pub answer : r ≡ Ok (record { next = next; span = as_span whole })
   pub after : next.node ≡ n + count
   pub follows : Follows k fields next
   pub lines : line ≡ line_at k.plan_line next.node
@@ -121,36 +116,36 @@ pub record Passed (k : Case) (fields : List ℕ) (n count : ℕ) (whole : Ix.Spa
   pub marked : marks_in k.head.cues v ≡ marks_of k.head.cues claimed
   pub directory : directory_of v ≡ directory_of w
 
-abbrev pub Told : Case → List ℕ → ℕ → List ℕ → Walk Tree → Walked → List ℕ → Type 0
+abbrev pub Told : Case → List ℕ → ℕ → List ℕ → Walk Tree → Result Walked Answer → List ℕ → Type 0
 Told k fields n w (found (t, line, left, claimed)) r v = Passed k fields n (size t) (span t) (rows t n) line left claimed w r v
-Told k fields n w (refused a) r v = r ≡ Refused a
+Told k fields n w (refused a) r v = r ≡ Err a
 
 -- One tree at least.
 abbrev pub Some : Trees → Type 0
 Some no_tree = ⊥
 Some (more t ts) = Unit {0}
 
-abbrev pub ToldAll : Case → List ℕ → ℕ → List ℕ → Walk Trees → Walked → List ℕ → Type 0
+abbrev pub ToldAll : Case → List ℕ → ℕ → List ℕ → Walk Trees → Result Walked Answer → List ℕ → Type 0
 ToldAll k fields n w (found (ts, line, left, claimed)) r v =
     Some ts × Passed k fields n (sizes ts) (hull (spans ts)) (rows_all ts n) line left claimed w r v
-ToldAll k fields n w (refused a) r v = r ≡ Refused a
+ToldAll k fields n w (refused a) r v = r ≡ Err a
 
 -- A claim at node n: the leaf is walked, or refused.
-abbrev pub ClaimTold : Case → ℕ → ℕ → ℕ → Place → List ℕ → Walk Tree → Walked → List ℕ → Type 0
+abbrev pub ClaimTold : Case → ℕ → ℕ → ℕ → Place → List ℕ → Walk Tree → Result Walked Answer → List ℕ → Type 0
 ClaimTold k n a i next w (found (t, line, left, claimed)) r v =
-    (r ≡ settled (Ix.of_cue i) next) × (drop rows_from v ≡ sets (drop rows_from w) (3 * n) (row (at (Ix.of_cue i)) next.node))
+    (r ≡ Ok (settled (Ix.of_cue i) next)) × (drop rows_from v ≡ sets (drop rows_from w) (3 * n) (row (at (Ix.of_cue i)) next.node))
     × (marks_in k.head.cues v ≡ marks_of k.head.cues claimed) × (directory_of v ≡ directory_of w)
-ClaimTold k n a i next w (refused x) r v = r ≡ Refused x
+ClaimTold k n a i next w (refused x) r v = r ≡ Err x
 
 -- Whatever is claimed, as the marks have it.
-abbrev pub Claims : Case → ℕ → ℕ → ℕ → Place → List ℕ → Walked → List ℕ → Type 0
+abbrev pub Claims : Case → ℕ → ℕ → ℕ → Place → List ℕ → Result Walked Answer → List ℕ → Type 0
 Claims k n a i next w r v =
     (claimed : List ℕ) → marks_in k.head.cues w ≡ marks_of k.head.cues claimed → ClaimTold k n a i next w (claim_from k n a i claimed) r v
 
-abbrev pub WalksNode : Case → List ℕ → ℕ → ℕ → ℕ → List ℕ → Walked → List ℕ → Type 0
+abbrev pub WalksNode : Case → List ℕ → ℕ → ℕ → ℕ → List ℕ → Result Walked Answer → List ℕ → Type 0
 WalksNode k fields levels t n w r v =
     (claimed : List ℕ) → marks_in k.head.cues w ≡ marks_of k.head.cues claimed → Told k fields n w (node_from k levels t n claimed) r v
 
-abbrev pub WalksList : Case → List ℕ → ℕ → List ℕ → ℕ → List ℕ → Walked → List ℕ → Type 0
+abbrev pub WalksList : Case → List ℕ → ℕ → List ℕ → ℕ → List ℕ → Result Walked Answer → List ℕ → Type 0
 WalksList k fields levels ts n w r v =
     (claimed : List ℕ) → marks_in k.head.cues w ≡ marks_of k.head.cues claimed → ToldAll k fields n w (list_from k levels ts n claimed) r v

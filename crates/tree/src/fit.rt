@@ -46,12 +46,9 @@ pub struct MethodHead {
     pub subtasks: Subtasks,
 }
 
-// How a node fits the task expected there, with the place of the node after its line; or the answer that refuses it.
+// How a node fits the task expected there, with the place of the node after its line.
 #[derive(Clone, Copy)]
 pub enum Fit {
-    Refused {
-        answer: Answer,
-    },
     Open {
         subtasks: Subtasks,
         next: Place,
@@ -67,10 +64,10 @@ pub enum Fit {
     },
 }
 
-// The letters of a node line, D and E, as fields; any other is L.
-const TASK: u32 = 68;
+// The letters of a node line, D and E, as the lent fields have them, which are numbers; any other is L.
+const TASK: u32 = b'D' as u32;
 
-const EMPTY: u32 = 69;
+const EMPTY: u32 = b'E' as u32;
 
 // The node line that stands here, by its letter. A D line has two fields, and may be the last.
 fn entry_at(fields: &[u32], at: usize) -> Entry
@@ -114,24 +111,27 @@ fn method_head(fields: &[u32], work: &[u32], m: u32) -> MethodHead
 
 // A fit, if the node is of the task expected and its letter is right: "6 tried ahead", then "20, a D line with an empty method or an E line with
 // one that isn't" (02, Card 7).
-fn fit_if(own: bool, letter: bool, fit: Fit, line: u32) -> Fit
+fn fit_if(own: bool, letter: bool, fit: Fit, line: u32) -> Result<Fit, Answer>
     ensures { result ≡ fit_if own letter fit line }
 {
     if !own {
-        return Fit::Refused {
-            answer: Answer::WrongTask { line },
-        };
+        return Err(Answer::WrongTask { line });
     }
     if !letter {
-        return Fit::Refused {
-            answer: Answer::WrongLetter { line },
-        };
+        return Err(Answer::WrongLetter { line });
     }
-    fit
+    Ok(fit)
 }
 
 // How a node fits the task.
-fn fit_of(fields: &[u32], work: &[u32], entry: Entry, next: Place, task: u32, line: u32) -> Fit
+fn fit_of(
+    fields: &[u32],
+    work: &[u32],
+    entry: Entry,
+    next: Place,
+    task: u32,
+    line: u32,
+) -> Result<Fit, Answer>
     requires { MethodWithin fields.now work.now entry }
     ensures { result ≡ fit_of fields.now work.now entry next task line }
 {
@@ -160,25 +160,10 @@ fn fit_of(fields: &[u32], work: &[u32], entry: Entry, next: Place, task: u32, li
 }
 
 // "same node: level 65", for a node that fits.
-fn at_level(level: u32, fit: Fit, deep: Answer) -> Fit
+fn at_level(level: u32, fit: Fit, deep: Answer) -> Result<Fit, Answer>
     ensures { result ≡ at_level level fit deep }
 {
-    if level < 65 {
-        return fit;
-    }
-    match fit {
-        Fit::Refused { answer } => Fit::Refused { answer },
-        Fit::Open {
-            subtasks: _,
-            next: _,
-        } => Fit::Refused { answer: deep },
-        Fit::Empty { gap: _, next: _ } => Fit::Refused { answer: deep },
-        Fit::Leaf {
-            action: _,
-            position: _,
-            next: _,
-        } => Fit::Refused { answer: deep },
-    }
+    if level < 65 { Ok(fit) } else { Err(deep) }
 }
 
 // A node's line in the text: the node lines follow the P line.
@@ -190,15 +175,20 @@ pub fn line_at(g: Given, node: u32) -> u32
 }
 
 // The node here, where `task` is expected at `level`: 22 if there is none; 6, 20, 7.
-pub fn judge(fields: &[u32], g: Given, work: &[u32], p: Place, task: u32, level: u32) -> Fit
+pub fn judge(
+    fields: &[u32],
+    g: Given,
+    work: &[u32],
+    p: Place,
+    task: u32,
+    level: u32,
+) -> Result<Fit, Answer>
     requires { (k : Case) × Steady k fields.now g work.now × Follows k fields.now p }
     ensures { (k : Case) → Steady k fields.now g work.now → Follows k fields.now p → Judged k fields.now p task level result }
 {
     let line = line_at(g, p.node);
     if g.nodes <= p.node {
-        return Fit::Refused {
-            answer: Answer::MissingNode { line },
-        };
+        return Err(Answer::MissingNode { line });
     }
     let at = p.at;
     let entry = entry_at(fields, at);
@@ -206,6 +196,6 @@ pub fn judge(fields: &[u32], g: Given, work: &[u32], p: Place, task: u32, level:
         node: p.node + 1,
         at: at + node_size(fields[at]),
     };
-    let fit = fit_of(fields, work, entry, next, task, line);
+    let fit = fit_of(fields, work, entry, next, task, line)?;
     at_level(level, fit, Answer::TooDeep { line })
 }

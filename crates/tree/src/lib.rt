@@ -8,5 +8,5 @@ mod rows;
 mod walk;
 
 pub use layout::{MARKS, ROWS, SUBTASKS};
-pub use marks::{Unclaimed, least_unclaimed};
-pub use walk::{TreeWalk, walk_tree};
+pub use marks::least_unclaimed;
+pub use walk::walk_tree;

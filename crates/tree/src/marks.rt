@@ -5,24 +5,16 @@ ghost use Rattle.tree.specs.Marks.{as_unclaimed, least_unmarked};
 
 use crate::layout::MARKS;
 
-// "after the walk: least position unclaimed"
-#[derive(Clone, Copy)]
-pub enum Unclaimed {
-    None,
-    At { position: u32 },
-}
-
-pub fn least_unclaimed(work: &[u32], cues: u32) -> Unclaimed
+// "after the walk: least position unclaimed", if there is one.
+pub fn least_unclaimed(work: &[u32], cues: u32) -> Option<u32>
     requires { (cues ≤ 1000) × (16384 ≤ length work.now) }
     ensures { result ≡ as_unclaimed (least_unmarked 1 (marks_in cues work.now)) }
 {
-    let mut i: u32 = 0;
-    while i < cues {
+    for i in 0..cues {
         let mark = MARKS + i as usize;
         if work[mark] == 0 {
-            return Unclaimed::At { position: i + 1 };
+            return Some(i + 1);
         }
-        i += 1;
     }
-    Unclaimed::None
+    None
 }

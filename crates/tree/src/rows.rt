@@ -1,11 +1,9 @@
 // What a walk leaves in the work space: a row for each node, and a mark for each position claimed.
-ghost use Rattle.std.specs.Prelude.{◌≡◌, ◌+◌, ◌*◌, ◌≤◌, ◌<◌, length};
+ghost use Rattle.std.specs.Prelude.{◌≡◌, ◌≤◌, ◌<◌, length};
 ghost use Rattle.index.specs.Spans.{index_in, span_of};
 ghost use Rattle.rules.specs.Index.{of_gap, at};
 ghost use Rattle.rules.specs.Case.{Case};
-ghost use Rattle.rules.specs.declared.Answer.TheVariants.{WrongClaim};
-ghost use Rattle.tree.specs.Fits.{line_at};
-ghost use Rattle.tree.specs.Standing.{put_row, settled, noted, joined, Steady, ClaimWithin, Claims};
+ghost use Rattle.tree.specs.Standing.{put_row, settled, joined, Steady, ClaimWithin, Claims};
 
 use crate::fit;
 use crate::fit::{Given, Place};
@@ -13,15 +11,16 @@ use crate::layout::{MARKS, ROWS};
 use index::{Doubled, Span};
 use rules::Answer;
 
-// How a walk ended: the node after what it walked, and the span of that; or the answer that refuses the tree.
+// What a walk came to: the node after what it walked, and the span of that.
 #[derive(Clone, Copy)]
-pub enum Walked {
-    Next { next: Place, span: Span },
-    Refused { answer: Answer },
+pub struct Walked {
+    pub next: Place,
+    pub span: Span,
 }
 
-// A node's row: "doubled start and doubled end", and the node after its subtree, where its next sibling is.
-fn put_row(work: &mut [u32], node: u32, span: Span, after: u32)
+// A node's row: "doubled start and doubled end", and the node after its subtree, where its next sibling is. Three numbers of the lent work
+// space, since there is no heap: the definition `rows` lays them out.
+pub fn put_row(work: &mut [u32], node: u32, span: Span, after: u32)
     requires { (node < 3000) × (16384 ≤ length work.old) }
     ensures { work.new ≡ put_row node (span_of span) after work.old }
 {
@@ -39,7 +38,7 @@ pub fn settle(work: &mut [u32], node: u32, index: Doubled, next: Place) -> Walke
 {
     let span = Span::at(index);
     put_row(work, node, span, next.node);
-    Walked::Next { next, span }
+    Walked { next, span }
 }
 
 // An empty method's task sits in its gap.
@@ -51,20 +50,7 @@ pub fn rest(work: &mut [u32], node: u32, gap: u32, next: Place) -> Walked
     settle(work, node, Doubled::of_gap(gap), next)
 }
 
-// "same node: leaf's position has another action or was claimed earlier"
-fn taken(g: Given, node: u32, position: u32) -> Walked
-    requires { g.line + node < 4294967295 }
-    ensures { result ≡ Walked.Refused (WrongClaim (line_at g.line node) position) }
-{
-    Walked::Refused {
-        answer: Answer::WrongClaim {
-            line: fit::line_at(g, node),
-            position,
-        },
-    }
-}
-
-// A leaf claims its position, where the plan has its action there and no leaf before it has claimed it.
+// A leaf claims its position: refused if "leaf's position has another action or was claimed earlier".
 pub fn claim(
     fields: &[u32],
     g: Given,
@@ -73,38 +59,25 @@ pub fn claim(
     action: u32,
     position: u32,
     next: Place,
-) -> Walked
+) -> Result<Walked, Answer>
     requires { (k : Case) × Steady k fields.now g work.old × ClaimWithin k node position }
     ensures { (k : Case) → Steady k fields.now g work.old → ClaimWithin k node position → Claims k node action position next work.old result work.new }
 {
     let i = position as usize;
     let planned = g.plan + i;
     let mark = MARKS + (i - 1);
-    if fields[planned] == action {
-        if work[mark] == 0 {
-            work[mark] = 1;
-            settle(work, node, Doubled::of_cue(position), next)
-        } else {
-            taken(g, node, position)
-        }
-    } else {
-        taken(g, node, position)
+    if fields[planned] != action || work[mark] != 0 {
+        return Err(Answer::WrongClaim {
+            line: fit::line_at(g, node),
+            position,
+        });
     }
-}
-
-// The row of a task whose subtasks are walked.
-pub fn note(work: &mut [u32], node: u32, walked: Walked)
-    requires { (node < 3000) × (16384 ≤ length work.old) }
-    ensures { work.new ≡ noted node walked work.old }
-{
-    match walked {
-        Walked::Next { next, span } => put_row(work, node, span, next.node),
-        Walked::Refused { answer: _ } => {}
-    }
+    work[mark] = 1;
+    Ok(settle(work, node, Doubled::of_cue(position), next))
 }
 
 // The span of the first subtasks, so many of them, joined to that of the next: "the least start and [..] the greatest end of its subtasks,
-// empty ones counted". Of none there is no span yet.
+// empty ones counted". Of none there is no span yet; a count says so, and no `Option` of a span, since a walk ends with one.
 pub fn join(count: usize, span: Span, last: Span) -> Span
     ensures { span_of result ≡ joined count (span_of span) (span_of last) }
 {

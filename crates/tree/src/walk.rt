@@ -15,22 +15,28 @@ use rules::{Answer, Header};
 
 // The node here, where `task` is expected at `level`.
 #[cycle(walk_node_walk_subtasks)]
-fn walk_node(fields: &[u32], g: Given, work: &mut [u32], p: Place, task: u32, level: u32) -> Walked
+fn walk_node(
+    fields: &[u32],
+    g: Given,
+    work: &mut [u32],
+    p: Place,
+    task: u32,
+    level: u32,
+) -> Result<Walked, Answer>
     requires steady { (k : Case) × Steady k fields.now g work.old × Follows k fields.now p }
     requires level_bound { level ≤ 65 }
     ensures { (k : Case) → Steady k fields.now g work.old → Follows k fields.now p → WalksNode k fields.now (65 - level) task p.node work.old result work.new }
 {
-    let fit = fit::judge(fields, g, work, p, task, level);
+    let fit = fit::judge(fields, g, work, p, task, level)?;
     match fit {
-        Fit::Refused { answer } => Walked::Refused { answer },
         Fit::Open { subtasks, next } => {
             let from = subtasks.at;
             let past = from + subtasks.count as usize;
-            let walked = walk_subtasks(fields, g, work, next, &fields[from..past], level);
-            rows::note(work, p.node, walked);
-            walked
+            let walked = walk_subtasks(fields, g, work, next, &fields[from..past], level)?;
+            rows::put_row(work, p.node, walked.span, walked.next.node);
+            Ok(walked)
         }
-        Fit::Empty { gap, next } => rows::rest(work, p.node, gap, next),
+        Fit::Empty { gap, next } => Ok(rows::rest(work, p.node, gap, next)),
         Fit::Leaf {
             action,
             position,
@@ -49,7 +55,7 @@ fn walk_subtasks(
     p: Place,
     tasks: &[u32],
     level: u32,
-) -> Walked
+) -> Result<Walked, Answer>
     requires steady { (k : Case) × Steady k fields.now g work.old × Follows k fields.now p }
     requires level_bound { (level ≤ 64) × (0 < length tasks.now) }
     ensures { (k : Case) → Steady k fields.now g work.old → Follows k fields.now p → WalksList k fields.now (64 - level) tasks.now p.node work.old result work.new }
@@ -57,29 +63,12 @@ fn walk_subtasks(
     let mut next = p;
     // The span of no subtask yet: any, since it is joined to none.
     let mut span = Span::at(Doubled::of_cue(0));
-    let mut i = 0;
-    while i < tasks.len() {
-        let walked = walk_node(fields, g, work, next, tasks[i], level + 1);
-        match walked {
-            Walked::Next {
-                next: after,
-                span: last,
-            } => {
-                next = after;
-                span = rows::join(i, span, last);
-                i += 1;
-            }
-            Walked::Refused { answer } => return Walked::Refused { answer },
-        }
+    for (i, task) in tasks.iter().enumerate() {
+        let walked = walk_node(fields, g, work, next, *task, level + 1)?;
+        next = walked.next;
+        span = rows::join(i, span, walked.span);
     }
-    Walked::Next { next, span }
-}
-
-// How the walk of the whole tree ended.
-#[derive(Clone, Copy)]
-pub enum TreeWalk {
-    Right,
-    Refused { answer: Answer },
+    Ok(Walked { next, span })
 }
 
 // "The tree is right if the root decomposes the goal, each node fits the task expected there [..], and no line is over or lacking."
@@ -91,7 +80,7 @@ pub fn walk_tree(
     plan: usize,
     nodes: usize,
     work: &mut [u32],
-) -> TreeWalk
+) -> Result<(), Answer>
     requires { (k : Case) × WalkReady k fields.now header plan_line plan nodes work.old }
     ensures { (k : Case) → WalkReady k fields.now header plan_line plan nodes work.old → TreeTold k work.old (walk_tree k (may_claim k.plan)) result work.new }
 {
@@ -102,19 +91,12 @@ pub fn walk_tree(
     };
     let root = Place { node: 0, at: nodes };
     let goal = [header.goal];
-    let walked = walk_subtasks(fields, g, work, root, &goal, 0);
-    match walked {
-        Walked::Next { next, span: _ } => {
-            if next.node < header.nodes {
-                TreeWalk::Refused {
-                    answer: Answer::SurplusNode {
-                        line: fit::line_at(g, next.node),
-                    },
-                }
-            } else {
-                TreeWalk::Right
-            }
-        }
-        Walked::Refused { answer } => TreeWalk::Refused { answer },
+    let walked = walk_subtasks(fields, g, work, root, &goal, 0)?;
+    let next = walked.next.node;
+    if next < header.nodes {
+        return Err(Answer::SurplusNode {
+            line: fit::line_at(g, next),
+        });
     }
+    Ok(())
 }

@@ -10,7 +10,7 @@ use records::{ENDS, LABELS, LETTERS, PLACES, STARTS};
 use rules::{Answer, NODES, Node, STATES, WORK};
 use state::WORDS;
 
-// Record i, gathered from the columns.
+// Record i, gathered from the columns: parallel lists in the work space, since C lends that as one list of numbers.
 fn node_at(work: &[u32], i: usize) -> Node
     requires { places_from + i < length work.now }
     ensures { result ≡ record_at work.now i }
@@ -28,8 +28,7 @@ fn node_at(work: &[u32], i: usize) -> Node
 fn clear_from(nodes: &mut [Node], count: usize)
     ensures { nodes.new ≡ filled (length nodes.old) no_node (take count nodes.old) }
 {
-    let mut i = count;
-    while i < nodes.len() {
+    for i in count..nodes.len() {
         nodes[i] = Node {
             letter: 0,
             label: 0,
@@ -37,7 +36,6 @@ fn clear_from(nodes: &mut [Node], count: usize)
             start: 0,
             end: 0,
         };
-        i += 1;
     }
 }
 
@@ -46,10 +44,8 @@ pub fn fill(nodes: &mut [Node], work: &[u32], count: usize)
     requires { (count ≤ length nodes.old) × ((i : ℕ) → i < count → places_from + i < length work.now) }
     ensures { nodes.new ≡ filled (length nodes.old) no_node (up_to (record_at work.now) count) }
 {
-    let mut i = 0;
-    while i < count {
+    for i in 0..count {
         nodes[i] = node_at(work, i);
-        i += 1;
     }
     clear_from(nodes, count);
 }

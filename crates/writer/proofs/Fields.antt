@@ -1,8 +1,9 @@
 -- What the tidy text is put out from: the header that stands among the fields, and how many fields and bytes there are. Assumes nothing.
 use mathlib.Core.Path.{◌≡◌, refl, sym, ap, subst, ◌∙◌}
 use mathlib.Core.Bool.{Bool, true, false}
-use mathlib.Core.List.{List, [], ◌∷◌}
+use mathlib.Core.List.{List}
 use Prim.Native.Nat.{ℕ, ◌≤◌, ◌<◌}
+use Rattle.std.specs.Prelude.{Option, Some, None}
 use native.Mathlib.Decide.{dec_lt}
 use native.Mathlib.Omega.{arith}
 use borrow.Author.Tests.{lt-ltb, le-ltb}
@@ -63,27 +64,27 @@ few_fields k r = omega (arith, few_bytes k r, case_least (tidied k))
 -- ---- Room
 
 module _ (needed room : ℕ) where
-  abbrev picked : Bool → ℕ
-  picked b = elim b [ true ↦ needed | false ↦ 0 ]
+  abbrev picked : Bool → Option ℕ
+  picked b = elim b [ true ↦ Some needed | false ↦ None ]
 
-  pub lacks_none : needed ≤ room → 0 ≡ lacked needed room
+  pub lacks_none : needed ≤ room → None ≡ lacked needed room
   unfolding lacked
   lacks_none h = sym (ap picked (le-ltb room needed h))
 
-  pub lacks_all : room < needed → needed ≡ lacked needed room
+  pub lacks_all : room < needed → Some needed ≡ lacked needed room
   unfolding lacked
   lacks_all h = sym (ap picked (lt-ltb room needed h))
 
-  pub some_lacks : (r : ℕ) → r ≡ lacked needed room → 0 < r → (room < needed) × (r ≡ needed)
-  some_lacks r e h = go (dec_lt room needed)
+  pub some_lacks : (r : ℕ) → Some r ≡ lacked needed room → (room < needed) × (r ≡ needed)
+  some_lacks r e = go (dec_lt room needed)
     where
       go : Dec (room < needed) → (room < needed) × (r ≡ needed)
-      go (yes l) = (l, e ∙ sym (lacks_all l))
-      go (no l) = let z = lacks_none (omega arith) in absurd (omega arith)
+      go (yes l) = let all = lacks_all l in (l, cc)
+      go (no l) = let none = lacks_none (omega arith) in absurd cc
 
-  pub none_lacks : (r : ℕ) → r ≡ lacked needed room → r ≤ 0 → needed ≤ room
-  none_lacks r e h = go (dec_lt room needed)
+  pub none_lacks : (r : Option ℕ) → r ≡ lacked needed room → ((n : ℕ) → r ≡ Some n → ⊥) → needed ≤ room
+  none_lacks r e not = go (dec_lt room needed)
     where
       go : Dec (room < needed) → needed ≤ room
-      go (yes l) = let z = lacks_all l in absurd (omega arith)
+      go (yes l) = absurd (not needed (e ∙ sym (lacks_all l)))
       go (no l) = omega arith

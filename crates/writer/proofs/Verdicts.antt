@@ -3,15 +3,16 @@ use mathlib.Core.Path.{◌≡◌, refl, sym, ap, ◌∙◌, subst}
 use mathlib.Core.List.{List}
 use Prim.Native.Nat.{ℕ}
 use native.Mathlib.Omega.{arith}
-use lib.ListN.{length, replicate}
+use Rattle.std.specs.Prelude.{Ok, Err}
+use lib.ListN.{replicate}
 use Rattle.rules.specs.declared.Answer.{Answer}
-use Rattle.rules.specs.declared.Answer.TheVariants.{Accepted, ShortOutput}
-use Rattle.rules.specs.Result.{Result, found, refused, ◌>>=◌, ◌>>◌}
+use Rattle.rules.specs.declared.Answer.TheVariants.{Accepted}
+use Rattle.rules.specs.Result.{Result, found, refused, ◌>>◌}
 use Rattle.rules.specs.Case.{Case}
 use Rattle.rules.specs.Fields.{fields_of}
 use Rattle.rules.specs.Print.{printed}
 use Rattle.rules.specs.Tree.{Tree}
-use Rattle.rules.specs.Verdict.{Lent, Found, state_need, node_need, work_need, check_lists, check, reported, answer_of, filled, states_after}
+use Rattle.rules.specs.Verdict.{Lent, Found, state_need, node_need, work_need, check_lists, check, reported, answer_of, states_after}
 use Rattle.rules.specs.Writing.{written, output_long, write, output_after, length_after}
 use Rattle.rules.proofs.Judgement.Rows.{from_text, from_tree}
 use Rattle.rules.proofs.Judgement.Refusals.{CheckSays, check_says}
@@ -24,8 +25,6 @@ use Rattle.records.specs.Records.{RecordsHeld}
 use Rattle.judge.specs.Phases.{Answers, FieldsHeld}
 use Rattle.judge.proofs.Verdicts.{long_lists}
 use Rattle.writer.specs.declared.Wrote.{Wrote}
-use Rattle.writer.specs.declared.Outcome.{Outcome}
-use Rattle.writer.specs.declared.Outcome.TheVariants.{Put, Short}
 use Rattle.writer.specs.Writes.{Writes, PutAs, then_output}
 
 -- ---- What the check answered
@@ -82,7 +81,7 @@ module _ (m : ℕ) {f : Found Tree} {n : ℕ} {r : Answer} {states work : List �
     output_then o q = ap (then_output m) e ∙ ap (λ (x : Result (Unit {0})). ◌>>◌ {B = Case × Tree} x (found (k, t))) q
 
     -- The text is put out.
-    pub put_writes : {output : List ℕ} (bytes : ℕ) → PutAs (written k) m (Put bytes) output → Writes (then_output m f) n m (record { answer = r; length = bytes }) states work output
+    pub put_writes : {output : List ℕ} (bytes : ℕ) → PutAs (written k) m (Ok bytes) output → Writes (then_output m f) n m (record { answer = r; length = bytes }) states work output
     unfolding length_after output_after
     put_writes bytes (long, count, stands) =
         let same : then_output m f ≡ found (k, t) = output_then (found tt) (output_fits m k long) in
@@ -96,12 +95,12 @@ module _ (m : ℕ) {f : Found Tree} {n : ℕ} {r : Answer} {states work : List �
         }
 
     -- The output is too short: all lists are zero.
-    pub short_writes : {states' output : List ℕ} (needed : ℕ) → PutAs (written k) m (Short needed) output → states' ≡ replicate n 0
-        → Writes (then_output m f) n m (record { answer = ShortOutput needed; length = 0 }) states' work output
+    pub short_writes : {states' output : List ℕ} (a : Answer) → PutAs (written k) m (Err a) output → states' ≡ replicate n 0
+        → Writes (then_output m f) n m (record { answer = a; length = 0 }) states' work output
     unfolding length_after output_after states_after RecordsHeld
-    short_writes needed (short, all, zeros) cleared =
-        let told = output_short m k short ∙ ap (λ (n : ℕ). refused (ShortOutput n)) (sym all) in
-        let same : then_output m f ≡ refused (ShortOutput needed) = output_then (refused (ShortOutput needed)) told in
+    short_writes a (short, all, zeros) cleared =
+        let told = output_short m k short ∙ ap (λ (x : Answer). refused x) (sym all) in
+        let same : then_output m f ≡ refused a = output_then (refused a) told in
         record {
           answer = sym (ap answer_of same);
           answered = sym (ap length_after same);

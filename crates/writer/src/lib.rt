@@ -2,7 +2,7 @@
 // columns of the node records, which the call then gathers into the node list.
 #![tactic(auto)]
 
-ghost use Rattle.std.specs.Prelude.{◌≡◌, List, ◌≤◌, ◌<◌, length, replicate};
+ghost use Rattle.std.specs.Prelude.{◌≡◌, List, ◌*◌, ◌≤◌, ◌<◌, length, replicate};
 ghost use Rattle.rules.specs.Case.{Case, Valued};
 ghost use Rattle.rules.specs.Fields.{fields_of};
 ghost use Rattle.rules.specs.Print.{lines_text, printed};
@@ -16,7 +16,6 @@ ghost use Rattle.output.specs.Output.{HasLines};
 ghost use Rattle.writer.specs.Writes.{Writes, lacked, PutAs, then_output};
 
 use fields::FIELDS;
-use judge::Admission;
 use rules::{Answer, Header};
 
 // Room for the fields of a text of fewer than twice as many bytes: less to clear than what any text may need.
@@ -29,13 +28,6 @@ pub struct Wrote {
     pub length: u32,
 }
 
-// What became of the tidy text: it was put out, so many bytes; or the output is shorter than needed.
-#[derive(Clone, Copy)]
-enum Outcome {
-    Put { bytes: u32 },
-    Short { needed: u32 },
-}
-
 // Nothing is put out.
 fn refuse(output: &mut [u8], answer: Answer) -> Wrote
     ensures { (result.answer ≡ answer) × (result.length ≡ 0) × (output.new ≡ replicate (length output.old) 0) }
@@ -44,60 +36,59 @@ fn refuse(output: &mut [u8], answer: Answer) -> Wrote
     Wrote { answer, length: 0 }
 }
 
-// The bytes needed for the text of these fields, of at most `most`, if there is less room; 0 if there isn't. Where there is room for the most
-// nothing is measured.
-fn lacking(fields: &[u32], end: usize, cues: u32, most: usize, room: usize) -> usize
+// The bytes needed for the text of these fields, of at most `most`, if there is less room. Where there is room for the most nothing is measured.
+fn lacking(fields: &[u32], end: usize, cues: u32, most: usize, room: usize) -> Option<usize>
     requires has_lines { (xs : List Valued) × HasLines cues fields.now end xs × (length (lines_text xs) ≤ most) }
     requires end_bound { end ≤ 32768 }
     ensures { (xs : List Valued) → HasLines cues fields.now end xs → length (lines_text xs) ≤ most → result ≡ lacked (length (lines_text xs)) room }
 {
     if most <= room {
-        return 0;
+        return None;
     }
     let needed = output::measure(fields, end, cues);
-    if room < needed { needed } else { 0 }
+    if room < needed { Some(needed) } else { None }
 }
 
 // The tidy text of the case whose fields these are, of at most `most` bytes. "14, output shorter than needed, checked last": nothing of it is
-// put out then.
-fn put_sorted(most: usize, fields: &mut [u32], header: Header, output: &mut [u8]) -> Outcome
+// put out then. Answers how many bytes are.
+fn put_sorted(
+    most: usize,
+    fields: &mut [u32],
+    header: Header,
+    output: &mut [u8],
+) -> Result<u32, Answer>
     requires { (k : Case) × IsRead k × (k.head ≡ header) × Stands fields.old 0 (fields_of k) × (length (written k) ≤ most) }
     ensures { (k : Case) → IsRead k → k.head ≡ header → Stands fields.old 0 (fields_of k) → length (written k) ≤ most → PutAs (written k) (length output.old) result output.new }
 {
     let cues = header.cues;
     let end = tidying::tidy(fields, header);
-    let needed = lacking(fields, end, cues, most, output.len());
-    if needed > 0 {
+    if let Some(needed) = lacking(fields, end, cues, most, output.len()) {
         output::clear(output);
-        return Outcome::Short {
+        return Err(Answer::ShortOutput {
             needed: needed as u32,
-        };
+        });
     }
     let bytes = output::put_text(fields, end, cues, output);
-    Outcome::Put {
-        bytes: bytes as u32,
-    }
+    Ok(bytes as u32)
 }
 
 // A text as it is.
-fn put_same(text: &[u8], output: &mut [u8]) -> Outcome
+fn put_same(text: &[u8], output: &mut [u8]) -> Result<u32, Answer>
     requires { length text.now ≤ text_most }
     ensures { PutAs text.now (length output.old) result output.new }
 {
     if output.len() < text.len() {
         output::clear(output);
-        return Outcome::Short {
+        return Err(Answer::ShortOutput {
             needed: text.len() as u32,
-        };
+        });
     }
     output::put_copy(text, output);
-    Outcome::Put {
-        bytes: text.len() as u32,
-    }
+    Ok(text.len() as u32)
 }
 
 // The tidy text of the case that the text holds, and whose fields these are.
-fn put_tidy(text: &[u8], fields: &mut [u32], output: &mut [u8]) -> Outcome
+fn put_tidy(text: &[u8], fields: &mut [u32], output: &mut [u8]) -> Result<u32, Answer>
     requires { (k : Case) × IsRead k × (text.now ≡ printed k) × Stands fields.old 0 (fields_of k) }
     ensures { (k : Case) → IsRead k → text.now ≡ printed k → Stands fields.old 0 (fields_of k) → PutAs (written k) (length output.old) result output.new }
 {
@@ -124,46 +115,43 @@ fn write_text(
         return refuse(output, answer);
     };
     match put_tidy(text, fields, output) {
-        Outcome::Put { bytes } => Wrote {
-            answer,
-            length: bytes,
-        },
-        Outcome::Short { needed } => {
+        Ok(length) => Wrote { answer, length },
+        Err(short) => {
             rows::clear(states);
             Wrote {
-                answer: Answer::ShortOutput { needed },
+                answer: short,
                 length: 0,
             }
         }
     }
 }
 
-// The same with room for the fields of a short text; and with room for those of any.
-fn write_short(text: &[u8], states: &mut [u64], work: &mut [u32], output: &mut [u8]) -> Wrote
-    requires { Cleared text.now states.old work.old × (length text.now < 4096) }
+// The same with room for so many fields, as many as a text of fewer than twice as many bytes may have.
+fn write_with_room<const N: usize>(
+    text: &[u8],
+    states: &mut [u64],
+    work: &mut [u32],
+    output: &mut [u8],
+) -> Wrote
+    requires few { N ≤ FIELDS }
+    requires room { Cleared text.now states.old work.old × (length text.now < 2 * N) }
     ensures { Writes (then_output (length output.old) (from_text from_tree text.now)) (length states.old) (length output.old) result states.new work.new output.new }
 {
-    let mut fields = [0u32; SMALL];
-    write_text(text, states, work, &mut fields, output)
-}
-
-fn write_any(text: &[u8], states: &mut [u64], work: &mut [u32], output: &mut [u8]) -> Wrote
-    requires { Cleared text.now states.old work.old }
-    ensures { Writes (then_output (length output.old) (from_text from_tree text.now)) (length states.old) (length output.old) result states.new work.new output.new }
-{
-    let mut fields = [0u32; FIELDS];
+    let mut fields = [0u32; N];
     write_text(text, states, work, &mut fields, output)
 }
 
 // The same, with as much room for the fields as a text of this length may need.
+#[tactic(auto, unfolding(rules::specs::Verdict::text_most))]
 fn write_lent(text: &[u8], states: &mut [u64], work: &mut [u32], output: &mut [u8]) -> Wrote
     requires { Cleared text.now states.old work.old }
     ensures { Writes (then_output (length output.old) (from_text from_tree text.now)) (length states.old) (length output.old) result states.new work.new output.new }
 {
     if text.len() < 2 * SMALL {
-        return write_short(text, states, work, output);
+        write_with_room::<SMALL>(text, states, work, output)
+    } else {
+        write_with_room::<FIELDS>(text, states, work, output)
     }
-    write_any(text, states, work, output)
 }
 
 // All rows, and 14. The state list is zero before anything is checked.
@@ -178,7 +166,7 @@ pub fn write(
 {
     rows::clear(states);
     match judge::admit(text, states.len(), node_room, work.len()) {
-        Admission::Passed => write_lent(text, states, work, output),
-        Admission::Refused { answer } => refuse(output, answer),
+        Ok(()) => write_lent(text, states, work, output),
+        Err(answer) => refuse(output, answer),
     }
 }

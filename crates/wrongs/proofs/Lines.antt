@@ -13,6 +13,7 @@ use borrow.Author.Tests.{eqb-true, eq-eqb, ne_eqb, lt-ltb, le-ltb}
 use Rattle.rules.specs.Tree.{is_in}
 use Rattle.rules.specs.Form.{FormLine, Form, line_number, defines, uses, form_lines, times, all_defined, all_used, is_reached, any_missing, is_wrong, first_wrong, wrong_line}
 use Rattle.links.specs.Links.{no_line, line_at, link}
+use Rattle.std.specs.Prelude.{Option as Named, Some, None}
 use Rattle.wrongs.specs.Wrongs.{fails, FirstFailing, Known, Holds, as_line}
 use Rattle.wrongs.proofs.Firsts.{same_or_not, less_or_not, defined_link, First}
 use Rattle.wrongs.proofs.Counts.{in_times, defined_twice, twin_twice, link_same, used_times, eqb_alike}
@@ -148,10 +149,6 @@ drop_at es cues d = get_or-drop cues es d no_line
 
 -- ---- The line that is named
 
-line_some : (n : ℕ) → 0 < n → as_line n ≡ some n
-line_some zero h = absurd (omega arith)
-line_some (suc n) h = refl
-
 -- What a form's definition names, over its parts: the first of the front, the root line, the first of the back.
 chosen : (es front back : List FormLine) (line id : ℕ) → Option ℕ
 chosen es front back line id =
@@ -177,14 +174,13 @@ module _ {es : List FormLine} {cues count : ℕ} {ids labels starts links twin u
   back_fine d l = ap (is_wrong es id) (drop_at es cues d) ∙ fine_below k t w (omega arith) (cues + d) l
 
   -- An action line.
-  choice_front : w < cues → choice ≡ as_line (w + 2)
+  choice_front : w < cues → choice ≡ as_line (Some (w + 2))
   unfolding chosen
   choice_front h =
       first_at (is_wrong es id) (take cues es) _ w (omega (arith, length-take cues es, k.counts))
       (λ d l. front_fine d (omega arith) l)
       (ap (is_wrong es id) (take_at es cues w h) ∙ wrong_here k t (omega arith))
       ∙ ap (λ (e : FormLine). some (line_number e)) (take_at es cues w h ∙ k.lines.cue_here w h)
-      ∙ sym (line_some (w + 2) (omega arith))
 
   -- No action line: it is as the root's id is defined or not.
   choice_past : cues ≤ w → (b : Bool) → ltb 0 root ≡ b
@@ -197,12 +193,12 @@ module _ {es : List FormLine} {cues count : ℕ} {ids labels starts links twin u
       (defined_link es id ∙ ap (ltb 0) (sym k.rooted) ∙ q)
 
   -- The root line.
-  choice_root : cues ≤ w → root ≡ 0 → choice ≡ as_line (cues + 2)
+  choice_root : cues ≤ w → root ≡ 0 → choice ≡ as_line (Some (cues + 2))
   choice_root h z =
-      choice_past h false (le-ltb 0 root (omega arith)) ∙ ap {B = Option ℕ} some (omega arith) ∙ sym (line_some (cues + 2) (omega arith))
+      choice_past h false (le-ltb 0 root (omega arith)) ∙ ap {B = Option ℕ} some (omega arith)
 
   -- A compound line.
-  choice_back : cues ≤ w → (root ≡ 0 → ⊥) → w < count → choice ≡ as_line (w + 3)
+  choice_back : cues ≤ w → (root ≡ 0 → ⊥) → w < count → choice ≡ as_line (Some (w + 3))
   choice_back h o l =
       let d = w - cues in
       let s : cues + d ≡ w = omega arith in
@@ -212,7 +208,6 @@ module _ {es : List FormLine} {cues count : ℕ} {ids labels starts links twin u
       (λ d g. back_fine d (omega arith))
       (ap (is_wrong es id) (drop_at es cues d ∙ ap (line_at es) s) ∙ wrong_here k t l)
       ∙ ap (λ (e : FormLine). some (line_number e)) (drop_at es cues d ∙ ap (line_at es) s ∙ q)
-      ∙ sym (line_some (w + 3) (omega arith))
 
   -- None.
   choice_none : cues ≤ w → (root ≡ 0 → ⊥) → count ≤ w → choice ≡ none
@@ -222,21 +217,21 @@ module _ {es : List FormLine} {cues count : ℕ} {ids labels starts links twin u
 
 -- ---- What the code answers
 
--- The answer, as a number of a line or 0, is the line that the form's definition names.
-abbrev pub Answers : (cues count : ℕ) (twin used marks : List ℕ) (lost root r : ℕ) → Type 0
+-- The answer, if it is a line, is the line that the form's definition names.
+abbrev pub Answers : (cues count : ℕ) (twin used marks : List ℕ) (lost root : ℕ) (r : Named ℕ) → Type 0
 Answers cues count twin used marks lost root r =
     (es : List FormLine) (ids labels starts links : List ℕ) (id : ℕ) → Known es cues count ids labels starts links twin used marks lost root id
     → (f : Form) → Holds f es cues id → wrong_line f ≡ as_line r
 
 module _ {cues count : ℕ} {twin used marks : List ℕ} {lost root w : ℕ} (t : FirstFailing (fails twin used marks lost root) count w) where
-  pub answers_front : w < cues → Answers cues count twin used marks lost root (w + 2)
+  pub answers_front : w < cues → Answers cues count twin used marks lost root (Some (w + 2))
   answers_front h es ids labels starts links id k f o = named o ∙ choice_front k t h
 
-  pub answers_root : cues ≤ w → root ≡ 0 → Answers cues count twin used marks lost root (cues + 2)
+  pub answers_root : cues ≤ w → root ≡ 0 → Answers cues count twin used marks lost root (Some (cues + 2))
   answers_root h z es ids labels starts links id k f o = named o ∙ choice_root k t h z
 
-  pub answers_back : cues ≤ w → (root ≡ 0 → ⊥) → w < count → Answers cues count twin used marks lost root (w + 3)
+  pub answers_back : cues ≤ w → (root ≡ 0 → ⊥) → w < count → Answers cues count twin used marks lost root (Some (w + 3))
   answers_back h n l es ids labels starts links id k f o = named o ∙ choice_back k t h n l
 
-  pub answers_none : cues ≤ w → (root ≡ 0 → ⊥) → count ≤ w → Answers cues count twin used marks lost root 0
+  pub answers_none : cues ≤ w → (root ≡ 0 → ⊥) → count ≤ w → Answers cues count twin used marks lost root None
   answers_none h n l es ids labels starts links id k f o = named o ∙ choice_none k t h n l

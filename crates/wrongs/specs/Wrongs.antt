@@ -1,7 +1,8 @@
 -- Which line of a form refusal 19 names (02, Card 6), from plain lists: the test of one line, and what the lists say of a form's lines. Assumes
 -- nothing.
-use Rattle.std.specs.Prelude.{◌≡◌, Bool, true, false, ◌&&◌, ◌||◌, List, ℕ, zero, suc, ◌+◌, ◌≤◌, ◌<◌, eqb, ltb, length, get_or, take, drop}
-use Rattle.std.proofs.Math.Option.{Option, none, some}
+use Rattle.std.specs.Prelude.{◌≡◌, Bool, true, false, ◌&&◌, ◌||◌, List, ℕ, suc, ◌+◌, ◌≤◌, ◌<◌, eqb, ltb, length, get_or, take, drop, Option, Some, None}
+use Rattle.std.proofs.Math.Option as maybe
+use Rattle.std.proofs.Math.Option.{none, some}
 use Rattle.rules.specs.Form.{FormLine, Form, uses, all_defined, any_missing}
 use Rattle.links.specs.Links.{line_at, link, Lines, Linked, Twins, Counted}
 use Rattle.reaching.specs.Visited.{Marked}
@@ -43,7 +44,7 @@ pub record Holds (f : Form) (es : List FormLine) (cues id : ℕ) : Type 0 where
   pub root_is : f.root ≡ id
   pub back : f.tasks ≡ drop cues es
 
--- A line's number; 0 for none.
-abbrev pub as_line : ℕ → Option ℕ
-as_line zero = none
-as_line (suc n) = some (suc n)
+-- A line's number, if there is one.
+abbrev pub as_line : Option ℕ → maybe.Option ℕ
+as_line None = none
+as_line (Some n) = some n

@@ -6,7 +6,8 @@ ghost use Rattle.std.specs.Prelude.{◌≡◌, List, ℕ, ◌≤◌, ◌<◌, le
 ghost use Rattle.rules.specs.Form.{FormLine, Form, wrong_line};
 ghost use Rattle.wrongs.specs.Wrongs.{fails, FirstFailing, Known, Holds, as_line};
 
-// Whether the line e is wrong, where no line before it is.
+// Whether the line e is wrong, where no line before it is. The line `lost` is the first that uses an id never defined; where none does, it is
+// past every line, and so no `Option`.
 fn is_wrong(twin: &[u32], used: &[u32], marks: &[u32], lost: usize, root: u32, e: usize) -> bool
     requires { (e < 3000) × (e < length twin.now) × (e < length used.now) × (e < length marks.now) }
     ensures { result ≡ fails twin.now used.now marks.now lost root e }
@@ -27,7 +28,7 @@ fn is_wrong(twin: &[u32], used: &[u32], marks: &[u32], lost: usize, root: u32, e
     marks[e] == 0 || e == lost
 }
 
-// The first of these lines that is wrong, or their number.
+// The first of these lines that is wrong, or their number: no `Option`, since none is then past every line, which is what `wrong_line` compares.
 fn first_wrong(
     twin: &[u32],
     used: &[u32],
@@ -39,17 +40,15 @@ fn first_wrong(
     requires { (count ≤ 3000) × (count ≤ length twin.now) × (count ≤ length used.now) × (count ≤ length marks.now) }
     ensures { FirstFailing (fails twin.now used.now marks.now lost root) count result }
 {
-    let mut e = 0;
-    while e < count {
+    for e in 0..count {
         if is_wrong(twin, used, marks, lost, root, e) {
             return e;
         }
-        e += 1;
     }
-    e
+    count
 }
 
-// The number of the first line that is wrong, 0 if none is. The root line uses an id too; it stands between the action lines and the others.
+// The number of the first line that is wrong, if one is. The root line uses an id too; it stands between the action lines and the others.
 pub fn wrong_line(
     twin: &[u32],
     used: &[u32],
@@ -58,7 +57,7 @@ pub fn wrong_line(
     root: u32,
     cues: usize,
     count: usize,
-) -> u32
+) -> Option<u32>
     requires few { (cues ≤ count) × (count ≤ 3000) }
     requires room { (count ≤ length twin.now) × (count ≤ length used.now) × (count ≤ length marks.now) }
     ensures { (es : List FormLine) (ids labels starts links : List ℕ) (id : ℕ)
@@ -67,13 +66,13 @@ pub fn wrong_line(
 {
     let w = first_wrong(twin, used, marks, lost, root, count);
     if w < cues {
-        return w as u32 + 2;
+        return Some(w as u32 + 2);
     }
     if root == 0 {
-        return cues as u32 + 2;
+        return Some(cues as u32 + 2);
     }
     if w < count {
-        return w as u32 + 3;
+        return Some(w as u32 + 3);
     }
-    0
+    None
 }

@@ -10,23 +10,16 @@ returns-then-choice-s c =
     let l = c.loop-s in
     let a = c.args in
     learnt a.k a.m l.s (l.s - 1) l.set a.choice.now a.why.now l.why c.clear_from.new.list
-    c.loop-s-test.true refl (omega arith) (l.invariant.1 ∙ c.requires.0) c.if-choice-s.true l.invariant.2 c.clear_from.ensures
+    c.loop-s-test.true refl (omega arith) (l.auto.why ∙ c.requires.0) c.if-choice-s.true l.invariant c.clear_from.ensures
 
 pub loop-s-preserved-then-set-s-eq1 : goal.loop-s-preserved-then-set-s-eq1
 loop-s-preserved-then-set-s-eq1 c =
     let l = c.loop-s in
-    let a = c.args in (
-      omega arith,
-      l.invariant.1,
-      widened a.k a.m l.s (l.s - 1) l.set a.choice.now a.why.now l.why c.loop-s-test.true refl
-          (omega arith) c.if-choice-s.false l.invariant.2,
-    )
+    let a = c.args in
+    widened a.k a.m l.s (l.s - 1) l.set a.choice.now a.why.now l.why c.loop-s-test.true refl (omega arith) c.if-choice-s.false l.invariant
 
 pub loop-s-preserved : goal.loop-s-preserved
 loop-s-preserved c =
     let l = c.loop-s in
-    let a = c.args in (
-      omega arith,
-      l.invariant.1,
-      passed a.k a.m l.s (l.s - 1) l.set a.choice.now a.why.now l.why c.loop-s-test.true refl c.if-set-s-eq1.false l.invariant.2,
-    )
+    let a = c.args in
+    passed a.k a.m l.s (l.s - 1) l.set a.choice.now a.why.now l.why c.loop-s-test.true refl c.if-set-s-eq1.false l.invariant

@@ -1,10 +1,6 @@
 -- `summary`: the digits of the words from w on, turned, are in the sum (Tests): which of them are not as the sign asks. Assumes nothing.
-use Prim.Native.Nat.{◌≤◌}
 use Rattle.columns.proofs.Filling.{Tests, amiss}
 use Rattle.columns.proofs.summary.Given as goal
 
 abbrev pub invariant-loop-w : goal.invariant-loop-w
-invariant-loop-w l = (l.w ≤ l.words) × Tests (amiss l.sign l.column) l.w l.words l.sum
-
-abbrev pub decreases-loop-w : goal.decreases-loop-w
-decreases-loop-w l = l.w
+invariant-loop-w l = Tests (amiss l.sign l.column) l.w l.words l.sum

@@ -7,7 +7,7 @@ use Rattle.rules.specs.declared.Sign.TheVariants.{Positive}
 use Rattle.rules.specs.State.{word_count, member, bit}
 use Rattle.rules.specs.Constraint.{signed}
 use lib.ListN.{get_or}
-use mathlib.Core.Path.{◌≡◌, refl, sym, ap, subst}
+use mathlib.Core.Path.{◌≡◌, sym, ap, subst}
 use native.Mathlib.Omega.{arith}
 use Rattle.std.proofs.Common.{rules}
 use Rattle.columns.proofs.word_of.Goals as goal
@@ -28,11 +28,8 @@ loop-l-preserved c =
     let f = in_row a.states.now Positive a.p in
     let d = get_or a.states.now (word_count * (l.l - 1) + a.p / 64) 0 / 2 ^ (a.p % 64) % 2 in
     let back : l.l ≡ l.l - 1 + 1 = omega arith in (
-      refl,
-      refl,
-      omega arith,
       omega arith,
       tests_more f (l.l - 1) a.to l.word d (omega arith) (omega arith)
           (sym (ap (λ (w : ℕ). bit w (a.p % 64)) (word_stretch word_count a.states.now (l.l - 1) (a.p / 64) (omega arith))))
-          (subst (λ (m : ℕ). Tests f m a.to l.word) back l.invariant.4),
+          (subst (λ (m : ℕ). Tests f m a.to l.word) back l.invariant.1),
     )

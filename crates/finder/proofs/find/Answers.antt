@@ -12,21 +12,21 @@ use Rattle.judge.proofs.Verdicts.{admit_passes, admit_rows}
 use Rattle.judge.specs.Phases.{rows_ahead}
 use Rattle.finder.proofs.find.Goals as goal
 
-pub returns-in-Passed : goal.returns-in-Passed
-returns-in-Passed c =
+pub returns-in-Ok : goal.returns-in-Ok
+returns-in-Ok c =
     let a = c.args in
     let kept : length c.clear.new.list ≡ length a.states.now = c.clear.auto.list in
-    let p = admit_passes (length c.clear.new.list) a.node_room (length a.work.now) a.text.now c.admit.ensures c.in-Passed.is in
+    let p = admit_passes (length c.clear.new.list) a.node_room (length a.work.now) a.text.now c.admit.ensures c.in-Ok.is in
     let room = p.0 in
     let lists = check_lists (length a.states.now) a.node_room (length a.work.now) in
     let long = all_long (length a.states.now) a.node_room (length a.work.now) (omega arith) p.1 p.2 in
     finds_as (λ n. sym (finds_rows lists long n a.text.now)) (λ n w. limits_hold n lists a.text.now w) kept c.find_lent.ensures
 
-pub returns-in-Refused : goal.returns-in-Refused
-returns-in-Refused c =
+pub returns-in-Err : goal.returns-in-Err
+returns-in-Err c =
     let a = c.args in
-    let x = c.in-Refused.answer in
-    let e = admit_rows (length c.clear.new.list) a.node_room (length a.work.now) a.text.now c.admit.ensures x c.in-Refused.is in
+    let x = c.in-Err.answer in
+    let e = admit_rows (length c.clear.new.list) a.node_room (length a.work.now) a.text.now c.admit.ensures x c.in-Err.is in
     let rows : rows_ahead (length a.states.now) a.node_room (length a.work.now) a.text.now ≡ refused x =
     ap (λ (n : ℕ). rows_ahead n a.node_room (length a.work.now) a.text.now) (sym c.clear.auto.list) ∙ e in
     let lists = check_lists (length a.states.now) a.node_room (length a.work.now) in

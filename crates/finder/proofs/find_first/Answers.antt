@@ -1,6 +1,7 @@
 -- `find_first`: the choices ahead of the one where a turn stands were passed over, and the text was opened again; a turn ends the search with a choice
 -- that is accepted, or with none left. Fewer choices are left with each turn. Assumes nothing.
 use mathlib.Core.Path.{◌≡◌, refl, sym, ap, ◌∙◌}
+use mathlib.Core.Bool.{not}
 use Prim.Native.Nat.{ℕ, ◌+◌, min}
 use native.Mathlib.Omega.{arith}
 use lib.ListN.{length, replicate}
@@ -103,15 +104,15 @@ skip-requires c =
     let same : length t.new.choice ≡ length l.choice = t.auto.choice in
     (going_few g h, t.auto.why ∙ l.invariant.2 ∙ s.4 ∙ sym (same ∙ l.invariant.1), omega (arith, l.invariant.1, s.3))
 
-pub none_passes-requires-then-skip-eq0 : goal.none_passes-requires-then-skip-eq0
-none_passes-requires-then-skip-eq0 c =
+pub none_passes-requires-then-is_none : goal.none_passes-requires-then-is_none
+none_passes-requires-then-is_none c =
     let l = c.loop-answer in
     let (k, x, b, h, few) = c.requires.passes in
     let g = l.invariant.5 k x b c.requires.spacious.5 h in
     going_few g h
 
-pub returns-then-skip-eq0 : goal.returns-then-skip-eq0
-returns-then-skip-eq0 c = λ k x b h few.
+pub returns-then-is_none : goal.returns-then-is_none
+returns-then-is_none c = λ k x b h few.
     let a = c.args in
     let l = c.loop-answer in
     let g = l.invariant.5 k x b c.requires.spacious.5 h in
@@ -128,8 +129,8 @@ returns-then-skip-eq0 c = λ k x b h few.
     (sym ((still ∙ same) ∙ (going_choice g h).0)) few in
     let all =
     none_after g h (length l.states) d t.new.why t.new.states t.new.work failed m.result m.ensures q.result q.new.choice q.new.why q.ensures.skips
-    c.if-skip-eq0.true in
-    let told = c.none_passes-then-skip-eq0.ensures in
+    (c.is_none.ensures ∙ ap not c.if-is_none.true) in
+    let told = c.none_passes-then-is_none.ensures in
     let kept : length t.new.states ≡ length a.states.now = t.auto.states ∙ l.invariant.3 in
     search_fails k (length a.choice.now) (sym h.0) a.choice.now (min (power l.at.header.cues (length q.new.choice)) 1000001) c.requires.spacious.5 all count
     told.0 told.1 (told.2 ∙ ap (λ (n : ℕ). replicate n 0) kept)
@@ -147,7 +148,7 @@ loop-answer-smaller c =
     let m = c.all-all in
     let q = c.skip in
     fewer_after g h (length l.states) d t.new.why t.new.states t.new.work failed m.result m.ensures q.result q.new.choice q.new.why q.ensures.skips
-    c.if-skip-eq0.false q.ensures.nearer.1 a.o.header x.claimed.walked.opens.head
+    (c.is_none.ensures ∙ ap not c.if-is_none.false) q.ensures.nearer a.o.header x.claimed.walked.opens.head
 
 pub loop-answer-preserved : goal.loop-answer-preserved
 loop-answer-preserved c =
@@ -167,13 +168,13 @@ loop-answer-preserved c =
           let turn = t.ensures k g.passes.claimed b (going_choice g h) g.goes.known in
           let failed = turn_failed k (length l.states) l.choice d t.new.why t.new.states t.new.work t.result turn c.in-Failed.is in
           record {
-            passes = opened_again x o.new.fields (length t.new.states) o.new.states o.new.work o.result o.ensures c.in-Case.case c.in-Case.is;
+            passes = opened_again x o.new.fields (length t.new.states) o.new.states o.new.work o.result o.ensures c.in-Ok.opened c.in-Ok.is;
             goes = some_after g h (length l.states) d t.new.why t.new.states t.new.work failed m.result m.ensures q.result q.new.choice q.new.why
-                q.ensures.skips c.if-skip-eq0.false;
+                q.ensures.skips (c.is_none.ensures ∙ ap not c.if-is_none.false);
           },
     )
 
-pub returns-in-Refused : goal.returns-in-Refused
-returns-in-Refused c = λ k x b h few.
+pub returns-in-Err : goal.returns-in-Err
+returns-in-Err c = λ k x b h few.
     let o = c.open_text in
-    absurd (never_refused x o.new.fields _ o.new.states o.new.work o.result o.ensures c.in-Refused.answer c.in-Refused.is)
+    absurd (never_refused x o.new.fields _ o.new.states o.new.work o.result o.ensures c.in-Err.answer c.in-Err.is)

@@ -6,14 +6,14 @@ use Rattle.finder.specs.Finding.{from_gaps}
 use Rattle.judge.proofs.Openings.{opening_passes, opening_refuses}
 use Rattle.finder.proofs.find_text.Goals as goal
 
-pub returns-in-Case : goal.returns-in-Case
-returns-in-Case c =
+pub returns-in-Ok : goal.returns-in-Ok
+returns-in-Ok c =
     let o = c.open_text in
-    let (k, p) = opening_passes _ o.new.fields _ o.result o.new.states o.new.work o.ensures c.in-Case.case c.in-Case.is in
+    let (k, p) = opening_passes _ o.new.fields _ o.result o.new.states o.new.work o.ensures c.in-Ok.opened c.in-Ok.is in
     finds_as (λ n. sym (p.rows (from_gaps n))) (limited_by c.args.text.now k p.reads) o.auto.states (c.find_choices.ensures k p)
 
-pub returns-in-Refused : goal.returns-in-Refused
-returns-in-Refused c =
+pub returns-in-Err : goal.returns-in-Err
+returns-in-Err c =
     let o = c.open_text in
-    let (refuses, zeros) = opening_refuses _ o.new.fields _ o.result o.new.states o.new.work o.ensures c.in-Refused.answer c.in-Refused.is in
-    refused_finds 1 (limited_one c.args.text.now) c.in-Refused.answer (refuses (from_gaps 1)) refl refl zeros
+    let (refuses, zeros) = opening_refuses _ o.new.fields _ o.result o.new.states o.new.work o.ensures c.in-Err.answer c.in-Err.is in
+    refused_finds 1 (limited_one c.args.text.now) c.in-Err.answer (refuses (from_gaps 1)) refl refl zeros

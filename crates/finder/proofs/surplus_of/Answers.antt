@@ -18,19 +18,19 @@ surplus_next choice s h =
     ap surplus (drop-cons choice s 0 h) ∙ ap (λ (n : ℕ). length (decimal (get_or choice s 0)) - 1 + surplus (drop n choice)) (sym (add-one s))
 
 pub more_digits-digits-requires : goal.more_digits-digits-requires
-more_digits-digits-requires c = omega (arith, gap_within c.args.k c.args.choice.now c.loop-s.s c.requires.1)
+more_digits-digits-requires c = omega (arith, gap_within c.args.k c.args.choice.now c.loop-gap.gap-index c.requires.1)
 
 pub overflow_add-digits : goal.overflow_add-digits
 overflow_add-digits c =
-    let few = gap_within c.args.k c.args.choice.now c.loop-s.s c.requires.1 in
-    let own = digits_few (get_or c.args.choice.now c.loop-s.s 0) (omega (arith, c.requires.0)) in
+    let few = gap_within c.args.k c.args.choice.now c.loop-gap.gap-index c.requires.1 in
+    let own = digits_few (get_or c.args.choice.now c.loop-gap.gap-index 0) (omega (arith, c.requires.0)) in
     let is = c.more_digits-digits.ensures in
     omega arith
 
-pub loop-s-preserved : goal.loop-s-preserved
-loop-s-preserved c =
-    let few = gap_within c.args.k c.args.choice.now c.loop-s.s c.requires.1 in
-    let own = digits_few (get_or c.args.choice.now c.loop-s.s 0) (omega (arith, c.requires.0)) in
+pub loop-gap-preserved : goal.loop-gap-preserved
+loop-gap-preserved c =
+    let few = gap_within c.args.k c.args.choice.now c.loop-gap.gap-index c.requires.1 in
+    let own = digits_few (get_or c.args.choice.now c.loop-gap.gap-index 0) (omega (arith, c.requires.0)) in
     let is = c.more_digits-digits.ensures in
-    let next = surplus_next c.args.choice.now c.loop-s.s c.loop-s-test.true in
-    (omega arith, omega arith, omega arith)
+    let next = surplus_next c.args.choice.now c.loop-gap.gap-index (omega arith) in
+    (omega arith, omega arith)

@@ -61,9 +61,9 @@ sum_lines-sum-requires-clause-nodes_stand c =
     let l = case_with a.choice.now k in
     (l.nodes, l.head, nodes_stand q, (is_sound q).nodes_good, (is_sound q).head_good.few_cues)
 
-pub check_short-requires-clause-has_lines : goal.check_short-requires-clause-has_lines
+pub check_within-requires-clause-has_lines : goal.check_within-requires-clause-has_lines
 unfolding text_most
-check_short-requires-clause-has_lines c =
+check_within-requires-clause-has_lines c =
     let a = c.args in
     let digits = c.surplus_of in
     let (k, p, b, h) = c.requires.printable in
@@ -86,11 +86,11 @@ returns-then-length-le-SHORT c = λ k p b h.
     let q = choice_put p a.base b a.choice.now h digits.result digits.ensures short put.new.fields put.ensures in
     let l = case_with a.choice.now k in
     let lines = has_lines q c.sum_lines-sum.result.next (c.sum_lines-sum.ensures l.nodes (nodes_stand q)).3 in
-    choice_answers p a.base b a.choice.now h digits.result digits.ensures (c.check_short.ensures (lines_of l) lines)
+    choice_answers p a.base b a.choice.now h digits.result digits.ensures (c.check_within.ensures (lines_of l) lines)
 
-pub check_any-requires-clause-has_lines : goal.check_any-requires-clause-has_lines
+pub check_within-requires-2-clause-has_lines : goal.check_within-requires-2-clause-has_lines
 unfolding text_most
-check_any-requires-clause-has_lines c =
+check_within-requires-2-clause-has_lines c =
     let a = c.args in
     let digits = c.surplus_of in
     let (k, p, b, h) = c.requires.printable in
@@ -113,4 +113,18 @@ returns c = λ k p b h.
     let q = choice_put p a.base b a.choice.now h digits.result digits.ensures short put.new.fields put.ensures in
     let l = case_with a.choice.now k in
     let lines = has_lines q c.sum_lines-sum.result.next (c.sum_lines-sum.ensures l.nodes (nodes_stand q)).3 in
-    choice_answers p a.base b a.choice.now h digits.result digits.ensures (c.check_any.ensures (lines_of l) lines)
+    choice_answers p a.base b a.choice.now h digits.result digits.ensures (c.check_within-2.ensures (lines_of l) lines)
+
+pub check_within-requires-clause-state_need_in_bounds : goal.check_within-requires-clause-state_need_in_bounds
+unfolding text_most
+check_within-requires-clause-state_need_in_bounds c =
+    let p = c.requires.state_need_in_bounds in
+    let short : 4096 ≤ 65535 = omega arith in
+    (p.0, p.1, short)
+
+pub check_within-requires-2-clause-state_need_in_bounds : goal.check_within-requires-2-clause-state_need_in_bounds
+unfolding text_most
+check_within-requires-2-clause-state_need_in_bounds c =
+    let p = c.requires.state_need_in_bounds in
+    let most : 65535 ≤ 65535 = omega arith in
+    (p.0, p.1, most)

@@ -1,52 +1,59 @@
 -- `read_form`: by the opening line, the lines up to the root line, those after it, and what follows them (Whole). Assumes nothing.
+use mathlib.Core.Path.{subst}
 use native.Mathlib.Omega.{arith}
-use Rattle.forms.proofs.Whole.{fronts_few, no_opening, front_refusal, back_refusal, backs_few, more_refusal, whole}
+use Rattle.std.proofs.lemmas.Result.{err_from_is_err_and}
+use Rattle.shapes.specs.Shapes.{OpeningIs}
+use Rattle.forms.proofs.Answered.{there, missing}
+use Rattle.forms.proofs.Whole.{no_opening, front_refusal, back_refusal, backs_few, more_refusal, whole}
 use Rattle.forms.proofs.read_form.Goals as goal
 
-pub returns-then-second-eq0 : goal.returns-then-second-eq0
-returns-then-second-eq0 c =
+pub returns-in_err-second : goal.returns-in_err-second
+returns-in_err-second c =
     let a = c.args in
-    λ k ns t ms h. no_opening k ns a.form.now _ c.past_opening-second.ensures c.if-second-eq0.true _ _ _
+    let m = missing c.past_opening.result _ _ c.in_err-second.ensures.value in
+    let p = err_from_is_err_and c.from_residual.result c.from_residual.ensures.1 in
+    let o = subst (OpeningIs a.form.now) m.0 c.past_opening.ensures in
+    λ k ns t. rw (p.1, p.2, m.1) (no_opening k ns a.form.now o _ _ _)
+
+pub returns-in_err-fronts : goal.returns-in_err-fronts
+returns-in_err-fronts c =
+    let a = c.args in
+    let o = subst (OpeningIs a.form.now) (there c.past_opening.result _ _ c.in_ok-second.ensures.value) c.past_opening.ensures in
+    let p = err_from_is_err_and c.from_residual-in_err-fronts.result c.from_residual-in_err-fronts.ensures.1 in
+    λ k ns t. rw (p.1, p.2) (front_refusal k ns a.form.now _ o _ _ _ (c.in_err-fronts.ensures k ns t) _)
+
+pub returns-in_err-backs : goal.returns-in_err-backs
+returns-in_err-backs c =
+    let a = c.args in
+    let o = subst (OpeningIs a.form.now) (there c.past_opening.result _ _ c.in_ok-second.ensures.value) c.past_opening.ensures in
+    let p = err_from_is_err_and c.from_residual-in_err-backs.result c.from_residual-in_err-backs.ensures.1 in
+    λ k ns t. rw (p.1, p.2)
+    (back_refusal k ns a.form.now _ o _ _ _ (c.in_ok-fronts.ensures k ns t) _ _ _ _ (c.in_err-backs.ensures k ns t))
 
 pub overflow_cast-result : goal.overflow_cast-result
 overflow_cast-result c =
     let a = c.args in
-    let f = c.read_fronts in
-    let b = c.read_backs in
-    let few = backs_few c.requires.tasks.0 c.requires.tasks.1 a.form.now _ c.past_opening-second.ensures c.if-second-eq0.false f.result _ _ (f.ensures c.requires.tasks.0 c.requires.tasks.1 c.requires.tasks.2) _ _ _ c.in-Read.is b.result _ _ _ (b.ensures c.requires.tasks.0 c.requires.tasks.1 c.requires.tasks.2 c.requires.tasks.3 c.requires.tasks.4) _ _ c.in-Read-read_backs.is in
+    let r = c.requires.modelled in
+    let o = subst (OpeningIs a.form.now) (there c.past_opening.result _ _ c.in_ok-second.ensures.value) c.past_opening.ensures in
+    let few = backs_few r.0 r.1 a.form.now _ o _ _ _ (c.in_ok-fronts.ensures r.0 r.1 r.2) _ _ _ _ (c.in_ok-backs.ensures r.0 r.1 r.2) in
     omega arith
 
 pub overflow_add-result : goal.overflow_add-result
 overflow_add-result c =
     let a = c.args in
-    let f = c.read_fronts in
-    let b = c.read_backs in
-    let few = backs_few c.requires.tasks.0 c.requires.tasks.1 a.form.now _ c.past_opening-second.ensures c.if-second-eq0.false f.result _ _ (f.ensures c.requires.tasks.0 c.requires.tasks.1 c.requires.tasks.2) _ _ _ c.in-Read.is b.result _ _ _ (b.ensures c.requires.tasks.0 c.requires.tasks.1 c.requires.tasks.2 c.requires.tasks.3 c.requires.tasks.4) _ _ c.in-Read-read_backs.is in
+    let r = c.requires.modelled in
+    let o = subst (OpeningIs a.form.now) (there c.past_opening.result _ _ c.in_ok-second.ensures.value) c.past_opening.ensures in
+    let few = backs_few r.0 r.1 a.form.now _ o _ _ _ (c.in_ok-fronts.ensures r.0 r.1 r.2) _ _ _ _ (c.in_ok-backs.ensures r.0 r.1 r.2) in
     omega arith
 
-pub returns-then-after-form : goal.returns-then-after-form
-returns-then-after-form c =
+pub returns-then-backs-form : goal.returns-then-backs-form
+returns-then-backs-form c =
     let a = c.args in
-    let f = c.read_fronts in
-    let b = c.read_backs in
-    λ k ns t ms h. more_refusal k ns a.form.now _ c.past_opening-second.ensures c.if-second-eq0.false f.result _ _ (f.ensures k ns t) _ _ _ c.in-Read.is b.result _ _ _ (b.ensures k ns t ms h) _ _ c.in-Read-read_backs.is c.if-after-form.true
+    let o = subst (OpeningIs a.form.now) (there c.past_opening.result _ _ c.in_ok-second.ensures.value) c.past_opening.ensures in
+    λ k ns t. more_refusal k ns a.form.now _ o _ _ _ (c.in_ok-fronts.ensures k ns t) _ _ _ _ (c.in_ok-backs.ensures k ns t) c.if-backs-form.true
 
-pub returns-else-after-form : goal.returns-else-after-form
-returns-else-after-form c =
+pub returns : goal.returns
+returns c =
     let a = c.args in
-    let f = c.read_fronts in
-    let b = c.read_backs in
-    λ k ns t ms h. whole k ns a.form.now _ c.past_opening-second.ensures c.if-second-eq0.false f.result _ _ (f.ensures k ns t) _ _ _ c.in-Read.is b.result _ _ _ (b.ensures k ns t ms h) _ _ c.in-Read-read_backs.is c.if-after-form.false
-
-pub returns-in-Refused-read_backs : goal.returns-in-Refused-read_backs
-returns-in-Refused-read_backs c =
-    let a = c.args in
-    let f = c.read_fronts in
-    let b = c.read_backs in
-    λ k ns t ms h. back_refusal k ns a.form.now _ c.past_opening-second.ensures c.if-second-eq0.false f.result _ _ (f.ensures k ns t) _ _ _ c.in-Read.is b.result _ _ _ (b.ensures k ns t ms h) _ c.in-Refused-read_backs.is
-
-pub returns-in-Refused : goal.returns-in-Refused
-returns-in-Refused c =
-    let a = c.args in
-    let f = c.read_fronts in
-    λ k ns t ms h. front_refusal k ns a.form.now _ c.past_opening-second.ensures c.if-second-eq0.false f.result _ _ (f.ensures k ns t) _ c.in-Refused.is _ _ _
+    let o = subst (OpeningIs a.form.now) (there c.past_opening.result _ _ c.in_ok-second.ensures.value) c.past_opening.ensures in
+    λ k ns t. whole k ns a.form.now _ o _ _ _ (c.in_ok-fronts.ensures k ns t) _ _ _ _ (c.in_ok-backs.ensures k ns t) c.if-backs-form.false

@@ -29,64 +29,63 @@ module _ (fields : List ℕ) (nodes count p i n : ℕ) (t : Counted surplus_of f
 
 pub offset_bounds-fields-at : goal.offset_bounds-fields-at
 offset_bounds-fields-at c =
-    let l = c.loop-i in
-    let d = inside c.args.fields.now c.args.nodes c.args.count l.at l.i l.digits l.invariant.2 c.requires.nodes_stand c.loop-i-test.true in
+    let l = c.loop in
+    let d = inside c.args.fields.now c.args.nodes c.args.count l.at l.counter l.digits l.invariant.1 c.requires.nodes_stand c.loop-test.true in
     omega arith
 
 pub bounds-fields-at : goal.bounds-fields-at
 bounds-fields-at c =
-    let l = c.loop-i in
-    let d = inside c.args.fields.now c.args.nodes c.args.count l.at l.i l.digits l.invariant.2 c.requires.nodes_stand c.loop-i-test.true in
+    let l = c.loop in
+    let d = inside c.args.fields.now c.args.nodes c.args.count l.at l.counter l.digits l.invariant.1 c.requires.nodes_stand c.loop-test.true in
     omega arith
 
 pub bounds-fields-at-then-letter-eq-EMPTY : goal.bounds-fields-at-then-letter-eq-EMPTY
 bounds-fields-at-then-letter-eq-EMPTY c =
-    let l = c.loop-i in
-    let more = c.loop-i-test.true in
-    let d = inside c.args.fields.now c.args.nodes c.args.count l.at l.i l.digits l.invariant.2 c.requires.nodes_stand more in
+    let l = c.loop in
+    let more = c.loop-test.true in
+    let d = inside c.args.fields.now c.args.nodes c.args.count l.at l.counter l.digits l.invariant.1 c.requires.nodes_stand more in
     let three = size_placed (get_or c.args.fields.now l.at 0) (λ e. omega (arith, c.if-letter-eq-EMPTY.true)) in
     omega arith
 
 pub more_digits-digits-requires : goal.more_digits-digits-requires
 more_digits-digits-requires c =
-    let l = c.loop-i in
-    let more = c.loop-i-test.true in
-    gap_few c.args.fields.now c.args.nodes c.args.count l.at l.i l.digits l.invariant.2 c.requires.nodes_stand more (λ e. omega (arith, c.if-letter-eq-EMPTY.true))
+    let l = c.loop in
+    let more = c.loop-test.true in
+    gap_few c.args.fields.now c.args.nodes c.args.count l.at l.counter l.digits l.invariant.1 c.requires.nodes_stand more (λ e. omega (arith, c.if-letter-eq-EMPTY.true))
 
 pub overflow_add-digits : goal.overflow_add-digits
 overflow_add-digits c =
-    let l = c.loop-i in
-    let more = c.loop-i-test.true in
-    let few = gap_few c.args.fields.now c.args.nodes c.args.count l.at l.i l.digits l.invariant.2 c.requires.nodes_stand more (λ e. omega (arith, c.if-letter-eq-EMPTY.true)) in
+    let l = c.loop in
+    let more = c.loop-test.true in
+    let few = gap_few c.args.fields.now c.args.nodes c.args.count l.at l.counter l.digits l.invariant.1 c.requires.nodes_stand more (λ e. omega (arith, c.if-letter-eq-EMPTY.true)) in
     let own = digits_few (get_or c.args.fields.now (l.at + 2) 0) few in
     let is = c.more_digits-digits.ensures in
     omega arith
 
-pub overflow_add-at-in-loop-i : goal.overflow_add-at-in-loop-i
-overflow_add-at-in-loop-i c =
-    let l = c.loop-i in
-    let more = c.loop-i-test.true in
-    let d = inside c.args.fields.now c.args.nodes c.args.count l.at l.i l.digits l.invariant.2 c.requires.nodes_stand more in
+pub overflow_add-at-in-loop : goal.overflow_add-at-in-loop
+overflow_add-at-in-loop c =
+    let l = c.loop in
+    let more = c.loop-test.true in
+    let d = inside c.args.fields.now c.args.nodes c.args.count l.at l.counter l.digits l.invariant.1 c.requires.nodes_stand more in
     let size = c.node_size-at.ensures in
     omega arith
 
-pub loop-i-preserved : goal.loop-i-preserved
-loop-i-preserved c =
+pub loop-preserved : goal.loop-preserved
+loop-preserved c =
     let fields = c.args.fields.now in
-    let l = c.loop-i in
-    let more = c.loop-i-test.true in
-    let few = gap_few fields c.args.nodes c.args.count l.at l.i l.digits l.invariant.2 c.requires.nodes_stand more in (
-      omega arith,
+    let l = c.loop in
+    let more = c.loop-test.true in
+    let few = gap_few fields c.args.nodes c.args.count l.at l.counter l.digits l.invariant.1 c.requires.nodes_stand more in (
       elim c.if-letter-eq-EMPTY.branch [
         | then-letter-eq-EMPTY w ↦
             omega (arith, digits_few (get_or fields (l.at + 2) 0) (few (λ e. omega (arith, w.if-letter-eq-EMPTY.true))), w.more_digits-digits.ensures, w.digits-is)
         | else-letter-eq-EMPTY w ↦ omega (arith, w.digits-is)
       ],
-      counting_on surplus_of fields c.args.nodes c.args.count l.at l.i l.digits l.invariant.2 more c.if-letter-eq-EMPTY.digits c.node_size-at.result
+      counting_on surplus_of fields c.args.nodes c.args.count l.at l.counter l.digits l.invariant.1 more c.if-letter-eq-EMPTY.digits c.node_size-at.result
           c.node_size-at.ensures
           (λ ns d. elim c.if-letter-eq-EMPTY.branch [
             | then-letter-eq-EMPTY w ↦
-                let own = due_those over_surplus fields l.at ns l.i d w.if-letter-eq-EMPTY.true (λ q. omega arith) in omega (arith, w.more_digits-digits.ensures, w.digits-is)
-            | else-letter-eq-EMPTY w ↦ let own = due_others over_surplus fields l.at ns l.i d w.if-letter-eq-EMPTY.false in omega (arith, w.digits-is)
+                let own = due_those over_surplus fields l.at ns l.counter d w.if-letter-eq-EMPTY.true (λ q. omega arith) in omega (arith, w.more_digits-digits.ensures, w.digits-is)
+            | else-letter-eq-EMPTY w ↦ let own = due_others over_surplus fields l.at ns l.counter d w.if-letter-eq-EMPTY.false in omega (arith, w.digits-is)
           ]),
     )

@@ -15,35 +15,34 @@ inside fields nodes count p i n t (ns, w) more = due_inside fields p ns i (due_o
 
 pub offset_bounds-fields-at : goal.offset_bounds-fields-at
 offset_bounds-fields-at c =
-    let l = c.loop-i in
-    let d = inside c.args.fields.now c.args.nodes c.args.count l.at l.i l.empties l.invariant.2 c.requires.nodes_stand c.loop-i-test.true in
+    let l = c.loop in
+    let d = inside c.args.fields.now c.args.nodes c.args.count l.at l.counter l.empties l.invariant.1 c.requires.nodes_stand c.loop-test.true in
     omega arith
 
 pub bounds-fields-at : goal.bounds-fields-at
 bounds-fields-at c =
-    let l = c.loop-i in
-    let d = inside c.args.fields.now c.args.nodes c.args.count l.at l.i l.empties l.invariant.2 c.requires.nodes_stand c.loop-i-test.true in
+    let l = c.loop in
+    let d = inside c.args.fields.now c.args.nodes c.args.count l.at l.counter l.empties l.invariant.1 c.requires.nodes_stand c.loop-test.true in
     omega arith
 
 pub overflow_add-at : goal.overflow_add-at
 overflow_add-at c =
-    let l = c.loop-i in
-    let more = c.loop-i-test.true in
-    let d = inside c.args.fields.now c.args.nodes c.args.count l.at l.i l.empties l.invariant.2 c.requires.nodes_stand more in
+    let l = c.loop in
+    let more = c.loop-test.true in
+    let d = inside c.args.fields.now c.args.nodes c.args.count l.at l.counter l.empties l.invariant.1 c.requires.nodes_stand more in
     let size = c.node_size-at.ensures in
     omega arith
 
-pub loop-i-preserved : goal.loop-i-preserved
-loop-i-preserved c =
+pub loop-preserved : goal.loop-preserved
+loop-preserved c =
     let fields = c.args.fields.now in
-    let l = c.loop-i in
-    let more = c.loop-i-test.true in (
-      omega arith,
+    let l = c.loop in
+    let more = c.loop-test.true in (
       elim c.if-letter-eq-EMPTY.branch [ then-letter-eq-EMPTY w ↦ omega arith | else-letter-eq-EMPTY w ↦ omega arith ],
-      counting_on empty_count fields c.args.nodes c.args.count l.at l.i l.empties l.invariant.2 more c.if-letter-eq-EMPTY.empties c.node_size-at.result
+      counting_on empty_count fields c.args.nodes c.args.count l.at l.counter l.empties l.invariant.1 more c.if-letter-eq-EMPTY.empties c.node_size-at.result
           c.node_size-at.ensures
           (λ ns d. elim c.if-letter-eq-EMPTY.branch [
-            | then-letter-eq-EMPTY w ↦ let own = due_those over_empties fields l.at ns l.i d w.if-letter-eq-EMPTY.true (λ q. omega arith) in omega (arith, w.empties-is)
-            | else-letter-eq-EMPTY w ↦ let own = due_others over_empties fields l.at ns l.i d w.if-letter-eq-EMPTY.false in omega (arith, w.empties-is)
+            | then-letter-eq-EMPTY w ↦ let own = due_those over_empties fields l.at ns l.counter d w.if-letter-eq-EMPTY.true (λ q. omega arith) in omega (arith, w.empties-is)
+            | else-letter-eq-EMPTY w ↦ let own = due_others over_empties fields l.at ns l.counter d w.if-letter-eq-EMPTY.false in omega (arith, w.empties-is)
           ]),
     )

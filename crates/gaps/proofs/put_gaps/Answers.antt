@@ -1,9 +1,9 @@
 -- `put_gaps`: the lines passed hold the gaps of the choice, the lines left are as they came. Assumes nothing.
-use mathlib.Core.Path.{◌≡◌, sym, ap, subst, ◌∙◌}
+use mathlib.Core.Path.{◌≡◌, sym, subst}
 use mathlib.Core.List.{List}
 use Prim.Native.Nat.{ℕ, ◌+◌, ◌≤◌, ◌<◌}
 use native.Mathlib.Omega.{arith}
-use lib.ListN.{length, get_or, set, length-set}
+use lib.ListN.{length, get_or, set}
 use Rattle.rules.specs.Case.{NodeLine}
 use Rattle.rules.specs.Gaps.{empty_count}
 use Rattle.fields.specs.Directory.{node_size}
@@ -44,78 +44,71 @@ module _ (start choice : List ℕ) (nodes count : ℕ) (fields : List ℕ) (p i 
 pub offset_bounds-fields-at : goal.offset_bounds-fields-at
 offset_bounds-fields-at c =
     let a = c.args in
-    let l = c.loop-i in
-    let d = inside a.fields.now a.choice.now a.nodes a.count l.fields l.at l.i l.a l.invariant.2 c.loop-i-test.true c.requires in
+    let l = c.loop in
+    let d = inside a.fields.now a.choice.now a.nodes a.count l.fields l.at l.counter l.a l.invariant c.loop-test.true c.requires in
     omega arith
 
 pub bounds-fields-at : goal.bounds-fields-at
 bounds-fields-at c =
     let a = c.args in
-    let l = c.loop-i in
-    let d = inside a.fields.now a.choice.now a.nodes a.count l.fields l.at l.i l.a l.invariant.2 c.loop-i-test.true c.requires in
+    let l = c.loop in
+    let d = inside a.fields.now a.choice.now a.nodes a.count l.fields l.at l.counter l.a l.invariant c.loop-test.true c.requires in
     omega arith
 
 pub offset_bounds-choice-a : goal.offset_bounds-choice-a
 offset_bounds-choice-a c =
     let a = c.args in
-    let l = c.loop-i in
-    let more = c.loop-i-test.true in
-    let left = gap_left a.fields.now a.choice.now a.nodes a.count l.fields l.at l.i l.a l.invariant.2 more c.if-letter-eq-EMPTY.true c.requires in
+    let l = c.loop in
+    let more = c.loop-test.true in
+    let left = gap_left a.fields.now a.choice.now a.nodes a.count l.fields l.at l.counter l.a l.invariant more c.if-letter-eq-EMPTY.true c.requires in
     omega arith
 
 pub bounds-choice-a : goal.bounds-choice-a
 bounds-choice-a c =
     let a = c.args in
-    let l = c.loop-i in
-    let more = c.loop-i-test.true in
-    gap_left a.fields.now a.choice.now a.nodes a.count l.fields l.at l.i l.a l.invariant.2 more c.if-letter-eq-EMPTY.true c.requires
+    let l = c.loop in
+    let more = c.loop-test.true in
+    gap_left a.fields.now a.choice.now a.nodes a.count l.fields l.at l.counter l.a l.invariant more c.if-letter-eq-EMPTY.true c.requires
 
 pub bounds-fields-at-then-letter-eq-EMPTY : goal.bounds-fields-at-then-letter-eq-EMPTY
 bounds-fields-at-then-letter-eq-EMPTY c =
     let a = c.args in
-    let l = c.loop-i in
-    let more = c.loop-i-test.true in
-    let d = inside a.fields.now a.choice.now a.nodes a.count l.fields l.at l.i l.a l.invariant.2 more c.requires in
+    let l = c.loop in
+    let more = c.loop-test.true in
+    let d = inside a.fields.now a.choice.now a.nodes a.count l.fields l.at l.counter l.a l.invariant more c.requires in
     let three = size_placed (get_or l.fields l.at 0) (λ e. omega (arith, c.if-letter-eq-EMPTY.true)) in
     omega arith
 
 pub overflow_add-a : goal.overflow_add-a
 overflow_add-a c =
     let a = c.args in
-    let l = c.loop-i in
-    let more = c.loop-i-test.true in
-    let left = gap_left a.fields.now a.choice.now a.nodes a.count l.fields l.at l.i l.a l.invariant.2 more c.if-letter-eq-EMPTY.true c.requires in
+    let l = c.loop in
+    let more = c.loop-test.true in
+    let left = gap_left a.fields.now a.choice.now a.nodes a.count l.fields l.at l.counter l.a l.invariant more c.if-letter-eq-EMPTY.true c.requires in
     omega arith
 
 pub overflow_add-at : goal.overflow_add-at
 overflow_add-at c =
     let a = c.args in
-    let l = c.loop-i in
-    let more = c.loop-i-test.true in
-    let d = inside a.fields.now a.choice.now a.nodes a.count l.fields l.at l.i l.a l.invariant.2 more c.requires in
+    let l = c.loop in
+    let more = c.loop-test.true in
+    let d = inside a.fields.now a.choice.now a.nodes a.count l.fields l.at l.counter l.a l.invariant more c.requires in
     let size = c.node_size-at.ensures in
     omega arith
 
-pub loop-i-preserved : goal.loop-i-preserved
-loop-i-preserved c =
+pub loop-preserved : goal.loop-preserved
+loop-preserved c =
     let a = c.args in
-    let l = c.loop-i in
-    let more = c.loop-i-test.true in
-    let long = l.invariant.1 in
+    let l = c.loop in
+    let more = c.loop-test.true in
     let n = c.if-letter-eq-EMPTY.fields in
     let b = c.if-letter-eq-EMPTY.a in
-    let size = c.node_size-at.ensures in (
-      omega arith,
-      elim c.if-letter-eq-EMPTY.branch [
-        | then-letter-eq-EMPTY w ↦ ap length w.fields-is ∙ length-set l.fields (l.at + 2) _ ∙ long
-        | else-letter-eq-EMPTY w ↦ ap length w.fields-is ∙ long
-      ],
-      elim c.if-letter-eq-EMPTY.branch [
-        | then-letter-eq-EMPTY w ↦
-            puts_here a.fields.now a.choice.now a.nodes a.count l.fields l.at l.i l.a l.invariant.2 more n b c.node_size-at.result size
-            w.if-letter-eq-EMPTY.true w.fields-is w.a-is
-        | else-letter-eq-EMPTY w ↦
-            puts_past a.fields.now a.choice.now a.nodes a.count l.fields l.at l.i l.a l.invariant.2 more n b c.node_size-at.result size
-            w.if-letter-eq-EMPTY.false w.fields-is w.a-is
-      ],
-    )
+    let size = c.node_size-at.ensures in
+    elim c.if-letter-eq-EMPTY.branch [
+      | then-letter-eq-EMPTY w ↦
+          puts_here a.fields.now a.choice.now a.nodes a.count l.fields l.at l.counter l.a l.invariant more n b c.node_size-at.result size
+          w.if-letter-eq-EMPTY.true w.fields-is w.a-is
+      | else-letter-eq-EMPTY w ↦
+          puts_past a.fields.now a.choice.now a.nodes a.count l.fields l.at l.counter l.a l.invariant more n b c.node_size-at.result size
+          w.if-letter-eq-EMPTY.false w.fields-is w.a-is
+    ]

@@ -48,81 +48,80 @@ module _ (k : ℕ) (fields : List ℕ) (p : ℕ) (ns : List NodeLine) (i : ℕ) 
       let b = due_others over_high fields p ns i d other in
       (omega arith, omega arith)
 
-pub loop-i-init : goal.loop-i-init
-loop-i-init c = let a = c.args in (omega arith, omega arith, omega arith, sums_start a.cues a.fields.now a.from a.count)
+pub loop-init : goal.loop-init
+loop-init c = let a = c.args in (omega arith, omega arith, sums_start a.cues a.fields.now a.from a.count)
 
 pub offset_bounds-fields-at : goal.offset_bounds-fields-at
 offset_bounds-fields-at c =
     let a = c.args in
-    let l = c.loop-i in
-    let d = inside a.cues a.fields.now a.from a.count l.at l.i l.low l.high l.empties l.invariant.3 c.requires.nodes_stand c.loop-i-test.true in
+    let l = c.loop in
+    let d = inside a.cues a.fields.now a.from a.count l.at l.counter l.low l.high l.empties l.invariant.2 c.requires.nodes_stand c.loop-test.true in
     omega arith
 
 pub bounds-fields-at : goal.bounds-fields-at
 bounds-fields-at c =
     let a = c.args in
-    let l = c.loop-i in
-    let d = inside a.cues a.fields.now a.from a.count l.at l.i l.low l.high l.empties l.invariant.3 c.requires.nodes_stand c.loop-i-test.true in
+    let l = c.loop in
+    let d = inside a.cues a.fields.now a.from a.count l.at l.counter l.low l.high l.empties l.invariant.2 c.requires.nodes_stand c.loop-test.true in
     omega arith
 
 pub bounds-fields-at-then-letter-eq-LEAF : goal.bounds-fields-at-then-letter-eq-LEAF
 bounds-fields-at-then-letter-eq-LEAF c =
     let a = c.args in
-    let l = c.loop-i in
-    let more = c.loop-i-test.true in
-    let d = inside a.cues a.fields.now a.from a.count l.at l.i l.low l.high l.empties l.invariant.3 c.requires.nodes_stand more in
+    let l = c.loop in
+    let more = c.loop-test.true in
+    let d = inside a.cues a.fields.now a.from a.count l.at l.counter l.low l.high l.empties l.invariant.2 c.requires.nodes_stand more in
     let three = size_placed (get_or a.fields.now l.at 0) (λ e. omega (arith, c.if-letter-eq-LEAF.true)) in
     omega arith
 
 pub overflow_mul-index : goal.overflow_mul-index
 overflow_mul-index c =
     let a = c.args in
-    let l = c.loop-i in
-    let more = c.loop-i-test.true in
-    let few = cue_few a.cues a.fields.now a.from a.count l.at l.i l.low l.high l.empties l.invariant.3 c.requires.nodes_stand more
+    let l = c.loop in
+    let more = c.loop-test.true in
+    let few = cue_few a.cues a.fields.now a.from a.count l.at l.counter l.low l.high l.empties l.invariant.2 c.requires.nodes_stand more
     (λ e. omega (arith, c.if-letter-eq-LEAF.true)) in
     omega arith
 
 pub overflow_add-at : goal.overflow_add-at
 overflow_add-at c =
     let a = c.args in
-    let l = c.loop-i in
-    let more = c.loop-i-test.true in
-    let d = inside a.cues a.fields.now a.from a.count l.at l.i l.low l.high l.empties l.invariant.3 c.requires.nodes_stand more in
+    let l = c.loop in
+    let more = c.loop-test.true in
+    let d = inside a.cues a.fields.now a.from a.count l.at l.counter l.low l.high l.empties l.invariant.2 c.requires.nodes_stand more in
     let size = c.node_size-at.ensures in
     omega arith
 
-pub loop-i-preserved : goal.loop-i-preserved
-loop-i-preserved c =
+pub loop-preserved : goal.loop-preserved
+loop-preserved c =
     let a = c.args in
     let f = a.fields.now in
-    let l = c.loop-i in
-    let more = c.loop-i-test.true in
-    let few = l.invariant.2 in
+    let l = c.loop in
+    let more = c.loop-test.true in
+    let few = l.invariant.1 in
     let low = c.if-letter-eq-LEAF.low in
     let high = c.if-letter-eq-LEAF.high in
     let empties = c.if-letter-eq-EMPTY.empties in
-    let joined : (ns : List NodeLine) (d : Due f l.at ns l.i) → Joined a.cues f l.at ns l.i d l.low l.high low high =
+    let joined : (ns : List NodeLine) (d : Due f l.at ns l.counter) → Joined a.cues f l.at ns l.counter d l.low l.high low high =
     λ ns d. elim c.if-letter-eq-LEAF.branch [
       | then-letter-eq-LEAF w ↦
-          cue_joined a.cues f l.at ns l.i d l.low l.high low high w.if-letter-eq-LEAF.true (omega (arith, w.lesser-low.ensures, w.low-is))
-          (omega (arith, w.greater-high.ensures, w.high-is))
-      | else-letter-eq-LEAF w ↦ none_joined a.cues f l.at ns l.i d l.low l.high low high w.if-letter-eq-LEAF.false w.low-is w.high-is
+          cue_joined a.cues f l.at ns l.counter d l.low l.high low high w.if-letter-eq-LEAF.true (omega (arith, w.min-low.ensures, w.low-is))
+          (omega (arith, w.max-high.ensures, w.high-is))
+      | else-letter-eq-LEAF w ↦ none_joined a.cues f l.at ns l.counter d l.low l.high low high w.if-letter-eq-LEAF.false w.low-is w.high-is
     ] in
-    let counted : (ns : List NodeLine) → Due f l.at ns l.i → empties + empty_count (drop (l.i + 1) ns) ≡ l.empties + empty_count (drop l.i ns) =
+    let counted : (ns : List NodeLine) → Due f l.at ns l.counter → empties + empty_count (drop (l.counter + 1) ns) ≡ l.empties + empty_count (drop l.counter ns) =
     λ ns d. elim c.if-letter-eq-EMPTY.branch [
-      | then-letter-eq-EMPTY w ↦ let own = due_those over_empties f l.at ns l.i d w.if-letter-eq-EMPTY.true (λ q. omega arith) in omega (arith, w.empties-is)
-      | else-letter-eq-EMPTY w ↦ let own = due_others over_empties f l.at ns l.i d w.if-letter-eq-EMPTY.false in omega (arith, w.empties-is)
+      | then-letter-eq-EMPTY w ↦ let own = due_those over_empties f l.at ns l.counter d w.if-letter-eq-EMPTY.true (λ q. omega arith) in omega (arith, w.empties-is)
+      | else-letter-eq-EMPTY w ↦ let own = due_others over_empties f l.at ns l.counter d w.if-letter-eq-EMPTY.false in omega (arith, w.empties-is)
     ] in (
-      omega arith,
       elim c.if-letter-eq-EMPTY.branch [ then-letter-eq-EMPTY w ↦ omega (arith, w.empties-is) | else-letter-eq-EMPTY w ↦ omega (arith, w.empties-is) ],
-      elim c.if-letter-eq-LEAF.branch [ then-letter-eq-LEAF w ↦ omega (arith, w.lesser-low.ensures, w.low-is) | else-letter-eq-LEAF w ↦ omega (arith, w.low-is) ],
-      sums_on a.cues f a.from a.count l.at l.i l.low l.high l.empties l.invariant.3 more low high empties c.node_size-at.result c.node_size-at.ensures
+      elim c.if-letter-eq-LEAF.branch [ then-letter-eq-LEAF w ↦ omega (arith, w.min-low.ensures, w.low-is) | else-letter-eq-LEAF w ↦ omega (arith, w.low-is) ],
+      sums_on a.cues f a.from a.count l.at l.counter l.low l.high l.empties l.invariant.2 more low high empties c.node_size-at.result c.node_size-at.ensures
           (λ ns d. record { least = (joined ns d).0; greatest = (joined ns d).1; number = counted ns d }),
     )
 
 pub returns : goal.returns
 returns c =
     let a = c.args in
-    let l = c.loop-i in
-    sums_end a.cues a.fields.now a.from a.count l.at l.i l.low l.high l.empties l.invariant.3 l.invariant.2 c.loop-i-test.false
+    let l = c.loop in
+    sums_end a.cues a.fields.now a.from a.count l.at l.counter l.low l.high l.empties l.invariant.2 l.invariant.1 c.loop-test.false

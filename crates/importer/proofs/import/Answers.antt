@@ -6,18 +6,17 @@ use lib.ListN.{length}
 use Rattle.rules.specs.Result.{refused}
 use Rattle.rules.specs.Verdict.{check_lists}
 use Rattle.judge.specs.Phases.{rows_ahead}
-use Rattle.judge.proofs.Verdicts.{admit_passes, admit_rows}
 use Rattle.finder.proofs.Rows.{all_long}
 use Rattle.importer.specs.Importing.{made_text, from_made, LimitedTo, Imports}
 use Rattle.importer.proofs.Rows.{short_text, all_passed, all_refused}
 use Rattle.importer.proofs.import.Goals as goal
 
-pub returns-in-Passed : goal.returns-in-Passed
-returns-in-Passed c =
+pub returns-in-Ok : goal.returns-in-Ok
+returns-in-Ok c =
     let a = c.args in
     let cleared = c.clear in
     let kept : length cleared.new.list ≡ length a.states.now = cleared.auto.list in
-    let p = admit_passes (length cleared.new.list) a.node_room (length a.work.now) a.text.now c.admit.ensures c.in-Passed.is in
+    let p = c.in-Ok.ensures in
     let room = p.0 in
     let b = c.import_lent in
     let m = made_text (length a.output.now) a.text.now a.names.now a.form.now in
@@ -30,12 +29,12 @@ returns-in-Passed c =
     (length a.output.now) b.result b.new.states b.new.work b.new.output)
     kept b.ensures)
 
-pub returns-in-Refused : goal.returns-in-Refused
-returns-in-Refused c =
+pub returns-in-Err : goal.returns-in-Err
+returns-in-Err c =
     let a = c.args in
     let cleared = c.clear in
-    let x = c.in-Refused.answer in
-    let e = admit_rows (length cleared.new.list) a.node_room (length a.work.now) a.text.now c.admit.ensures x c.in-Refused.is in
+    let x = c.in-Err.answer in
+    let e = c.in-Err.ensures in
     let rows : rows_ahead (length a.states.now) a.node_room (length a.work.now) a.text.now ≡ refused x =
     ap (λ (n : ℕ). rows_ahead n a.node_room (length a.work.now) a.text.now) (sym cleared.auto.list) ∙ e in
     let lists = check_lists (length a.states.now) a.node_room (length a.work.now) in

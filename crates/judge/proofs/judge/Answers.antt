@@ -9,21 +9,21 @@ use mathlib.Core.Path.{◌≡◌, refl, ap, sym, ◌∙◌}
 use native.Mathlib.Omega.{arith}
 use Rattle.judge.proofs.judge.Goals as goal
 
-pub returns-in-Passed : goal.returns-in-Passed
-returns-in-Passed c =
+pub returns-in-Ok : goal.returns-in-Ok
+returns-in-Ok c =
     let a = c.args in
     let kept : length c.clear.new.list ≡ length a.states.now = c.clear.auto.list in
-    let p = admit_passes (length c.clear.new.list) a.node_room (length a.work.now) a.text.now c.admit.ensures c.in-Passed.is in
+    let p = admit_passes (length c.clear.new.list) a.node_room (length a.work.now) a.text.now c.admit.ensures c.in-Ok.is in
     let room = p.0 in
     let r = answers_as (sym (long_lists (length a.states.now) a.node_room (length a.work.now) a.text.now (omega arith) p.1 p.2)) kept
     c.judge_lent.ensures in
     record { value = r.answer; states_after = r.states_held; records_held = r.records_held }
 
-pub returns-in-Refused : goal.returns-in-Refused
-returns-in-Refused c =
+pub returns-in-Err : goal.returns-in-Err
+returns-in-Err c =
     let a = c.args in
     let cleared = c.clear in
-    let x = c.in-Refused in
+    let x = c.in-Err in
     let e = admit_refuses (length cleared.new.list) a.node_room (length a.work.now) a.text.now c.admit.ensures x.answer x.is in
     let lists : check (check_lists (length a.states.now) a.node_room (length a.work.now)) a.text.now ≡ refused x.answer =
     ap (λ (n : ℕ). check (check_lists n a.node_room (length a.work.now)) a.text.now) (sym cleared.auto.list) ∙ e in

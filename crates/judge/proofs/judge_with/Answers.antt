@@ -16,18 +16,18 @@ write_records-requires-clause-nodes_stand c =
     let said = c.first_broken-kept.ensures.value k p.walked.tree (constraints_ready p) in
     (k.nodes, nodes_ask p said)
 
-pub returns-in-All : goal.returns-in-All
-returns-in-All c =
+pub returns-in-Ok : goal.returns-in-Ok
+returns-in-Ok c =
     let b = c.first_broken-kept in
     let z = c.write_records in
     λ k p.
     let said = b.ensures.value k p.walked.tree (constraints_ready p) in
-    records_done p said b.ensures.leaves c.in-All.is z.new.work (z.ensures k.nodes (nodes_ask p said))
+    records_done p said b.ensures.leaves c.in-Ok.is z.new.work (z.ensures k.nodes (nodes_ask p said))
 
-pub returns-in-Broken : goal.returns-in-Broken
-returns-in-Broken c =
+pub returns-in-Err : goal.returns-in-Err
+returns-in-Err c =
     let b = c.first_broken-kept in
-    let x = c.in-Broken in
+    let x = c.in-Err in
     let z = c.refuse in
     λ k p.
     let said = b.ensures.value k p.walked.tree (constraints_ready p) in

@@ -1,15 +1,16 @@
 -- `open_run`: every cue applies, and the tree follows; or one does not, and the state list is cleared. Assumes nothing.
 use Prim.Native.Nat.{ℕ}
-use Rattle.judge.proofs.Openings.{goes_refused, goes_ran}
+use Rattle.judge.proofs.Openings.{goes_ran}
 use Rattle.judge.proofs.Phases.{open_left, open_few, run_stops, run_passes}
 use Rattle.judge.proofs.Verdicts.{run_refused}
 use Rattle.judge.specs.Phases.{from_claimed}
-use Rattle.judge.specs.declared.Opening.TheVariants.{Refused}
 use Rattle.rules.specs.State.{word_count}
 use Rattle.rules.specs.Verdict.{state_need}
+use Rattle.rules.specs.Result.{refused}
+use Rattle.rules.specs.declared.Answer.{Answer}
 use Rattle.rules.specs.declared.Answer.TheVariants.{Inapplicable}
 use lib.ListN.{replicate}
-use mathlib.Core.Path.{ap, ◌∙◌}
+use mathlib.Core.Path.{sym, ap, ◌∙◌}
 use native.Mathlib.Omega.{arith}
 use Rattle.judge.proofs.open_run.Goals as goal
 
@@ -29,24 +30,24 @@ open_nodes-requires c =
     let a = c.args in
     let (k, p) = c.requires in
     let b = c.run in
-    (k, record { initial = a.initial; opens = p.opens; run = run_passes p.opens (b.ensures k (open_left p.opens)) c.in-All.is p.states_zero p.state_room b.auto.states })
+    (k, record { initial = a.initial; opens = p.opens; run = run_passes p.opens (b.ensures k (open_left p.opens)) c.in-Ok.is p.states_zero p.state_room b.auto.states })
 
-pub returns-in-All : goal.returns-in-All
-returns-in-All c =
+pub returns-in-Ok : goal.returns-in-Ok
+returns-in-Ok c =
     let a = c.args in
     let b = c.run in
     λ k p.
-    let passes = run_passes p.opens (b.ensures k (open_left p.opens)) c.in-All.is p.states_zero p.state_room b.auto.states in
+    let passes = run_passes p.opens (b.ensures k (open_left p.opens)) c.in-Ok.is p.states_zero p.state_room b.auto.states in
     goes_ran k _ _ _ c.open_nodes.result _ _ passes.runs b.auto.states
     (c.open_nodes.ensures k (record { initial = a.initial; opens = p.opens; run = passes }))
 
-pub returns-in-Stopped : goal.returns-in-Stopped
-returns-in-Stopped c =
-    let b = c.run in
-    let x = c.in-Stopped in
-    let z = c.refuse_case in
+pub returns-in-Err : goal.returns-in-Err
+returns-in-Err c =
+    let x = c.in-Err in
+    let z = c.refuse in
     λ k p.
-    let stops = run_stops p.opens (b.ensures k (open_left p.opens)) x.cue x.is in
-    goes_refused _ k _ _ _ _ _ (Inapplicable k.plan_line x.cue) (λ rest. run_refused (from_claimed rest) k x.cue stops)
-    (z.ensures.answer ∙ ap (λ (n : ℕ). Refused (Inapplicable n x.cue)) p.opens.planned)
-    (z.ensures.states ∙ ap (λ (n : ℕ). replicate n 0) b.auto.states)
+    let stops = run_stops p.opens (c.run.ensures k (open_left p.opens)) x.field-0 x.is in
+    let same = z.ensures.answer ∙ ap (λ (n : ℕ). Inapplicable n x.field-0.cue) p.opens.planned in (
+      λ rest. run_refused (from_claimed rest) k x.field-0.cue stops ∙ ap (λ (a : Answer). refused a) (sym same),
+      z.ensures.states ∙ ap (λ (n : ℕ). replicate n 0) c.run.auto.states,
+    )

@@ -6,6 +6,7 @@ use Rattle.judge.proofs.Verdicts.{text_refused}
 use Rattle.judge.specs.Phases.{from_claimed}
 use Rattle.rules.specs.Verdict.{text_most, work_need}
 use lib.ListN.{length}
+use Rattle.std.proofs.lemmas.Result.{err_from_is_err_and}
 use mathlib.Core.Path.{◌≡◌}
 use native.Mathlib.Omega.{arith}
 use Rattle.judge.proofs.open_text.Goals as goal
@@ -17,22 +18,23 @@ read_case-requires c =
     let room = p.0.work_room in
     (p.0.short, p.1, omega arith)
 
-pub returns-in-Case : goal.returns-in-Case
-returns-in-Case c =
+pub returns : goal.returns
+returns c =
     let a = c.args in
     let b = c.read_case in
-    let x = c.in-Case in
+    let x = c.in_ok-case in
     let kept : length b.new.directory ≡ length a.work.now = b.auto.directory in
     let room = c.requires.0.work_room in
-    let (k, reads, opens) = read_opens a.text.now b.new.fields b.new.directory b.ensures x.header x.plan_line x.initial x.plan
-    x.nodes x.is c.requires.0.short (omega arith) in
+    let (k, reads, opens) = read_opens a.text.now b.new.fields b.new.directory b.ensures x.case x.was c.requires.0.short (omega arith) in
     goes_opens a.text.now b.new.fields _ c.open_run.result _ _ k reads c.requires.0.short
     (c.open_run.ensures k (record { opens = opens; state_room = c.requires.0.state_room; states_zero = c.requires.0.states_zero }))
 
-pub returns-in-Refused : goal.returns-in-Refused
-returns-in-Refused c =
+pub returns-in_err-case : goal.returns-in_err-case
+returns-in_err-case c =
     let a = c.args in
     let b = c.read_case in
-    let x = c.in-Refused in
-    let refuses = read_refuses a.text.now b.new.fields b.new.directory b.ensures x.answer x.is in
-    (λ rest. text_refused (from_claimed rest) a.text.now x.answer c.requires.0.short refuses, c.requires.0.states_zero)
+    let x = c.in_err-case in
+    let refuses = read_refuses a.text.now b.new.fields b.new.directory b.ensures x.field-0.0 x.was in
+    let p = err_from_is_err_and c.from_residual.result c.from_residual.ensures.1 in
+    rw (p.1, p.2)
+    (λ rest. text_refused (from_claimed rest) a.text.now x.field-0.0 c.requires.0.short refuses, c.requires.0.states_zero)

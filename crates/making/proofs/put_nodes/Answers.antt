@@ -24,64 +24,64 @@ pub visit-w-requires-clause-link_bound : goal.visit-w-requires-clause-link_bound
 visit-w-requires-clause-link_bound c =
     (due_visitable (root_due c.requires.by_index.3 c.requires.room) (omega (arith, c.if-count-eq0.false))).0
 
-pub loop-left-init : goal.loop-left-init
-loop-left-init c =
+pub loop-init : goal.loop-init
+loop-init c =
     let v = c.visit-w in
     let some : 0 < c.args.count = omega (arith, c.if-count-eq0.false) in
-    let first = due_on (root_due c.requires.by_index.3 c.requires.room) some v.result _ _ _ v.ensures v.auto.next v.auto.last in
+    let first = due_on (root_due c.requires.by_index.3 c.requires.room) some v.result _ _ _ v.ensures v.auto.next v.auto.last _ refl in
     (refl, refl, refl, turning_anew first)
 
 pub bounds-links-at : goal.bounds-links-at
 bounds-links-at c =
-    let t = turning_top c.loop-left.invariant.3 c.if-depth-eq0.false in
+    let t = turning_top c.loop.invariant.3 c.if-depth-eq0.false in
     omega arith
 
-pub visit-w-requires-in-loop-left-clause-link_bound : goal.visit-w-requires-in-loop-left-clause-link_bound
-visit-w-requires-in-loop-left-clause-link_bound c =
+pub visit-w-requires-in-loop-clause-link_bound : goal.visit-w-requires-in-loop-clause-link_bound
+visit-w-requires-in-loop-clause-link_bound c =
     let j = c.if-at-end in
     let due =
-    taken c.loop-left.invariant.3 c.if-depth-eq0.false c.wide-link.result c.wide-link.ensures j.next j.w
+    taken c.loop.invariant.3 c.if-depth-eq0.false c.from-link.result c.from-link.ensures j.next j.w
     (elim j.branch [ then-at-end x ↦ inl (x.if-at-end.true, x.next-is, x.w-is) | else-at-end x ↦ inr (x.if-at-end.false, x.next-is, x.w-is) ]) in
-    (due_visitable due c.loop-left-test.true).0
+    (due_visitable due (omega (arith, c.loop-test.true))).0
 
-pub visit-w-requires-in-loop-left-clause-end_in_bounds : goal.visit-w-requires-in-loop-left-clause-end_in_bounds
-visit-w-requires-in-loop-left-clause-end_in_bounds c =
+pub visit-w-requires-in-loop-clause-end_in_bounds : goal.visit-w-requires-in-loop-clause-end_in_bounds
+visit-w-requires-in-loop-clause-end_in_bounds c =
     let j = c.if-at-end in
     let due =
-    taken c.loop-left.invariant.3 c.if-depth-eq0.false c.wide-link.result c.wide-link.ensures j.next j.w
+    taken c.loop.invariant.3 c.if-depth-eq0.false c.from-link.result c.from-link.ensures j.next j.w
     (elim j.branch [ then-at-end x ↦ inl (x.if-at-end.true, x.next-is, x.w-is) | else-at-end x ↦ inr (x.if-at-end.false, x.next-is, x.w-is) ]) in
-    (due_visitable due c.loop-left-test.true).1
+    (due_visitable due (omega (arith, c.loop-test.true))).1
 
-pub loop-left-preserved : goal.loop-left-preserved
-loop-left-preserved c =
-    let l = c.loop-left in
+pub loop-preserved : goal.loop-preserved
+loop-preserved c =
+    let l = c.loop in
     let j = c.if-at-end in
     let due =
-    taken l.invariant.3 c.if-depth-eq0.false c.wide-link.result c.wide-link.ensures j.next j.w
+    taken l.invariant.3 c.if-depth-eq0.false c.from-link.result c.from-link.ensures j.next j.w
     (elim j.branch [ then-at-end x ↦ inl (x.if-at-end.true, x.next-is, x.w-is) | else-at-end x ↦ inr (x.if-at-end.false, x.next-is, x.w-is) ]) in
-    let v = c.visit-w-in-loop-left in
+    let v = c.visit-w-in-loop in
     let long : length j.next ≡ length l.next =
     elim j.branch [ then-at-end x ↦ ap length x.next-is ∙ length-set l.next (l.w.depth - 1) _ | else-at-end x ↦ ap length x.next-is ] in (
       v.auto.fields ∙ l.invariant.0,
       v.auto.next ∙ long ∙ l.invariant.1,
       v.auto.last ∙ l.invariant.2,
-      due_on due c.loop-left-test.true v.result _ _ _ v.ensures v.auto.next v.auto.last,
+      due_on due (omega (arith, c.loop-test.true)) v.result _ _ _ v.ensures v.auto.next v.auto.last _ (omega arith),
     )
 
-pub returns-after-loop-left : goal.returns-after-loop-left
-returns-after-loop-left c =
+pub returns-after-loop : goal.returns-after-loop
+returns-after-loop c =
     let v = c.visit-w in
-    let l = c.loop-left in
+    let l = c.loop in
     let some : 0 < c.args.count = omega (arith, c.if-count-eq0.false) in
-    let first = due_on (root_due c.requires.by_index.3 c.requires.room) some v.result _ _ _ v.ensures v.auto.next v.auto.last in
-    let e = turning_joins first l.fields l.w (turning_ends l.invariant.3 (inl (omega (arith, c.loop-left-test.false)))) in
+    let first = due_on (root_due c.requires.by_index.3 c.requires.room) some v.result _ _ _ v.ensures v.auto.next v.auto.last _ refl in
+    let e = turning_joins first l.fields l.w (turning_ends l.invariant.3 (inl (omega (arith, c.loop-test.false)))) in
     λ es ids id h. ends_stored h c.args.fields.now c.args.from l.fields l.w e _ refl refl
 
 pub returns-then-depth-eq0 : goal.returns-then-depth-eq0
 returns-then-depth-eq0 c =
     let v = c.visit-w in
-    let l = c.loop-left in
+    let l = c.loop in
     let some : 0 < c.args.count = omega (arith, c.if-count-eq0.false) in
-    let first = due_on (root_due c.requires.by_index.3 c.requires.room) some v.result _ _ _ v.ensures v.auto.next v.auto.last in
+    let first = due_on (root_due c.requires.by_index.3 c.requires.room) some v.result _ _ _ v.ensures v.auto.next v.auto.last _ refl in
     let e = turning_joins first l.fields l.w (turning_ends l.invariant.3 (inr c.if-depth-eq0.true)) in
     λ es ids id h. ends_stored h c.args.fields.now c.args.from l.fields l.w e _ refl refl

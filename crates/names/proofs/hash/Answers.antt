@@ -1,24 +1,22 @@
--- `names::hash` meets its contract. The invariant: the bits of the name are those of what is left, from here. Assumes nothing.
-use mathlib.Core.Path.{◌≡◌, refl, sym, ap, ◌∙◌}
-use Prim.Native.Nat.{ℕ, ◌+◌, ◌-◌, ◌*◌, ◌≤◌, ◌<◌, ◌%◌}
-use native.Mathlib.Omega.{arith}
-use lib.ListN.{length, drop}
+-- `names::hash` meets its contract. Assumes nothing.
+use Rattle.std.proofs.Common.{ℕ, ◌+◌, ◌*◌, ◌%◌, drop, arith, sym, ap, ◌∙◌}
 use Rattle.names.specs.Names.{mix, hash_from, cut}
 use Rattle.names.proofs.Keys.{cut_small}
 use Rattle.names.proofs.Bytes.{hash_next, hash_over}
 use Rattle.names.proofs.hash.Goals as goal
 
-pub loop-i-preserved : goal.loop-i-preserved
+pub loop-b-preserved : goal.loop-b-preserved
 unfolding mix
-loop-i-preserved c =
-    let a = c.args in (
+loop-b-preserved c =
+    let a = c.args in
+    let l = c.loop-b in (
       omega arith,
-      omega arith,
-      c.loop-i.invariant.2 ∙ hash_next a.name.now c.loop-i.h c.loop-i.i (omega arith)
-          ∙ ap (λ (b : ℕ). hash_from ((c.loop-i.h * 31 + b) % 4294967296) (drop (c.loop-i.i + 1) a.name.now)) (sym c.wide.ensures),
+      l.invariant.1 ∙ hash_next a.name.now l.h l.b-index c.loop-b-test.true
+          ∙ ap (λ (b : ℕ). hash_from ((l.h * 31 + b) % 4294967296) (drop (l.b-index + 1) a.name.now)) (sym c.from.ensures),
     )
 
 pub returns : goal.returns
 unfolding cut
 returns c =
-    (ap cut (sym (c.loop-i.invariant.2 ∙ hash_over c.args.name.now c.loop-i.h c.loop-i.i (omega arith))), cut_small c.loop-i.h)
+    let l = c.loop-b in
+    (ap cut (sym (l.invariant.1 ∙ hash_over c.args.name.now l.h l.b-index c.loop-b-test.false)), cut_small l.h)

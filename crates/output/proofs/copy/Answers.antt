@@ -1,21 +1,14 @@
--- `copy`: the bytes before i are put (Putting). Assumes nothing.
-use mathlib.Core.Path.{◌≡◌, ap, ◌∙◌}
-use mathlib.Core.List.{◌∷◌}
-use Prim.Native.Nat.{ℕ, suc, ◌+◌}
-use lib.ListN.{get_or, drop}
-use lib.Seq.{drop-cons}
-use Rattle.output.proofs.Putting.{putting_as, putting_one}
+-- `copy`: the part from the start on is the text. Assumes nothing.
+use mathlib.Core.Path.{◌≡◌, sym, ap₂, ◌∙◌}
+use mathlib.Core.List.{List, ◌++◌}
+use Prim.Native.Nat.{ℕ, ◌+◌}
+use lib.ListN.{length, drop}
+use lib.Seq.{sets-eq}
 use native.Mathlib.Omega.{arith}
 use Rattle.output.proofs.copy.Goals as goal
 
-pub loop-i-preserved : goal.loop-i-preserved
-loop-i-preserved c =
+pub returns : goal.returns
+returns c =
     let a = c.args in
-    let l = c.loop-i in
-    let below = c.loop-i-test.true in
-    let next : suc l.i ≡ l.i + 1 = omega arith in
-    let split = drop-cons a.text.now l.i 0 below ∙ ap (λ (n : ℕ). get_or a.text.now l.i 0 ∷ drop n a.text.now) next in (
-      omega arith,
-      putting_one a.text.now 0 a.out.now (get_or a.text.now l.i 0) (drop (l.i + 1) a.text.now) l.i l.out
-          (putting_as a.text.now 0 a.out.now (drop l.i a.text.now) l.i l.out _ split l.invariant.1),
-    )
+    let end : length a.text.now ≡ 0 + length a.text.now = omega arith in
+    ap₂ (λ (x : List ℕ) (n : ℕ). x ++ drop n a.out.now) c.copy_from_slice.ensures.after end ∙ sym (sets-eq a.text.now a.out.now 0 (omega (arith, c.requires)))

@@ -4,7 +4,7 @@ use native.Mathlib.Omega.{arith}
 use Rattle.output.proofs.measure_line.Goals as goal
 
 pub loop-i-init : goal.loop-i-init
-loop-i-init c = let a = c.args in (omega arith, line_size_lem a.fields.now a.end c.requires.1 a.at c.requires.0)
+loop-i-init c = let a = c.args in line_size_lem a.fields.now a.end c.requires.1 a.at c.requires.0
 
 pub overflow_add-size : goal.overflow_add-size
 overflow_add-size c =
@@ -13,7 +13,7 @@ overflow_add-size c =
     let w = line_within a.fields.now a.end c.requires.1 a.at c.requires.0 in
     let m = number_size a.fields.now a.end c.requires.1 l.i c.loop-i-test.true in
     let e = c.digits.ensures in
-    let z = l.invariant.1 in
+    let z = l.invariant in
     omega arith
 
 pub overflow_add-size-in-loop-i : goal.overflow_add-size-in-loop-i
@@ -23,7 +23,7 @@ overflow_add-size-in-loop-i c =
     let w = line_within a.fields.now a.end c.requires.1 a.at c.requires.0 in
     let m = number_size a.fields.now a.end c.requires.1 l.i c.loop-i-test.true in
     let e = c.digits.ensures in
-    let z = l.invariant.1 in
+    let z = l.invariant in
     omega arith
 
 pub loop-i-preserved : goal.loop-i-preserved
@@ -32,5 +32,5 @@ loop-i-preserved c =
     let l = c.loop-i in
     let m = number_size a.fields.now a.end c.requires.1 l.i c.loop-i-test.true in
     let e = c.digits.ensures in
-    let z = l.invariant.1 in
-    (omega arith, omega arith)
+    let z = l.invariant in
+    omega arith

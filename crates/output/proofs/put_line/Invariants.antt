@@ -1,10 +1,6 @@
 -- `put_line`: the fields before i are put (Texts). Assumes nothing.
-use Prim.Native.Nat.{◌-◌}
 use Rattle.output.proofs.Texts.{Putting-line}
 use Rattle.output.proofs.put_line.Given as goal
 
 abbrev pub invariant-loop-i : goal.invariant-loop-i
 invariant-loop-i l = Putting-line l.fields l.at l.end l.to l.initial.out l.past l.i l.out
-
-abbrev pub decreases-loop-i : goal.decreases-loop-i
-decreases-loop-i l = l.end - l.i

@@ -1,5 +1,4 @@
 -- `reaching::visit` meets its contract: the lines before the head of the queue were taken (Walked). Assumes nothing.
-use mathlib.Core.Path.{refl, ◌∙◌}
 use Prim.Native.Nat.{◌<◌}
 use native.Mathlib.Omega.{arith}
 use borrow.Author.Rules.{rules}
@@ -12,48 +11,42 @@ pub mark-tail-requires : goal.mark-tail-requires
 mark-tail-requires c = (queued_none c.args.marks.now c.args.queue.now c.requires.clear, (omega arith, omega arith))
 
 pub loop-head-init : goal.loop-head-init
-loop-head-init c =
-    (refl, refl, walk_starts c.args.starts.now c.args.links.now c.args.twin.now c.args.root c.requires.clear c.mark-tail.ensures)
+loop-head-init c = walk_starts c.args.starts.now c.args.links.now c.args.twin.now c.args.root c.requires.clear c.mark-tail.ensures
 
 -- The next line to take has its place in the queue.
 pub offset_bounds-queue-head : goal.offset_bounds-queue-head
 offset_bounds-queue-head c =
-    let most = tail_most c.loop-head.invariant.2.queued in
-    let h : c.loop-head.head < length c.args.queue.now = omega (arith, c.loop-head.invariant.1, c.mark-tail.auto.queue) in
+    let most = tail_most c.loop-head.invariant.queued in
+    let h : c.loop-head.head < length c.args.queue.now = omega (arith, c.loop-head.auto.queue) in
     search rules
 
 pub bounds-queue-head : goal.bounds-queue-head
-bounds-queue-head c = omega (arith, tail_most c.loop-head.invariant.2.queued)
+bounds-queue-head c = omega (arith, tail_most c.loop-head.invariant.queued)
 
 pub follow-tail-requires : goal.follow-tail-requires
 follow-tail-requires c =
     let a = c.args in
     let l = c.loop-head in
-    let m = c.mark-tail.auto in
-    let taken = taken_visited a.starts.now a.links.now a.twin.now a.root l.invariant.2 c.loop-head-test.true in (
-      l.invariant.2.queued,
+    let taken = taken_visited a.starts.now a.links.now a.twin.now a.root l.invariant c.loop-head-test.true in (
+      l.invariant.queued,
       record {
         count = a.count;
         graph = c.requires.graph;
         low = visited_low c.requires.graph c.requires.root.0 taken;
-        room = (omega (arith, l.invariant.0, m.marks, c.requires.room), omega (arith, l.invariant.1, m.queue, c.requires.room));
+        room = (omega (arith, l.auto.marks, c.requires.room), omega (arith, l.auto.queue, c.requires.room));
       },
     )
 
 pub loop-head-smaller : goal.loop-head-smaller
 loop-head-smaller c =
-    omega (arith, tail_most c.loop-head.invariant.2.queued, c.follow-tail.auto.queue, c.loop-head-test.true)
+    omega (arith, tail_most c.loop-head.invariant.queued, c.follow-tail.auto.queue, c.loop-head-test.true)
 
 pub loop-head-preserved : goal.loop-head-preserved
 loop-head-preserved c =
     let a = c.args in
-    let l = c.loop-head in (
-      c.follow-tail.auto.marks ∙ l.invariant.0,
-      c.follow-tail.auto.queue ∙ l.invariant.1,
-      walk_on a.starts.now a.links.now a.twin.now a.root l.invariant.2 c.loop-head-test.true c.follow-tail.ensures,
-    )
+    walk_on a.starts.now a.links.now a.twin.now a.root c.loop-head.invariant c.loop-head-test.true c.follow-tail.ensures
 
 pub returns : goal.returns
 returns c =
     let a = c.args in
-    walk_ends a.starts.now a.links.now a.twin.now a.root c.loop-head.invariant.2 c.loop-head-test.false
+    walk_ends a.starts.now a.links.now a.twin.now a.root c.loop-head.invariant c.loop-head-test.false

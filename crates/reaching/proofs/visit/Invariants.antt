@@ -1,5 +1,4 @@
 -- `reaching::visit` meets its contract: the lines before the head of the queue were taken (Walked). Assumes nothing.
-use mathlib.Core.Path.{◌≡◌}
 use Prim.Native.Nat.{◌-◌}
 use lib.ListN.{length}
 use Rattle.reaching.proofs.Walks.{Walked}
@@ -7,7 +6,7 @@ use Rattle.reaching.proofs.visit.Given as goal
 
 abbrev pub invariant-loop-head : goal.invariant-loop-head
 invariant-loop-head l =
-    (length l.marks ≡ length l.initial.marks) × (length l.queue ≡ length l.initial.queue) × Walked l.starts l.links l.twin l.root l.head l.marks l.queue l.tail
+    Walked l.starts l.links l.twin l.root l.head l.marks l.queue l.tail
 
 abbrev pub decreases-loop-head : goal.decreases-loop-head
 decreases-loop-head l = length l.queue - l.head

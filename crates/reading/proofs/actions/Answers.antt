@@ -1,4 +1,5 @@
 -- `actions`: the A lines, with the places listed from the directory's start on (Progress). Assumes nothing.
+use Rattle.std.proofs.lemmas.Result.{err_from_is_err_and}
 use lib.ListN.{get_or}
 use Rattle.rules.specs.Case.{header_in}
 use Rattle.reading.proofs.Progress.{list_goes_on, list_stops, stops}
@@ -21,26 +22,28 @@ bounds-directory-i c =
 pub loop-i-preserved : goal.loop-i-preserved
 loop-i-preserved c =
     let a = c.args in
-    let one = valued_line a.text.now (header_in a.x.now) T.action (get_or a.x.now 7 0) in
+    let one = valued_line a.text.now (header_in a.x.now.numbers) T.action (get_or a.x.now.numbers 7 0) in
     let l = c.loop-i in
     let r = c.one_line in
-    let n = c.in-Done in
-    list_goes_on a.text.now a.past line_fields one (get_or a.x.now 1 0) a.from a.fields.now (line_goes a.text.now (header_in a.x.now) T.action (get_or a.x.now 7 0)) l.at l.fields l.i l.invariant.progress c.loop-i-test.true r.result _ r.ensures 0 a.directory.now l.directory l.invariant.size l.invariant.placed n.next l.i n.is (omega arith)
+    let n = c.in_ok-at in
+    list_goes_on a.text.now a.past line_fields one (get_or a.x.now.numbers 1 0) a.from a.fields.now (line_goes a.text.now (header_in a.x.now.numbers) T.action (get_or a.x.now.numbers 7 0)) l.at l.fields l.i l.invariant.progress c.loop-i-test.true r.result _ r.ensures 0 a.directory.now l.directory l.invariant.size l.invariant.placed n.at l.i n.was (omega arith)
 
-pub returns-in-Refused-clause-left : goal.returns-in-Refused-clause-left
-returns-in-Refused-clause-left c =
+pub returns-in_err-at-clause-left : goal.returns-in_err-at-clause-left
+returns-in_err-at-clause-left c =
     let a = c.args in
-    let one = valued_line a.text.now (header_in a.x.now) T.action (get_or a.x.now 7 0) in
+    let one = valued_line a.text.now (header_in a.x.now.numbers) T.action (get_or a.x.now.numbers 7 0) in
     let l = c.loop-i in
     let r = c.one_line in
-    let e = c.in-Refused in
-    stops a.text.now a.past line_fields one (get_or a.x.now 1 0) a.from a.fields.now (line_goes a.text.now (header_in a.x.now) T.action (get_or a.x.now 7 0)) l.at l.fields l.i l.invariant.progress c.loop-i-test.true r.result _ r.ensures e.answer e.is _
+    let e = c.in_err-at in
+    let p = err_from_is_err_and c.from_residual.result c.from_residual.ensures.1 in
+    rw (p.1, p.2)
+    (stops a.text.now a.past line_fields one (get_or a.x.now.numbers 1 0) a.from a.fields.now (line_goes a.text.now (header_in a.x.now.numbers) T.action (get_or a.x.now.numbers 7 0)) l.at l.fields l.i l.invariant.progress c.loop-i-test.true r.result _ r.ensures e.field-0.0 e.was _)
 
-pub returns-in-Refused-clause-placed : goal.returns-in-Refused-clause-placed
-returns-in-Refused-clause-placed c =
+pub returns-in_err-at-clause-placed : goal.returns-in_err-at-clause-placed
+returns-in_err-at-clause-placed c =
     let a = c.args in
-    let one = valued_line a.text.now (header_in a.x.now) T.action (get_or a.x.now 7 0) in
+    let one = valued_line a.text.now (header_in a.x.now.numbers) T.action (get_or a.x.now.numbers 7 0) in
     let l = c.loop-i in
     let r = c.one_line in
-    let e = c.in-Refused in
-    list_stops a.text.now a.past line_fields one (get_or a.x.now 1 0) a.from a.fields.now (line_goes a.text.now (header_in a.x.now) T.action (get_or a.x.now 7 0)) l.at l.fields l.i l.invariant.progress c.loop-i-test.true r.result _ r.ensures 0 a.directory.now l.directory l.invariant.size l.invariant.placed e.answer e.is _
+    let e = c.in_err-at in
+    list_stops a.text.now a.past line_fields one (get_or a.x.now.numbers 1 0) a.from a.fields.now (line_goes a.text.now (header_in a.x.now.numbers) T.action (get_or a.x.now.numbers 7 0)) l.at l.fields l.i l.invariant.progress c.loop-i-test.true r.result _ r.ensures 0 a.directory.now l.directory l.invariant.size l.invariant.placed e.field-0.0 e.was _

@@ -1,5 +1,4 @@
 -- `actions`: the A lines, with the places listed from the directory's start on (Progress). Assumes nothing.
-use Prim.Native.Nat.{◌-◌}
 use lib.ListN.{get_or}
 use Rattle.rules.specs.Case.{header_in}
 use Rattle.reading.proofs.Progress.{Listing}
@@ -10,7 +9,4 @@ use Rattle.reading.proofs.actions.Given as goal
 
 abbrev pub invariant-loop-i : goal.invariant-loop-i
 invariant-loop-i l =
-    Listing l.text l.past line_fields (valued_line l.text (header_in l.x) T.action (get_or l.x 7 0)) (get_or l.x 1 0) l.initial.at l.initial.fields 0 l.initial.directory l.at l.fields l.directory l.i
-
-abbrev pub decreases-loop-i : goal.decreases-loop-i
-decreases-loop-i l = l.count - l.i
+    Listing l.text l.past line_fields (valued_line l.text (header_in l.x.numbers) T.action (get_or l.x.numbers 7 0)) (get_or l.x.numbers 1 0) l.initial.at l.initial.fields 0 l.initial.directory l.at l.fields l.directory l.i

@@ -1,5 +1,4 @@
 -- `lines_of`: what the lines from here on leave is what all leave (Progress). Assumes nothing.
-use Prim.Native.Nat.{◌-◌}
 use lib.ListN.{get_or}
 use Rattle.rules.specs.Case.{header_in}
 use Rattle.lines.specs.Reading.{role_of}
@@ -10,7 +9,4 @@ use Rattle.reading.proofs.lines_of.Given as goal
 
 abbrev pub invariant-loop-i : goal.invariant-loop-i
 invariant-loop-i l =
-    Progress l.text l.past line_fields (valued_line l.text (header_in l.x) (role_of l.due) (get_or l.x 7 0)) l.count l.initial.at l.initial.fields l.at l.fields l.i
-
-abbrev pub decreases-loop-i : goal.decreases-loop-i
-decreases-loop-i l = l.count - l.i
+    Progress l.text l.past line_fields (valued_line l.text (header_in l.x.numbers) (role_of l.due) (get_or l.x.numbers 7 0)) l.count l.initial.at l.initial.fields l.at l.fields l._i

@@ -1,4 +1,5 @@
 -- `methods`: the methods, with the places listed after those of the A lines (Progress). Assumes nothing.
+use Rattle.std.proofs.lemmas.Result.{err_from_is_err_and}
 use Prim.Native.Nat.{◌+◌}
 use lib.ListN.{get_or}
 use Rattle.reading.proofs.Progress.{list_goes_on, list_stops, stops}
@@ -21,28 +22,30 @@ pub loop-i-preserved : goal.loop-i-preserved
 unfolding methods_from
 loop-i-preserved c =
     let a = c.args in
-    let one = one_method a.text.now (header_in a.x.now) in
+    let one = one_method a.text.now (header_in a.x.now.numbers) in
     let l = c.loop-i in
     let r = c.one_method in
-    let n = c.in-Done in
-    list_goes_on a.text.now a.past method_fields one (get_or a.x.now 3 0) a.from a.fields.now (method_goes a.text.now (header_in a.x.now)) l.at l.fields l.i l.invariant.progress c.loop-i-test.true r.result _ r.ensures methods_from a.directory.now l.directory l.invariant.size l.invariant.placed n.next (methods_from + l.i) n.is (omega arith)
+    let n = c.in_ok-at in
+    list_goes_on a.text.now a.past method_fields one (get_or a.x.now.numbers 3 0) a.from a.fields.now (method_goes a.text.now (header_in a.x.now.numbers)) l.at l.fields l.i l.invariant.progress c.loop-i-test.true r.result _ r.ensures methods_from a.directory.now l.directory l.invariant.size l.invariant.placed n.at (methods_from + l.i) n.was (omega arith)
 
-pub returns-in-Refused-clause-left : goal.returns-in-Refused-clause-left
+pub returns-in_err-at-clause-left : goal.returns-in_err-at-clause-left
 unfolding methods_from
-returns-in-Refused-clause-left c =
+returns-in_err-at-clause-left c =
     let a = c.args in
-    let one = one_method a.text.now (header_in a.x.now) in
+    let one = one_method a.text.now (header_in a.x.now.numbers) in
     let l = c.loop-i in
     let r = c.one_method in
-    let e = c.in-Refused in
-    stops a.text.now a.past method_fields one (get_or a.x.now 3 0) a.from a.fields.now (method_goes a.text.now (header_in a.x.now)) l.at l.fields l.i l.invariant.progress c.loop-i-test.true r.result _ r.ensures e.answer e.is _
+    let e = c.in_err-at in
+    let p = err_from_is_err_and c.from_residual.result c.from_residual.ensures.1 in
+    rw (p.1, p.2)
+    (stops a.text.now a.past method_fields one (get_or a.x.now.numbers 3 0) a.from a.fields.now (method_goes a.text.now (header_in a.x.now.numbers)) l.at l.fields l.i l.invariant.progress c.loop-i-test.true r.result _ r.ensures e.field-0.0 e.was _)
 
-pub returns-in-Refused-clause-placed : goal.returns-in-Refused-clause-placed
+pub returns-in_err-at-clause-placed : goal.returns-in_err-at-clause-placed
 unfolding methods_from
-returns-in-Refused-clause-placed c =
+returns-in_err-at-clause-placed c =
     let a = c.args in
-    let one = one_method a.text.now (header_in a.x.now) in
+    let one = one_method a.text.now (header_in a.x.now.numbers) in
     let l = c.loop-i in
     let r = c.one_method in
-    let e = c.in-Refused in
-    list_stops a.text.now a.past method_fields one (get_or a.x.now 3 0) a.from a.fields.now (method_goes a.text.now (header_in a.x.now)) l.at l.fields l.i l.invariant.progress c.loop-i-test.true r.result _ r.ensures methods_from a.directory.now l.directory l.invariant.size l.invariant.placed e.answer e.is _
+    let e = c.in_err-at in
+    list_stops a.text.now a.past method_fields one (get_or a.x.now.numbers 3 0) a.from a.fields.now (method_goes a.text.now (header_in a.x.now.numbers)) l.at l.fields l.i l.invariant.progress c.loop-i-test.true r.result _ r.ensures methods_from a.directory.now l.directory l.invariant.size l.invariant.placed e.field-0.0 e.was _

@@ -9,7 +9,7 @@ offset_bounds-fields-at c =
     let a = c.args in
     let l = c.loop-i in
     let more = c.loop-i-test.true in
-    let d = line_inside a.fields.now a.nodes a.count a.work.now l.at l.work l.i l.invariant.2 c.requires.nodes_stand more in
+    let d = line_inside a.fields.now a.nodes a.count a.work.now l.at l.work l.i l.invariant.1 c.requires.nodes_stand more in
     omega arith
 
 pub bounds-fields-at : goal.bounds-fields-at
@@ -17,7 +17,7 @@ bounds-fields-at c =
     let a = c.args in
     let l = c.loop-i in
     let more = c.loop-i-test.true in
-    let d = line_inside a.fields.now a.nodes a.count a.work.now l.at l.work l.i l.invariant.2 c.requires.nodes_stand more in
+    let d = line_inside a.fields.now a.nodes a.count a.work.now l.at l.work l.i l.invariant.1 c.requires.nodes_stand more in
     omega arith
 
 pub overflow_add-label : goal.overflow_add-label
@@ -25,7 +25,7 @@ overflow_add-label c =
     let a = c.args in
     let l = c.loop-i in
     let more = c.loop-i-test.true in
-    let d = line_inside a.fields.now a.nodes a.count a.work.now l.at l.work l.i l.invariant.2 c.requires.nodes_stand more in
+    let d = line_inside a.fields.now a.nodes a.count a.work.now l.at l.work l.i l.invariant.1 c.requires.nodes_stand more in
     omega arith
 
 pub offset_bounds-fields-at-in-loop-i : goal.offset_bounds-fields-at-in-loop-i
@@ -33,7 +33,7 @@ offset_bounds-fields-at-in-loop-i c =
     let a = c.args in
     let l = c.loop-i in
     let more = c.loop-i-test.true in
-    let d = line_inside a.fields.now a.nodes a.count a.work.now l.at l.work l.i l.invariant.2 c.requires.nodes_stand more in
+    let d = line_inside a.fields.now a.nodes a.count a.work.now l.at l.work l.i l.invariant.1 c.requires.nodes_stand more in
     omega arith
 
 pub bounds-fields-at-in-loop-i : goal.bounds-fields-at-in-loop-i
@@ -41,7 +41,7 @@ bounds-fields-at-in-loop-i c =
     let a = c.args in
     let l = c.loop-i in
     let more = c.loop-i-test.true in
-    let d = line_inside a.fields.now a.nodes a.count a.work.now l.at l.work l.i l.invariant.2 c.requires.nodes_stand more in
+    let d = line_inside a.fields.now a.nodes a.count a.work.now l.at l.work l.i l.invariant.1 c.requires.nodes_stand more in
     omega arith
 
 pub place_at-place-requires : goal.place_at-place-requires
@@ -49,7 +49,7 @@ place_at-place-requires c =
     let a = c.args in
     let l = c.loop-i in
     let more = c.loop-i-test.true in
-    let d = line_inside a.fields.now a.nodes a.count a.work.now l.at l.work l.i l.invariant.2 c.requires.nodes_stand more in
+    let d = line_inside a.fields.now a.nodes a.count a.work.now l.at l.work l.i l.invariant.1 c.requires.nodes_stand more in
     d.1
 
 pub overflow_add-at : goal.overflow_add-at
@@ -57,7 +57,7 @@ overflow_add-at c =
     let a = c.args in
     let l = c.loop-i in
     let more = c.loop-i-test.true in
-    let d = line_inside a.fields.now a.nodes a.count a.work.now l.at l.work l.i l.invariant.2 c.requires.nodes_stand more in
+    let d = line_inside a.fields.now a.nodes a.count a.work.now l.at l.work l.i l.invariant.1 c.requires.nodes_stand more in
     let size = c.node_size-at.ensures in
     omega arith
 
@@ -68,9 +68,8 @@ loop-i-preserved c =
     let more = c.loop-i-test.true in
     let code = c.letter_code in
     let place = c.place_at-place in (
-      omega arith,
-      heads_on l.work l.i _ _ _ a.work.now l.invariant.1,
+      heads_on l.work l.i _ _ _ a.work.now l.invariant.0,
       λ ns w.
-          going_on a.fields.now a.work.now ns l.at l.work l.i (l.invariant.2 ns w) (omega (arith, w.counted)) l.invariant.1 (omega (arith, c.requires.count_bound.0)) c.requires.count_bound.1
+          going_on a.fields.now a.work.now ns l.at l.work l.i (l.invariant.1 ns w) (omega (arith, w.counted)) l.invariant.0 (omega (arith, c.requires.count_bound.0)) c.requires.count_bound.1
           code.result place.result c.node_size-at.result code.ensures place.ensures c.node_size-at.ensures,
     )

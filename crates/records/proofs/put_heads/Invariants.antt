@@ -1,11 +1,7 @@
 -- `put_heads`: the records up to node i stand in the columns, and the lines left have the others (Going). Assumes nothing.
-use Prim.Native.Nat.{◌-◌, ◌≤◌}
 use Rattle.records.proofs.Columns.{HeadsOnly}
 use Rattle.records.proofs.Turns.{Turn}
 use Rattle.records.proofs.put_heads.Given as goal
 
 abbrev pub invariant-loop-i : goal.invariant-loop-i
-invariant-loop-i l = (l.i ≤ l.count) × HeadsOnly l.initial.work l.work × Turn l.fields l.nodes l.count l.initial.work l.at l.work l.i
-
-abbrev pub decreases-loop-i : goal.decreases-loop-i
-decreases-loop-i l = l.count - l.i
+invariant-loop-i l = HeadsOnly l.initial.work l.work × Turn l.fields l.nodes l.count l.initial.work l.at l.work l.i

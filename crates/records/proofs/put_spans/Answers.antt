@@ -10,4 +10,4 @@ unfolding rows_from
 loop-i-preserved c =
     let l = c.loop-i in
     let small : l.i < c.args.count = c.loop-i-test.true in
-    (omega arith, spans_on c.args.work.now l.work l.i l.invariant.1 (omega arith) c.requires.1)
+    spans_on c.args.work.now l.work l.i l.invariant (omega arith) c.requires.1

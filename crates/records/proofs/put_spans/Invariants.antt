@@ -1,10 +1,6 @@
 -- `put_spans`: the spans below node i are out of their rows, and the rows stand (SpansOut). Assumes nothing.
-use Prim.Native.Nat.{◌≤◌, ◌-◌}
 use Rattle.records.proofs.Columns.{SpansOut}
 use Rattle.records.proofs.put_spans.Given as goal
 
 abbrev pub invariant-loop-i : goal.invariant-loop-i
-invariant-loop-i l = (l.i ≤ l.count) × SpansOut l.initial.work l.work l.i
-
-abbrev pub decreases-loop-i : goal.decreases-loop-i
-decreases-loop-i l = l.count - l.i
+invariant-loop-i l = SpansOut l.initial.work l.work l.i

@@ -21,10 +21,8 @@ pub returns-clause-nearer : goal.returns-clause-nearer
 returns-clause-nearer c =
     let a = c.args in
     let d = c.advance.new.choice in
-    let on : next_of a.k c.learn-b.result a.choice.now ≡ next d = c.advance.ensures ∙ ap (λ (r : Bool). advanced r d) c.if-not-advance.false in (
-      blame_inside a.k a.set c.learn-b.result a.choice.now a.why.now c.learn-b.new.why c.learn-b.ensures,
-      nearer a.k c.learn-b.result a.choice.now d on,
-    )
+    let on : next_of a.k c.learn-b.result a.choice.now ≡ next d = c.advance.ensures ∙ ap (λ (r : Bool). advanced r d) c.if-not-advance.false in
+    nearer a.k c.learn-b.result a.choice.now d (blame_inside a.k a.set c.learn-b.result a.choice.now a.why.now c.learn-b.new.why c.learn-b.ensures) on
 
 pub returns-clause-skips : goal.returns-clause-skips
 returns-clause-skips c = λ passing w r known.

@@ -1,9 +1,9 @@
 -- By the place, and by the first word: an id, or not. Assumes nothing.
-use mathlib.Core.Path.{refl, sym, ◌∙◌}
+use mathlib.Core.Path.{refl, ◌∙◌}
 use borrow.Author.Tests.{lt-ltb, le-ltb}
 use Rattle.rules.specs.Text.{is_digit}
 use Rattle.tokens.specs.Pieces.{piece_from}
-use Rattle.tokens.proofs.Words.{number_told, other_told}
+use Rattle.tokens.proofs.Words.{number_told}
 use Rattle.shapes.proofs.Words.{numbered}
 use Rattle.shapes.proofs.Fronts.{front_out}
 use Rattle.shapes.proofs.front_line.Goals as goal
@@ -20,10 +20,10 @@ number_at-requires c =
 pub action_line-requires : goal.action_line-requires
 action_line-requires c =
     let f = c.requires c.args.at ∙ lt-ltb _ _ c.if-past-at.false in
-    (c.args.at, numbered _ _ _ _ f (number_told c.args.at (piece_from 32 c.args.text.now c.args.at) (sym c.in-Number.is ∙ c.number_at.ensures)))
+    (c.args.at, numbered _ _ _ _ f (number_told c.args.at (piece_from 32 c.args.text.now c.args.at) c.in-Some.ensures))
 
-pub returns-in-Number : goal.returns-in-Number
-returns-in-Number c =
+pub returns-in-Some : goal.returns-in-Some
+returns-in-Some c =
     let f = c.requires c.args.at ∙ lt-ltb _ _ c.if-past-at.false in
     c.action_line.ensures c.args.at
-    (numbered _ _ _ _ f (number_told c.args.at (piece_from 32 c.args.text.now c.args.at) (sym c.in-Number.is ∙ c.number_at.ensures)))
+    (numbered _ _ _ _ f (number_told c.args.at (piece_from 32 c.args.text.now c.args.at) c.in-Some.ensures))

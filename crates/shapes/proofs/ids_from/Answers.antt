@@ -1,12 +1,12 @@
 -- The ids up to `at` are passed; each turn passes one more, or finds a word that is none. Assumes nothing.
-use mathlib.Core.Path.{refl, sym, ◌∙◌}
-use Prim.Native.Nat.{◌+◌, ◌-◌}
+use mathlib.Core.Path.{refl, sym, subst}
+use Prim.Native.Nat.{◌+◌}
 use native.Mathlib.Omega.{arith}
-use lib.ListN.{length}
 use Rattle.rules.specs.Text.{is_digit}
 use Rattle.tokens.specs.Pieces.{piece_from}
 use Rattle.tokens.proofs.Words.{number_told, other_told}
-use Rattle.shapes.proofs.Idents.{Passed, passed_none, passed_inside, id_feeds, passed_other, next_further, passed_one, passed_all}
+use Rattle.shapes.specs.Shapes.{IdsAre}
+use Rattle.shapes.proofs.Idents.{passed_inside, id_feeds, passed_other, passed_one, passed_all}
 use Rattle.shapes.proofs.ids_from.Goals as goal
 
 pub bounds-text-at : goal.bounds-text-at
@@ -20,15 +20,16 @@ pub loop-at-preserved : goal.loop-at-preserved
 loop-at-preserved c =
     let l = c.loop-at in
     let a = c.args in
-    let v = number_told (l.at + 1) (piece_from 32 a.text.now (l.at + 1)) (sym c.in-Number.is ∙ c.number_at.ensures) in
+    let v = number_told (l.at + 1) (piece_from 32 a.text.now (l.at + 1)) c.in_ok-at.ensures in
     passed_one a.text.now _ _ _ l.invariant c.loop-at-test.true _ _ v
 
-pub returns-in-Other : goal.returns-in-Other
-returns-in-Other c =
+pub returns-in_err-at : goal.returns-in_err-at
+returns-in_err-at c =
     let l = c.loop-at in
     let a = c.args in
-    passed_other a.text.now _ _ _ l.invariant c.loop-at-test.true
-    (other_told (l.at + 1) (piece_from 32 a.text.now (l.at + 1)) (sym c.in-Other.is ∙ c.number_at.ensures))
+    subst (IdsAre a.text.now a.from) (sym c.from_residual.ensures)
+    (passed_other a.text.now _ _ _ l.invariant c.loop-at-test.true
+    (other_told (l.at + 1) (piece_from 32 a.text.now (l.at + 1)) c.in_err-at.ensures))
 
 pub overflow_add-result : goal.overflow_add-result
 overflow_add-result c =

@@ -7,7 +7,7 @@ use Rattle.rules.specs.Tokens.{in_name}
 use Rattle.rules.specs.Form.{arrow_word}
 use Rattle.text.proofs.Feeds.{feed_inside}
 use Rattle.tokens.specs.Pieces.{ends_piece}
-use Rattle.shapes.specs.Shapes.{IdsAre}
+use Rattle.shapes.specs.Shapes.{BackIs}
 use Rattle.shapes.proofs.Backs.{no_arrow_word, arrow_inside, arrow_last, method_feeds, no_method_name, ids_feed, ids_end, other_ids, all_ids}
 use Rattle.shapes.proofs.method_line.Goals as goal
 
@@ -46,42 +46,42 @@ returns-then-text-to-ne32 c =
     let w = sym c.is_word.ensures ∙ c.if-not-is_word.false in
     λ at h. arrow_last a.text.now at a.id a.from a.to h w c.if-text-to-ne32.true
 
-pub name_end-end-requires : goal.name_end-end-requires
+pub name_end-requires : goal.name_end-requires
 unfolding arrow_word in_name is_comma
-name_end-end-requires c =
+name_end-requires c =
     let a = c.args in
     let w = sym c.is_word.ensures ∙ c.if-not-is_word.false in
     (refl, method_feeds a.text.now c.requires.0 a.id a.from a.to c.requires.1 w c.if-text-to-ne32.false)
-
-pub returns-then-end-method : goal.returns-then-end-method
-unfolding arrow_word
-returns-then-end-method c =
-    let a = c.args in
-    let w = sym c.is_word.ensures ∙ c.if-not-is_word.false in
-    λ at h. no_method_name a.text.now at a.id a.from a.to h w c.if-text-to-ne32.false _ c.name_end-end.ensures c.if-end-method.true
 
 pub ids_from-requires : goal.ids_from-requires
 unfolding arrow_word
 ids_from-requires c =
     let a = c.args in
     let w = sym c.is_word.ensures ∙ c.if-not-is_word.false in
-    let e = c.name_end-end.ensures in (
-      ids_feed a.text.now c.requires.0 a.id a.from a.to c.requires.1 w c.if-text-to-ne32.false _ e c.if-end-method.false,
-      ids_end a.text.now c.requires.0 a.id a.from a.to c.requires.1 w c.if-text-to-ne32.false _ e c.if-end-method.false,
+    let e = c.in_ok-end.ensures in (
+      ids_feed a.text.now c.requires.0 a.id a.from a.to c.requires.1 w c.if-text-to-ne32.false _ e,
+      ids_end a.text.now c.requires.0 a.id a.from a.to c.requires.1 w c.if-text-to-ne32.false _ e,
     )
 
-pub returns-in-All : goal.returns-in-All
+pub returns : goal.returns
 unfolding arrow_word
-returns-in-All c =
+returns c =
     let a = c.args in
     let w = sym c.is_word.ensures ∙ c.if-not-is_word.false in
-    λ at h. all_ids a.text.now at a.id a.from a.to h w c.if-text-to-ne32.false _ c.name_end-end.ensures c.if-end-method.false _ _
-    (subst (IdsAre a.text.now _) c.in-All.is c.ids_from.ensures)
+    λ at h. all_ids a.text.now at a.id a.from a.to h w c.if-text-to-ne32.false _ c.in_ok-end.ensures _ c.in_ok-ids.ensures
 
-pub returns-in-Other : goal.returns-in-Other
+pub returns-in_err-ids : goal.returns-in_err-ids
 unfolding arrow_word
-returns-in-Other c =
+returns-in_err-ids c =
     let a = c.args in
     let w = sym c.is_word.ensures ∙ c.if-not-is_word.false in
-    λ at h. other_ids a.text.now at a.id a.from a.to h w c.if-text-to-ne32.false _ c.name_end-end.ensures c.if-end-method.false
-    (subst (IdsAre a.text.now _) c.in-Other.is c.ids_from.ensures)
+    λ at h. subst (BackIs a.text.now at) (sym c.from_residual-in_err-ids.ensures)
+    (other_ids a.text.now at a.id a.from a.to h w c.if-text-to-ne32.false _ c.in_ok-end.ensures c.in_err-ids.ensures)
+
+pub returns-in_err-end : goal.returns-in_err-end
+unfolding arrow_word
+returns-in_err-end c =
+    let a = c.args in
+    let w = sym c.is_word.ensures ∙ c.if-not-is_word.false in
+    λ at h. subst (BackIs a.text.now at) (sym c.from_residual.ensures)
+    (no_method_name a.text.now at a.id a.from a.to h w c.if-text-to-ne32.false c.in_err-end.ensures)

@@ -1,11 +1,12 @@
 -- By the word, the byte that ends it, the id after it, and the byte that ends that. Assumes nothing.
-use mathlib.Core.Path.{refl, sym, ◌∙◌}
+use mathlib.Core.Path.{refl, sym, subst, ◌∙◌}
 use Prim.Native.Nat.{◌+◌}
 use native.Mathlib.Omega.{arith}
 use Rattle.rules.specs.Text.{is_digit, is_feed}
 use Rattle.rules.specs.Form.{root_word}
 use Rattle.tokens.specs.Pieces.{ends_piece, piece_from}
 use Rattle.tokens.proofs.Words.{number_told, other_told}
+use Rattle.shapes.specs.Shapes.{FrontIs}
 use Rattle.shapes.proofs.Fronts.{no_root_word, root_inside, root_alone, id_feeds, no_id, id_inside, more_words, root_there}
 use Rattle.shapes.proofs.root_line.Goals as goal
 
@@ -41,30 +42,31 @@ number_at-requires c =
     let w = sym c.is_word.ensures ∙ c.if-not-is_word.false in
     (refl, id_feeds c.args.text.now c.args.at c.requires w c.if-text-end-ne32.false)
 
-pub bounds-text-next : goal.bounds-text-next
+pub bounds-text-id : goal.bounds-text-id
 unfolding root_word
-bounds-text-next c =
-    let v = number_told (c.args.at + 4 + 1) (piece_from 32 c.args.text.now (c.args.at + 4 + 1)) (sym c.in-Number.is ∙ c.number_at.ensures) in
+bounds-text-id c =
+    let v = number_told (c.args.at + 4 + 1) (piece_from 32 c.args.text.now (c.args.at + 4 + 1)) c.in_ok-id.ensures in
     let w = sym c.is_word.ensures ∙ c.if-not-is_word.false in
     id_inside c.args.text.now c.args.at c.requires w c.if-text-end-ne32.false v
 
-pub returns-then-text-next-ne10 : goal.returns-then-text-next-ne10
+pub returns-then-text-id-ne10 : goal.returns-then-text-id-ne10
 unfolding root_word
-returns-then-text-next-ne10 c =
-    let v = number_told (c.args.at + 4 + 1) (piece_from 32 c.args.text.now (c.args.at + 4 + 1)) (sym c.in-Number.is ∙ c.number_at.ensures) in
+returns-then-text-id-ne10 c =
+    let v = number_told (c.args.at + 4 + 1) (piece_from 32 c.args.text.now (c.args.at + 4 + 1)) c.in_ok-id.ensures in
     let w = sym c.is_word.ensures ∙ c.if-not-is_word.false in
-    λ plain. more_words c.args.text.now c.args.at c.requires plain w c.if-text-end-ne32.false _ _ v c.if-text-next-ne10.true
+    λ plain. more_words c.args.text.now c.args.at c.requires plain w c.if-text-end-ne32.false _ _ v c.if-text-id-ne10.true
 
-pub returns-else-text-next-ne10 : goal.returns-else-text-next-ne10
+pub returns : goal.returns
 unfolding root_word
-returns-else-text-next-ne10 c =
-    let v = number_told (c.args.at + 4 + 1) (piece_from 32 c.args.text.now (c.args.at + 4 + 1)) (sym c.in-Number.is ∙ c.number_at.ensures) in
+returns c =
+    let v = number_told (c.args.at + 4 + 1) (piece_from 32 c.args.text.now (c.args.at + 4 + 1)) c.in_ok-id.ensures in
     let w = sym c.is_word.ensures ∙ c.if-not-is_word.false in
-    λ plain. root_there c.args.text.now c.args.at c.requires plain w c.if-text-end-ne32.false _ _ v c.if-text-next-ne10.false
+    λ plain. root_there c.args.text.now c.args.at c.requires plain w c.if-text-end-ne32.false _ _ v c.if-text-id-ne10.false
 
-pub returns-in-Other : goal.returns-in-Other
+pub returns-in_err-id : goal.returns-in_err-id
 unfolding root_word
-returns-in-Other c =
-    let v = other_told (c.args.at + 4 + 1) (piece_from 32 c.args.text.now (c.args.at + 4 + 1)) (sym c.in-Other.is ∙ c.number_at.ensures) in
+returns-in_err-id c =
+    let v = other_told (c.args.at + 4 + 1) (piece_from 32 c.args.text.now (c.args.at + 4 + 1)) c.in_err-id.ensures in
     let w = sym c.is_word.ensures ∙ c.if-not-is_word.false in
-    λ plain. no_id c.args.text.now c.args.at c.requires plain w c.if-text-end-ne32.false v
+    λ plain. subst (FrontIs c.args.text.now c.args.at) (sym c.from_residual.ensures)
+    (no_id c.args.text.now c.args.at c.requires plain w c.if-text-end-ne32.false v)

@@ -1,5 +1,4 @@
 -- `past_lines`: the lines from here on (Lines). Assumes nothing.
-use Prim.Native.Nat.{◌-◌}
 use mathlib.Core.Path.{◌≡◌}
 use mathlib.Core.List.{List}
 use lib.ListN.{length}
@@ -12,7 +11,4 @@ use Rattle.sizes.proofs.past_lines.Given as goal
 
 abbrev pub invariant-loop-i : goal.invariant-loop-i
 invariant-loop-i l =
-    (xs : List Valued) → length xs ≡ l.count → AreLines l.cues xs → Stands l.fields l.at (lines_fields xs) → Going l.cues l.fields l.at l.count xs l.past l.i
-
-abbrev pub decreases-loop-i : goal.decreases-loop-i
-decreases-loop-i l = l.count - l.i
+    (xs : List Valued) → length xs ≡ l.count → AreLines l.cues xs → Stands l.fields l.at (lines_fields xs) → Going l.cues l.fields l.at l.count xs l.past l._i

@@ -10,4 +10,4 @@ returns c =
     let a = c.args in
     let l = c.loop-i in
     tabulate_of (length a.s.now) (made a.s.now a.added.now a.deleted.now) l.s l.invariant.0
-    (λ k h. l.invariant.1 k (omega (arith, c.loop-i-test.false, l.invariant.0)))
+    (λ k h. l.invariant.1 k (omega arith))

@@ -19,8 +19,5 @@ pub loop-i-preserved : goal.loop-i-preserved
 loop-i-preserved c =
     let a = c.args in
     let l = c.loop-i in
-    let more = c.loop-i-test.true in (
-      omega arith,
-      or_none l.found c.obstacles-found.result ∙ ap₂ (λ (x y : Bool). x && y) l.invariant.1 c.obstacles-found.ensures
-          ∙ sym (every_more l.i (part a.s.now a.needed.now a.forbidden.now)),
-    )
+    or_none l.found c.obstacles-found.result ∙ ap₂ (λ (x y : Bool). x && y) l.invariant c.obstacles-found.ensures
+    ∙ sym (every_more l.i (part a.s.now a.needed.now a.forbidden.now))

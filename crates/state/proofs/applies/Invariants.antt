@@ -2,9 +2,8 @@
 use mathlib.Core.Path.{◌≡◌}
 use mathlib.Core.Bool.{Bool}
 use mathlib.Core.List.{List}
-use Prim.Native.Nat.{ℕ, ◌-◌, ◌≤◌}
+use Prim.Native.Nat.{ℕ}
 use lib.Dec.{eqb}
-use lib.ListN.{length}
 use Rattle.rules.specs.State.{word, every, applies_word}
 use Rattle.state.proofs.applies.Given as goal
 
@@ -13,7 +12,4 @@ abbrev pub part : List ℕ → List ℕ → List ℕ → ℕ → Bool
 part s needed forbidden i = applies_word (word s i) (word needed i) (word forbidden i)
 
 abbrev pub invariant-loop-i : goal.invariant-loop-i
-invariant-loop-i l = (l.i ≤ length l.s) × (eqb l.found 0 ≡ every l.i 0 (part l.s l.needed l.forbidden))
-
-abbrev pub decreases-loop-i : goal.decreases-loop-i
-decreases-loop-i l = length l.s - l.i
+invariant-loop-i l = eqb l.found 0 ≡ every l.i 0 (part l.s l.needed l.forbidden)

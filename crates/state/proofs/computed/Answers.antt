@@ -24,6 +24,5 @@ unfolding word_count
 returns c =
     let a = c.args in
     let l = c.loop-w in
-    let most = l.invariant.0 in
-    let all : l.w ≡ 8 = omega (arith, c.loop-w-test.false) in
-    l.invariant.1 ∙ ap (λ (n : ℕ). bits_below n (touches a.added.words a.deleted.words)) all
+    let all : l.w ≡ 8 = omega arith in
+    l.invariant ∙ ap (λ (n : ℕ). bits_below n (touches a.added.words a.deleted.words)) all

@@ -2,7 +2,7 @@
 use mathlib.Core.Path.{◌≡◌}
 use mathlib.Core.Bool.{Bool, not}
 use mathlib.Core.List.{List}
-use Prim.Native.Nat.{ℕ, ◌-◌, ◌≤◌}
+use Prim.Native.Nat.{ℕ}
 use Rattle.rules.specs.State.{word, quiet, bits_below}
 use Rattle.state.proofs.computed.Given as goal
 
@@ -11,7 +11,4 @@ abbrev pub touches : List ℕ → List ℕ → ℕ → Bool
 touches added deleted w = not (quiet (word added w) (word deleted w))
 
 abbrev pub invariant-loop-w : goal.invariant-loop-w
-invariant-loop-w l = (l.w ≤ 8) × (l.bits ≡ bits_below l.w (touches l.adds l.deletes))
-
-abbrev pub decreases-loop-w : goal.decreases-loop-w
-decreases-loop-w l = 8 - l.w
+invariant-loop-w l = l.bits ≡ bits_below l.w (touches l.added.words l.deleted.words)

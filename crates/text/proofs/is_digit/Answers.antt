@@ -1,12 +1,7 @@
--- The two tests of the code are those of the definition, in its order. Assumes nothing.
+-- The library's test is that of the definition. Assumes nothing.
 use Rattle.rules.specs.Text.{is_digit}
-use borrow.Author.Tests.{le-leb, lt-leb}
 use Rattle.text.proofs.is_digit.Goals as goal
 
-pub returns-then-b-ge48 : goal.returns-then-b-ge48
+pub returns : goal.returns
 unfolding is_digit
-returns-then-b-ge48 c = simp (le-leb _ _ c.if-b-ge48.true)
-
-pub returns-else-b-ge48 : goal.returns-else-b-ge48
-unfolding is_digit
-returns-else-b-ge48 c = simp (lt-leb _ _ c.if-b-ge48.false)
+returns c = c.is_ascii_digit.ensures.value

@@ -1,13 +1,11 @@
 -- The number from the start is the number from here, with the digits passed in `value`; a byte that is no digit closes it, and one comes
 -- before the text is over. Assumes nothing.
-use mathlib.Core.Path.{◌≡◌, refl, sym, ap, ◌∙◌}
-use mathlib.Core.Bool.{true}
-use Prim.Native.Nat.{ℕ, ◌+◌, ◌-◌, ◌*◌, ◌≤◌, ◌<◌}
+use mathlib.Core.Path.{sym, ap, ◌∙◌}
+use Prim.Native.Nat.{ℕ, ◌+◌, ◌-◌, ◌*◌, ◌<◌}
 use native.Mathlib.Omega.{arith}
-use lib.ListN.{length, get_or}
-use Rattle.rules.specs.Text.{feed_follows}
+use lib.ListN.{get_or}
 use Rattle.text.specs.Scan.{continued}
-use Rattle.text.proofs.Scan.{digit_range, continued_large}
+use Rattle.text.proofs.Scan.{continued_large}
 use Rattle.text.proofs.Feeds.{feed_inside, feed_digit}
 use Rattle.tokens.specs.Pieces.{piece_from, as_plain}
 use Rattle.tokens.proofs.Pieces.{digits_on, digits_stop}

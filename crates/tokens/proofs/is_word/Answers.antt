@@ -1,65 +1,40 @@
--- The bytes passed are the word's, so the piece is the word exactly if from here on it is what is left of the word. Assumes nothing.
-use mathlib.Core.Path.{◌≡◌, sym, ap, ◌∙◌}
-use mathlib.Core.Bool.{true}
-use Prim.Native.Nat.{ℕ, ◌+◌, ◌-◌, ◌≤◌}
-use native.Mathlib.Omega.{arith}
-use lib.ListN.{length, drop}
-use Rattle.rules.specs.Text.{feed_follows}
-use Rattle.rules.specs.Tokens.{same_bytes}
+-- `tokens::is_word` meets its contract: the text goes on with the word's bytes or with others. Assumes nothing.
+use Rattle.std.proofs.Common.{◌≡◌, Bool, List, ℕ, ◌+◌, ◌-◌, ◌≤◌, length, take, drop, arith, rules, sym, ap, ◌∙◌}
+use Rattle.std.proofs.Math.Dec.{eqb}
+use Rattle.std.proofs.Math.Seq.{take-length}
+use Rattle.std.proofs.lemmas.List.{length-drop}
+use Rattle.std.specs.List.{starts_with}
+use lib.Pointwise.{pointwise}
 use Rattle.text.proofs.Feeds.{feed_inside}
-use Rattle.tokens.specs.Pieces.{piece_from}
-use Rattle.tokens.proofs.Pieces.{word_next, word_stops, word_done, word_feeds}
+use Rattle.tokens.proofs.Pieces.{word_begins, word_differs}
 use Rattle.tokens.proofs.is_word.Goals as goal
 
-pub overflow_add-from : goal.overflow_add-from
-overflow_add-from c =
-    let l = c.loop-i in
-    let inside = feed_inside c.args.text.now (c.args.from + l.i) l.invariant.1 in
-    omega arith
+-- The text from a place on, as the code cuts it.
+begins : (t word : List ℕ) (p : ℕ) {x : Bool} → x ≡ starts_with eqb (take (length t - p) (drop p t)) word → pointwise eqb word (take (length word) (drop p t)) ≡ x
+begins t word p e =
+    let all : drop p t ≡ take (length t - p) (drop p t) = sym (ap (λ (n : ℕ). take n (drop p t)) (sym (length-drop p t)) ∙ take-length (drop p t)) in
+    ap (λ (l : List ℕ). pointwise eqb word (take (length word) l)) all ∙ sym e
+
+pub slice_bounds-starts_with-count : goal.slice_bounds-starts_with-count
+slice_bounds-starts_with-count c = let inside = feed_inside c.args.text.now c.args.from c.requires.1 in omega arith
+
+pub slice_bounds-starts_with-start : goal.slice_bounds-starts_with-start
+slice_bounds-starts_with-start c =
+    let inside = feed_inside c.args.text.now c.args.from c.requires.1 in
+    let within : c.args.from ≤ length c.args.text.now = omega arith in
+    search rules
 
 pub bounds-text-from : goal.bounds-text-from
 bounds-text-from c =
-    let l = c.loop-i in
-    feed_inside c.args.text.now (c.args.from + l.i) l.invariant.1
-
-pub returns-then-text-from : goal.returns-then-text-from
-returns-then-text-from c =
-    let l = c.loop-i in
     let a = c.args in
-    sym
-    (l.invariant.2
-    ∙ word_stops a.separator a.text.now (a.from + l.i) l.invariant.1 a.word.now l.i c.loop-i-test.true c.if-text-from.true)
+    feed_inside a.text.now (a.from + length a.word.now) (word_begins a.separator a.text.now a.word.now a.from c.requires.0 c.requires.1 (begins a.text.now a.word.now a.from c.if-starts_with.ensures.value)).0
 
-pub loop-i-preserved : goal.loop-i-preserved
-loop-i-preserved c =
-    let l = c.loop-i in
+pub returns-then-starts_with : goal.returns-then-starts_with
+returns-then-starts_with c =
     let a = c.args in
-    let more = c.loop-i-test.true in
-    let on : a.from + l.i + 1 ≡ a.from + (l.i + 1) = omega arith in (
-      omega arith,
-      ap (feed_follows a.text.now) (sym on)
-          ∙ word_feeds a.separator a.text.now (a.from + l.i) l.invariant.1 a.word.now l.i c.requires.0 more c.if-text-from.false,
-      l.invariant.2
-          ∙ (word_next a.separator a.text.now (a.from + l.i) l.invariant.1 a.word.now l.i c.requires.0 more c.if-text-from.false
-          ∙ ap (λ (p : ℕ). same_bytes (piece_from a.separator a.text.now p) (drop (l.i + 1) a.word.now)) on),
-    )
+    c.ends_piece.ensures ∙ sym (word_begins a.separator a.text.now a.word.now a.from c.requires.0 c.requires.1 (begins a.text.now a.word.now a.from c.if-starts_with.ensures.value)).1
 
-pub overflow_add-from-2 : goal.overflow_add-from-2
-overflow_add-from-2 c =
-    let l = c.loop-i in
-    let inside = feed_inside c.args.text.now (c.args.from + l.i) l.invariant.1 in
-    omega arith
-
-pub bounds-text-from-2 : goal.bounds-text-from-2
-bounds-text-from-2 c =
-    let l = c.loop-i in
-    feed_inside c.args.text.now (c.args.from + l.i) l.invariant.1
-
-pub returns : goal.returns
-returns c =
-    let l = c.loop-i in
+pub returns-else-starts_with : goal.returns-else-starts_with
+returns-else-starts_with c =
     let a = c.args in
-    c.ends_piece.ensures
-    ∙ sym
-    (l.invariant.2
-    ∙ word_done a.separator a.text.now (a.from + l.i) l.invariant.1 a.word.now l.i c.loop-i-test.false)
+    c.if-starts_with.false ∙ sym (word_differs a.separator a.text.now a.word.now a.from c.requires.0 c.requires.1 (begins a.text.now a.word.now a.from c.if-starts_with.ensures.value))

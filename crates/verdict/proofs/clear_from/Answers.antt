@@ -18,16 +18,11 @@ pub loop-i-preserved : goal.loop-i-preserved
 unfolding no_node
 loop-i-preserved c =
     let l = c.loop-i in
-    let is = l.invariant in (
-      omega arith,
-      omega (arith, ap length is.2, length_written (λ _. no_node) c.args.nodes.now c.args.count (l.i - c.args.count)),
-      stored_next c.args.nodes.now l.nodes c.args.count l.i (omega arith) (omega arith) is.2,
-    )
+    (omega arith, stored_next c.args.nodes.now l.nodes c.args.count l.i (omega arith) (omega arith) l.invariant.1)
 
 pub returns : goal.returns
 returns c =
     let l = c.loop-i in
-    let is = l.invariant in
     let all : l.i - c.args.count ≡ length c.args.nodes.now - c.args.count =
-    omega (arith, ap length is.2, length_written (λ _. no_node) c.args.nodes.now c.args.count (l.i - c.args.count)) in
-    is.2 ∙ (ap (λ (k : ℕ). written (λ _. no_node) c.args.nodes.now c.args.count k) all ∙ cleared no_node c.args.nodes.now c.args.count)
+    omega (arith, ap length l.invariant.1, length_written (λ _. no_node) c.args.nodes.now c.args.count (l.i - c.args.count)) in
+    l.invariant.1 ∙ (ap (λ (k : ℕ). written (λ _. no_node) c.args.nodes.now c.args.count k) all ∙ cleared no_node c.args.nodes.now c.args.count)

@@ -6,8 +6,4 @@ use Rattle.verdict.proofs.clear_from.Given as goal
 
 abbrev pub invariant-loop-i : goal.invariant-loop-i
 invariant-loop-i l =
-    (l.count ≤ l.i) × (l.i - l.count ≤ length l.initial.nodes - l.count)
-    × (l.nodes ≡ written (λ _. no_node) l.initial.nodes l.count (l.i - l.count))
-
-abbrev pub decreases-loop-i : goal.decreases-loop-i
-decreases-loop-i l = length l.initial.nodes - l.i
+    (l.i - l.count ≤ length l.initial.nodes - l.count) × (l.nodes ≡ written (λ _. no_node) l.initial.nodes l.count (l.i - l.count))

@@ -12,7 +12,7 @@ returns c =
     let xs = c.args.nodes.now in
     let f = record_at c.args.work.now in
     let all : l.i ≡ c.args.count = omega arith in
-    let is : l.nodes ≡ written f xs 0 c.args.count = l.invariant.1 ∙ ap (written f xs 0) all in
+    let is : l.nodes ≡ written f xs 0 c.args.count = l.invariant ∙ ap (written f xs 0) all in
     c.clear_from.ensures
     ∙ (ap (λ (ys : List Node). filled (length ys) no_node (take c.args.count ys)) is
     ∙ gathered no_node f xs c.args.count c.requires.0)

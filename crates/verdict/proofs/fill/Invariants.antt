@@ -1,11 +1,8 @@
 -- So many turns have stored the records from the first on.
-use Rattle.std.proofs.Common.{◌≡◌, ◌-◌, ◌≤◌}
+use Rattle.std.proofs.Common.{◌≡◌}
 use Rattle.records.specs.Records.{record_at}
 use Rattle.verdict.proofs.Written.{written}
 use Rattle.verdict.proofs.fill.Given as goal
 
 abbrev pub invariant-loop-i : goal.invariant-loop-i
-invariant-loop-i l = (l.i ≤ l.count) × (l.nodes ≡ written (record_at l.work) l.initial.nodes 0 l.i)
-
-abbrev pub decreases-loop-i : goal.decreases-loop-i
-decreases-loop-i l = l.count - l.i
+invariant-loop-i l = l.nodes ≡ written (record_at l.work) l.initial.nodes 0 l.i

@@ -10,21 +10,21 @@ use Rattle.judge.proofs.Verdicts.{long_lists, admit_passes, admit_refuses}
 use Rattle.writer.proofs.Verdicts.{refused_writes, writes_as, write_is}
 use Rattle.writer.proofs.write.Goals as goal
 
-pub returns-in-Passed : goal.returns-in-Passed
-returns-in-Passed c =
+pub returns-in-Ok : goal.returns-in-Ok
+returns-in-Ok c =
     let a = c.args in
     let cleared = c.clear in
     let kept : length cleared.new.list ≡ length a.states.now = cleared.auto.list in
-    let p = admit_passes (length cleared.new.list) a.node_room (length a.work.now) a.text.now c.admit.ensures c.in-Passed.is in
+    let p = admit_passes (length cleared.new.list) a.node_room (length a.work.now) a.text.now c.admit.ensures c.in-Ok.is in
     let room = p.0 in
     let long = long_lists (length a.states.now) a.node_room (length a.work.now) a.text.now (omega arith) p.1 p.2 in
     writes_as (write_is (length a.states.now) a.node_room (length a.work.now) (length a.output.now) a.text.now _ long) kept c.write_lent.ensures
 
-pub returns-in-Refused : goal.returns-in-Refused
-returns-in-Refused c =
+pub returns-in-Err : goal.returns-in-Err
+returns-in-Err c =
     let a = c.args in
     let cleared = c.clear in
-    let x = c.in-Refused in
+    let x = c.in-Err in
     let r = c.refuse.ensures in
     let e = admit_refuses (length cleared.new.list) a.node_room (length a.work.now) a.text.now c.admit.ensures x.answer x.is in
     let lists : check (check_lists (length a.states.now) a.node_room (length a.work.now)) a.text.now ≡ refused x.answer =

@@ -3,7 +3,8 @@ use Prim.Native.Nat.{ℕ}
 use lib.ListN.{length, replicate}
 use mathlib.Core.Path.{◌≡◌, ap, ◌∙◌, subst}
 use Rattle.rules.specs.Writing.{written}
-use Rattle.writer.specs.declared.Outcome.{Outcome}
+use Rattle.std.specs.Prelude.{Result}
+use Rattle.rules.specs.declared.Answer.{Answer}
 use Rattle.writer.specs.Writes.{PutAs}
 use Rattle.writer.proofs.Verdicts.{answer_refuses, answer_finds, refused_writes, put_writes, short_writes}
 use Rattle.writer.proofs.write_text.Goals as goal
@@ -21,20 +22,20 @@ put_tidy-requires c =
     answer_finds c.args.text.now _ _ _ j.new.fields j.ensures.answers.answer c.in-Accepted.is j.ensures.fields in
     (k, read, same, stands)
 
-pub returns-in-Put : goal.returns-in-Put
-returns-in-Put c =
+pub returns-in-Ok : goal.returns-in-Ok
+returns-in-Ok c =
     let j = c.judge_text-answer in
     let (k, t, e, read, same, stands) =
     answer_finds c.args.text.now _ _ _ j.new.fields j.ensures.answers.answer c.in-Accepted.is j.ensures.fields in
-    put_writes (length c.args.output.now) j.ensures.answers e c.in-Put.bytes
-    (subst (λ (o : Outcome). PutAs (written k) (length c.args.output.now) o c.put_tidy.new.output) c.in-Put.is (c.put_tidy.ensures k read same stands))
+    put_writes (length c.args.output.now) j.ensures.answers e c.in-Ok.length
+    (subst (λ (o : Result ℕ Answer). PutAs (written k) (length c.args.output.now) o c.put_tidy.new.output) c.in-Ok.is (c.put_tidy.ensures k read same stands))
 
-pub returns-in-Short : goal.returns-in-Short
-returns-in-Short c =
+pub returns-in-Err : goal.returns-in-Err
+returns-in-Err c =
     let j = c.judge_text-answer in
     let (k, t, e, read, same, stands) =
     answer_finds c.args.text.now _ _ _ j.new.fields j.ensures.answers.answer c.in-Accepted.is j.ensures.fields in
     let kept : length j.new.states ≡ length c.args.states.now = j.auto.states in
-    short_writes (length c.args.output.now) j.ensures.answers e c.in-Short.needed
-    (subst (λ (o : Outcome). PutAs (written k) (length c.args.output.now) o c.put_tidy.new.output) c.in-Short.is (c.put_tidy.ensures k read same stands))
+    short_writes (length c.args.output.now) j.ensures.answers e c.in-Err.short
+    (subst (λ (o : Result ℕ Answer). PutAs (written k) (length c.args.output.now) o c.put_tidy.new.output) c.in-Err.is (c.put_tidy.ensures k read same stands))
     (c.clear.ensures ∙ ap (λ (n : ℕ). replicate n 0) kept)

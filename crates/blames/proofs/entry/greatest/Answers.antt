@@ -11,7 +11,6 @@ use mathlib.Core.List.{List, head_d}
 use mathlib.Core.Path.{◌≡◌, refl, sym, ap, subst}
 use native.Mathlib.Omega.{arith}
 use Rattle.blames.proofs.entry.greatest.Goals as goal
-use Rattle.blames.proofs.entry.greatest.Goals.{then-high-index, else-high-index}
 
 -- A member that is found is a position of the choice.
 inside : (walk : ℕ → List ℕ → List ℕ → ℕ) (v set : ℕ) (gs : List ℕ) (far rest s : ℕ) → Going walk v set gs far rest → 0 < length (members_of rest)
@@ -29,11 +28,11 @@ bounds-choice-s c =
     let l = c.loop-s in
     inside highest c.args.v c.args.set c.args.choice.now l.high l.rest c.lowest-s.result l.invariant (omega arith) c.lowest-s.ensures
 
-pub overflow_mul-index : goal.overflow_mul-index
-overflow_mul-index c = omega (arith, small c.args.k c.args.choice.now c.lowest-s.result c.requires.0 c.requires.1)
+pub overflow_mul-choice : goal.overflow_mul-choice
+overflow_mul-choice c = omega (arith, small c.args.k c.args.choice.now c.lowest-s.result c.requires.0 c.requires.1)
 
-pub overflow_add-index : goal.overflow_add-index
-overflow_add-index c = omega (arith, small c.args.k c.args.choice.now c.lowest-s.result c.requires.0 c.requires.1)
+pub overflow_add-choice : goal.overflow_add-choice
+overflow_add-choice c = omega (arith, small c.args.k c.args.choice.now c.lowest-s.result c.requires.0 c.requires.1)
 
 pub loop-s-preserved : goal.loop-s-preserved
 unfolding of_gap
@@ -41,9 +40,4 @@ loop-s-preserved c =
     let l = c.loop-s in
     let gs = c.args.choice.now in
     let at : get_or gs c.lowest-s.result 0 ≡ get_or gs (head_d (members_of l.rest) 32) 0 = ap (λ (n : ℕ). get_or gs n 0) c.lowest-s.ensures in
-    going_on l.invariant (omega arith) max (λ w s ss. refl) c.if-high-index.high c.others-rest.result
-    (elim c.if-high-index.branch [
-      | then-high-index w ↦ omega (arith, w.if-high-index.true, w.high-is, at)
-      | else-high-index w ↦ omega (arith, w.if-high-index.false, w.high-is, at)
-    ])
-    c.others-rest.ensures
+    going_on l.invariant (omega arith) max (λ w s ss. refl) _ c.others-rest.result (omega (arith, at)) c.others-rest.ensures

@@ -1,17 +1,15 @@
--- `test`: the positions that are named are those of the broken entry; the columns stay those of the states. Assumes nothing.
-use Rattle.blames.specs.declared.entry.Entry.{Entry}
+-- `test`: the positions that are named are those of the broken entry. Assumes nothing.
 use Rattle.blames.specs.Entries.{positions_of}
-use lib.Bits.{bit_or}
-use mathlib.Core.Path.{ap}
+use mathlib.Core.Path.{refl}
 use Rattle.blames.proofs.pool.test.Goals as goal
 
-pub returns-in-At-clause-says : goal.returns-in-At-clause-says
+pub returns-in-Some-clause-says : goal.returns-in-Some-clause-says
 unfolding positions_of
-returns-in-At-clause-says c =
-    let t = c.in-At.ensures.broken in
+returns-in-Some-clause-says c =
+    let t = c.in-Some.ensures.broken in
     record {
-      slot = c.in-At.slot;
+      slot = c.in-Some.hit.slot;
       inside = t.0;
-      broken = t.2;
-      positions = ap (λ (y : Entry). bit_or y.ends y.starts) c.entry_at-x.ensures;
+      broken = rw c.loop-s.invariant at t.2;
+      positions = refl;
     }

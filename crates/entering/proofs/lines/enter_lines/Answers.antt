@@ -4,7 +4,7 @@ use Rattle.blames.specs.Entries.{EntryFits, EntrySound}
 use Rattle.constraints.specs.Methods.{meant}
 use Rattle.entering.proofs.Entered.{due, line_among, entered_on}
 use lib.ListN.{length}
-use mathlib.Core.Path.{sym, subst, ◌∙◌}
+use mathlib.Core.Path.{sym, ◌∙◌, subst}
 use Rattle.entering.proofs.lines.enter_lines.Goals as goal
 
 -- Of any constraints that stand where the arguments say; the caller names some.
@@ -19,7 +19,7 @@ entry_of-x-requires c =
     let h = c.requires.constraints_here in
     let p = c.loop-number.invariant.2 h.0 h.1 in
     let x = due p c.loop-number-test.true in
-    (c.requires.k_bound.3, h.2 (meant c.line_at-d.result) (line_among p x (c.line_at-d.ensures x.this x.later x.stands)))
+    h.2 (meant c.line_at-d.result) (line_among p x (c.line_at-d.ensures x.this x.later x.stands))
 
 pub loop-number-preserved : goal.loop-number-preserved
 loop-number-preserved c =
@@ -28,7 +28,7 @@ loop-number-preserved c =
     let e = length a.choice.now in
     let l = c.loop-number.invariant in
     let more = c.loop-number-test.true in (
-      c.enter.ensures.columns,
+      c.enter.ensures.same ∙ l.0,
       c.enter.ensures.fits,
       λ cs h. let x = due (l.2 cs h) more in entered_on (l.2 cs h) x (c.line_at-d.ensures x.this x.later x.stands),
       λ holds passing cs h all sound.
@@ -37,8 +37,4 @@ loop-number-preserved c =
           let its : EntryFits k e c.entry_of-x.result → EntrySound holds passing k e c.entry_of-x.result =
           subst (λ (y : Entry). EntryFits k e y → EntrySound holds passing k e y) (sym c.entry_of-x.ensures) (all c.line_at-d.result among) in
           c.enter.ensures.sound holds passing its (l.3 holds passing cs h all sound),
-      c.enter.auto.pool ∙ l.4,
-      c.enter.auto.counts ∙ l.5,
-      c.enter.auto.columns ∙ l.6,
-      c.enter.auto.built ∙ l.7,
     )

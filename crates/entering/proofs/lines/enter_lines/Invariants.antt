@@ -1,7 +1,6 @@
 -- `enter_lines`: the constraints that are left stand at a place, and the entries of the others are sound (Entered). Assumes nothing.
-use Prim.Native.Nat.{ℕ, ◌+◌, ◌-◌}
+use Prim.Native.Nat.{ℕ}
 use Rattle.blames.specs.Entries.{PoolFits, PoolSound}
-use Rattle.columns.specs.Columns.{Columns}
 use Rattle.constraints.specs.Methods.{ConstraintsHere}
 use Rattle.entering.proofs.Entered.{Entered}
 use Rattle.entering.specs.Lines.{EntriesSound}
@@ -15,15 +14,8 @@ use Rattle.entering.proofs.lines.enter_lines.Given as goal
 
 abbrev pub invariant-loop-number : goal.invariant-loop-number
 invariant-loop-number l =
-    Columns l.states (l.k + 1) l.columns l.built
+    (l.columns ≡ l.fn.columns)
     × PoolFits l.k (length l.choice) l.pool
     × ((cs : List Constraint) → ConstraintsHere l.fields l.from l.count cs → Entered l.fields l.at l.count l.number cs)
     × ((holds : Holds) (passing : List ℕ → Bool) (cs : List Constraint) → ConstraintsHere l.fields l.from l.count cs → EntriesSound holds passing l.k (length l.choice) l.own l.sums cs
     → PoolSound holds passing l.k (length l.choice) l.initial.pool → PoolSound holds passing l.k (length l.choice) l.pool)
-    × (length l.pool ≡ length l.initial.pool)
-    × (length l.counts ≡ length l.initial.counts)
-    × (length l.columns ≡ length l.initial.columns)
-    × (length l.built ≡ length l.initial.built)
-
-abbrev pub decreases-loop-number : goal.decreases-loop-number
-decreases-loop-number l = l.count - l.number

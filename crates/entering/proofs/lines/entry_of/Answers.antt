@@ -36,23 +36,20 @@ returns-then-is_either-3 c =
     ∙ sym (entry_B a.d a.own a.sums.now (sym c.is_either.ensures ∙ c.if-is_either.false) (sym c.is_either-2.ensures ∙ c.if-is_either-2.false)
     (sym c.is_either-3.ensures ∙ c.if-is_either-3.true))
 
-pub part_at-t-requires : goal.part_at-t-requires
-part_at-t-requires c =
-    let n = named c.args.d c.requires.1 (sym c.is_either.ensures ∙ c.if-is_either.false) (sym c.is_either-2.ensures ∙ c.if-is_either-2.false)
+pub bounds-sums-d : goal.bounds-sums-d
+bounds-sums-d c =
+    let n = named c.args.d c.requires (sym c.is_either.ensures ∙ c.if-is_either.false) (sym c.is_either-2.ensures ∙ c.if-is_either-2.false)
     (sym c.is_either-3.ensures ∙ c.if-is_either-3.false) in
-    let few = c.requires.0 in
     omega (arith, n.0)
 
-pub part_at-v-requires : goal.part_at-v-requires
-part_at-v-requires c =
-    let n = named c.args.d c.requires.1 (sym c.is_either.ensures ∙ c.if-is_either.false) (sym c.is_either-2.ensures ∙ c.if-is_either-2.false)
+pub bounds-sums-d-2 : goal.bounds-sums-d-2
+bounds-sums-d-2 c =
+    let n = named c.args.d c.requires (sym c.is_either.ensures ∙ c.if-is_either.false) (sym c.is_either-2.ensures ∙ c.if-is_either-2.false)
     (sym c.is_either-3.ensures ∙ c.if-is_either-3.false) in
-    let few = c.requires.0 in
     omega (arith, n.1)
 
 pub returns : goal.returns
 returns c =
     let a = c.args in
-    ap₂ (entry_from a.d 0) c.part_at-t.ensures c.part_at-v.ensures
-    ∙ sym (entry_O a.d a.own a.sums.now (sym c.is_either.ensures ∙ c.if-is_either.false) (sym c.is_either-2.ensures ∙ c.if-is_either-2.false)
+    sym (entry_O a.d a.own a.sums.now (sym c.is_either.ensures ∙ c.if-is_either.false) (sym c.is_either-2.ensures ∙ c.if-is_either-2.false)
     (sym c.is_either-3.ensures ∙ c.if-is_either-3.false))

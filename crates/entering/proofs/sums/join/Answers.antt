@@ -8,4 +8,4 @@ unfolding joined
 returns c =
     let a = c.args.a in
     let b = c.args.b in
-    λ j. record { low = c.lesser.ensures j; high = c.greater.ensures j; set = bit_or a.set b.set }
+    λ j. record { low = c.min.ensures j; high = c.max.ensures j; set = bit_or a.set b.set }

@@ -9,9 +9,9 @@ use mathlib.Core.Bool.{false}
 use native.Mathlib.Omega.{arith}
 use Rattle.lines.proofs.item.read_item.Goals as goal
 
-pub returns-then-item-lt20 : goal.returns-then-item-lt20
-returns-then-item-lt20 c =
-    rw (item_one c.args.item c.if-item-lt20.true) c.single.ensures
+pub returns-then-item-lt-KINDS : goal.returns-then-item-lt-KINDS
+returns-then-item-lt-KINDS c =
+    rw (item_one c.args.item c.if-item-lt-KINDS.true) c.single.ensures
 
 pub returns-in-20 : goal.returns-in-20
 unfolding item_of kind_of read_item
@@ -22,12 +22,12 @@ unfolding item_of kind_of read_item
 returns-in-21 c =
     let a = c.args in
     rw c.in-21.is
-    (subtasks_left a.from a.fields.now (read_list a.text.now (in_kind a.x.now a.before.now 17) (in_kind a.x.now a.before.now 19) false a.field a.c.at) _ _
+    (subtasks_left a.from a.fields.now (read_list a.text.now (in_kind a.x.now.numbers a.before.now 17) (in_kind a.x.now.numbers a.before.now 19) false a.field a.c.at) _ _
     c.list-in-21.ensures)
 
 pub returns-in_default : goal.returns-in_default
 unfolding kind_of read_item
 returns-in_default c =
     let a = c.args in
-    rw (item_cues a.item c.if-item-lt20.false (λ e. omega (arith, e)) (λ e. omega (arith, e)))
-    (cues_left a.from a.fields.now (read_members a.text.now (in_kind a.x.now a.before.now 15) false (header_in a.x.now).cues 0 a.field a.c.at) _ _ c.members.ensures)
+    rw (item_cues a.item c.if-item-lt-KINDS.false (λ e. omega (arith, e)) (λ e. omega (arith, e)))
+    (cues_left a.from a.fields.now (read_members a.text.now (in_kind a.x.now.numbers a.before.now 15) false (header_in a.x.now.numbers).cues 0 a.field a.c.at) _ _ c.members.ensures)

@@ -17,7 +17,7 @@ use Rattle.lines.proofs.line.read_line.Goals as goal
 pub returns-then-past-at : goal.returns-then-past-at
 returns-then-past-at c =
     let a = c.args in
-    unended_left a.text.now (role_of a.due) (header_in a.x.now) (get_or a.x.now 7 0) a.past a.c.at c.requires.by_index a.from a.fields.now c.if-past-at.true _
+    unended_left a.text.now (role_of a.due) (header_in a.x.now.numbers) (get_or a.x.now.numbers 7 0) a.past a.c.at c.requires.by_index a.from a.fields.now c.if-past-at.true _
 
 pub bounds-text-at : goal.bounds-text-at
 bounds-text-at c =
@@ -29,41 +29,41 @@ pub letter-requires : goal.letter-requires
 letter-requires c =
     let a = c.args in
     let f = c.requires.by_index a.c.at ∙ lt-ltb a.c.at a.past c.if-past-at.false in
-    (f, role_inside (role_of a.due) c.shape-shape.result (get_or a.text.now a.c.at 0) c.shape-shape.ensures (c.if-shape-role_number.true ∙ c.role_number.ensures))
+    (f, role_inside (role_of a.due) c.shape-shape.result (get_or a.text.now a.c.at 0) c.shape-shape.ensures (c.if-shape-role_number.false ∙ c.role_number.ensures))
 
 pub items-requires-clause-room : goal.items-requires-clause-room
 items-requires-clause-room c =
     let a = c.args in
     let f = c.requires.by_index a.c.at ∙ lt-ltb a.c.at a.past c.if-past-at.false in
-    let got = letter_read (letter_at a.text.now a.c.at) (sym c.in-Byte.is ∙ c.letter.ensures) in
+    let got = letter_read (letter_at a.text.now a.c.at) (sym c.in-Some.is ∙ c.letter.ensures) in
     let next = letter_next a.text.now a.c.at got in
     let low = c.requires.ready.ahead in
     let room = c.requires.ready in
     record {
       short = room.short;
       inside = next.1;
-      long = let l = room.long in let e = length-set a.fields.now a.from c.in-Byte.byte in omega arith;
+      long = let l = room.long in let e = length-set a.fields.now a.from c.from.result in omega arith;
       ahead = omega (arith, next.0);
       feeds = letter_feeds a.text.now a.c.at got f;
     }
 
-pub returns-in-Byte : goal.returns-in-Byte
-returns-in-Byte c =
+pub returns : goal.returns
+returns c =
     let a = c.args in
     let f = c.requires.by_index a.c.at ∙ lt-ltb a.c.at a.past c.if-past-at.false in
-    let got = letter_read (letter_at a.text.now a.c.at) (sym c.in-Byte.is ∙ c.letter.ensures) in
+    let got = letter_read (letter_at a.text.now a.c.at) (sym c.in-Some.is ∙ c.letter.ensures) in
     let same = letter_byte a.text.now a.c.at got f in
-    due_left a.text.now (role_of a.due) (header_in a.x.now) (get_or a.x.now 7 0) a.past a.c.at c.requires.by_index a.from a.fields.now
-    c.in-Byte.byte c.in-Byte.next.at c.shape-shape.result c.if-past-at.false got
-    (c.shape-shape.ensures ∙ ap (λ (k : ℕ). row_shown (row_of k)) (sym same)) (c.if-shape-role_number.true ∙ c.role_number.ensures) _ _ c.items.ensures
+    due_left a.text.now (role_of a.due) (header_in a.x.now.numbers) (get_or a.x.now.numbers 7 0) a.past a.c.at c.requires.by_index a.from a.fields.now
+    c.in-Some.letter.byte c.in-Some.letter.next.at c.shape-shape.result c.if-past-at.false got
+    (c.shape-shape.ensures ∙ ap (λ (k : ℕ). row_shown (row_of k)) (sym same)) (c.if-shape-role_number.false ∙ c.role_number.ensures) _ _ (rw c.from.ensures at c.items.ensures)
 
-pub returns-in-Wrong : goal.returns-in-Wrong
-returns-in-Wrong c =
+pub returns-in_default : goal.returns-in_default
+returns-in_default c =
     let a = c.args in
-    unlettered_left a.text.now (role_of a.due) (header_in a.x.now) (get_or a.x.now 7 0) a.past a.c.at c.requires.by_index a.from a.fields.now c.if-past-at.false
-    (letter_read (letter_at a.text.now a.c.at) (sym c.in-Wrong.is ∙ c.letter.ensures)) _
+    unlettered_left a.text.now (role_of a.due) (header_in a.x.now.numbers) (get_or a.x.now.numbers 7 0) a.past a.c.at c.requires.by_index a.from a.fields.now c.if-past-at.false
+    (letter_read (letter_at a.text.now a.c.at) (sym c.in_default.is ∙ c.letter.ensures)) _
 
-pub returns-else-shape-role_number : goal.returns-else-shape-role_number
-returns-else-shape-role_number c =
+pub returns-then-shape-role_number : goal.returns-then-shape-role_number
+returns-then-shape-role_number c =
     let a = c.args in
-    other_left a.text.now (role_of a.due) (header_in a.x.now) (get_or a.x.now 7 0) a.past a.c.at c.requires.by_index a.from a.fields.now c.shape-shape.result c.if-past-at.false c.shape-shape.ensures (λ e. c.if-shape-role_number.false (e ∙ sym c.role_number.ensures)) _
+    other_left a.text.now (role_of a.due) (header_in a.x.now.numbers) (get_or a.x.now.numbers 7 0) a.past a.c.at c.requires.by_index a.from a.fields.now c.shape-shape.result c.if-past-at.false c.shape-shape.ensures (λ e. c.if-shape-role_number.true (e ∙ sym c.role_number.ensures)) _

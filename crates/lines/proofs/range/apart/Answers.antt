@@ -5,14 +5,14 @@ use mathlib.Core.Path.{◌≡◌}
 use native.Mathlib.Omega.{arith}
 use Rattle.lines.proofs.range.apart.Goals as goal
 
-pub returns-then-kind-eq1 : goal.returns-then-kind-eq1
+pub returns-in-1 : goal.returns-in-1
 unfolding apart_from kind_of
-returns-then-kind-eq1 c = rw c.if-kind-eq1.true c.is_compound.ensures
+returns-in-1 c = rw c.in-1.is c.is_compound.ensures
 
-pub returns-then-kind-eq2 : goal.returns-then-kind-eq2
+pub returns-in-2 : goal.returns-in-2
 unfolding apart_from kind_of
-returns-then-kind-eq2 c = rw c.if-kind-eq2.true
+returns-in-2 c = rw c.in-2.is
 
-pub returns-else-kind-eq2 : goal.returns-else-kind-eq2
+pub returns-in_default : goal.returns-in_default
 unfolding apart_from kind_of
-returns-else-kind-eq2 c = let zero : c.args.kind ≡ 0 = omega arith in rw zero
+returns-in_default c = let zero : c.args.kind ≡ 0 = omega arith in rw zero

@@ -4,9 +4,9 @@ use Rattle.tree.specs.Layout.{subtasks_from, subtasks_past}
 use native.Mathlib.Omega.{arith}
 use Rattle.parts.proofs.spans.subtask_nodes.Goals as goal
 
-pub bounds-work-put : goal.bounds-work-put
+pub bounds-work-i : goal.bounds-work-i
 unfolding subtasks_past
-bounds-work-put c = omega (arith, c.requires.subtasks_past_in_bounds, c.requires.count_bound, c.loop-i.invariant.size)
+bounds-work-i c = omega (arith, c.requires.subtasks_past_in_bounds, c.requires.count_bound, c.loop-i.invariant.size)
 
 pub after_at-at-requires : goal.after_at-at-requires
 unfolding subtasks_from

@@ -18,25 +18,25 @@ unfolding word_count state_need
 run-requires-clause-room c =
     let a = c.args in
     let p = c.requires.left in
-    let few = few_cues p.0 a.fields.now a.directory.now a.header a.initial a.plan p.1 in
+    let few = few_cues p.0 a.fields.now a.directory.now a.case.header a.case.initial a.case.plan p.1 in
     let room = c.requires.room in
     omega arith
 
-pub returns-in-All : goal.returns-in-All
-returns-in-All c =
+pub returns-in-Ok : goal.returns-in-Ok
+returns-in-Ok c =
     let a = c.args in
     let r = c.run in
     λ k left line.
-    run_passes k r.result a.states.now _ (r.ensures k left) a.header (length a.states.now) c.in-All.is left.head c.requires.zero
-    (left_worded k a.fields.now a.directory.now a.header a.initial a.plan left)
+    run_passes k r.result a.states.now _ (r.ensures k left) a.case.header (length a.states.now) c.in-Ok.is left.head c.requires.zero
+    (left_worded k a.fields.now a.directory.now a.case.header a.case.initial a.case.plan left)
 
-pub returns-in-Stopped : goal.returns-in-Stopped
-returns-in-Stopped c =
+pub returns-in-Err : goal.returns-in-Err
+returns-in-Err c =
     let a = c.args in
     let r = c.run in
-    let x = c.in-Stopped in
+    let x = c.in-Err in
     let kept : length r.new.states ≡ length a.states.now = r.auto.states in
     λ k left line.
     refuses (length a.states.now) (replay_run k) _ _
-    (run_stops k r.result a.states.now _ (r.ensures k left) x.cue x.is ∙ ap (λ (n : ℕ). refused (Inapplicable n x.cue)) (sym line))
+    (run_stops k r.result a.states.now _ (r.ensures k left) x.field-0 x.is ∙ ap (λ (n : ℕ). refused (Inapplicable n x.field-0.cue)) (sym line))
     (c.clear.ensures ∙ ap (λ (n : ℕ). replicate n 0) kept)

@@ -21,29 +21,29 @@ unfolding work_need directory_size
 replay_case-requires-clause-left c =
     let a = c.args in
     let r = c.read_case in
-    let x = c.in-Case in
+    let x = c.in-Ok in
     let kept : length r.new.directory ≡ length a.work.now = r.auto.directory in
     let lent = c.requires.lists.1 in
     let long : directory_size ≤ length r.new.directory = omega arith in
-    let w = left_by a.text.now r.new.fields r.new.directory r.result r.ensures c.requires.short x.header x.plan_line x.initial x.plan x.nodes long x.is in
+    let w = left_by a.text.now r.new.fields r.new.directory r.result r.ensures c.requires.short x.case long x.is in
     (w.0, w.1)
 
-pub returns-in-Case : goal.returns-in-Case
+pub returns-in-Ok : goal.returns-in-Ok
 unfolding work_need directory_size
-returns-in-Case c =
+returns-in-Ok c =
     let a = c.args in
     let r = c.read_case in
-    let x = c.in-Case in
+    let x = c.in-Ok in
     let kept : length r.new.directory ≡ length a.work.now = r.auto.directory in
     let lent = c.requires.lists.1 in
     let long : directory_size ≤ length r.new.directory = omega arith in
-    let w = left_by a.text.now r.new.fields r.new.directory r.result r.ensures c.requires.short x.header x.plan_line x.initial x.plan x.nodes long x.is in
+    let w = left_by a.text.now r.new.fields r.new.directory r.result r.ensures c.requires.short x.case long x.is in
     as_replayed (replay_text a.text.now) (replay_run w.0) (length a.states.now) _ _ w.3 (c.replay_case.ensures w.0 w.1 w.2)
 
-pub returns-in-Refused : goal.returns-in-Refused
-returns-in-Refused c =
+pub returns-in-Err : goal.returns-in-Err
+returns-in-Err c =
     let a = c.args in
     let r = c.read_case in
-    let x = c.in-Refused in
+    let x = c.in-Err in
     refuses (length a.states.now) (replay_text a.text.now) x.answer _
     (text_refused a.text.now r.new.fields r.new.directory r.result r.ensures c.requires.short x.answer x.is) c.requires.zero

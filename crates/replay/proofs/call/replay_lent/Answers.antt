@@ -40,18 +40,6 @@ returns-then-text-gt-TEXT c =
     let over : text_most < length a.text.now = omega (arith, c.if-text-gt-TEXT.true) in
     refuses s (replay (replay_lists s w) a.text.now) LongText _ (long_lists a.text.now s w long long_too ∙ text_long a.text.now over) c.requires.zero
 
-pub replay_short-requires-clause-lists : goal.replay_short-requires-clause-lists
-unfolding state_need word_count work_need
-replay_short-requires-clause-lists c = (omega (arith, c.if-states.false), omega (arith, c.if-work-lt-WORK.false))
-
-pub replay_long-requires-clause-lists : goal.replay_long-requires-clause-lists
-unfolding state_need word_count work_need
-replay_long-requires-clause-lists c = (omega (arith, c.if-states.false), omega (arith, c.if-work-lt-WORK.false))
-
-pub replay_long-requires-clause-short : goal.replay_long-requires-clause-short
-unfolding text_most
-replay_long-requires-clause-short c = omega (arith, c.if-text-gt-TEXT.false)
-
 pub returns-then-text : goal.returns-then-text
 unfolding state_need word_count work_need
 returns-then-text c =
@@ -60,7 +48,7 @@ returns-then-text c =
     let w = length a.work.now in
     let long : state_need ≤ s = omega (arith, c.if-states.false) in
     let long_too : work_need ≤ w = omega (arith, c.if-work-lt-WORK.false) in
-    as_replayed (replay (replay_lists s w) a.text.now) (replay_text a.text.now) s _ _ (long_lists a.text.now s w long long_too) c.replay_short.ensures
+    as_replayed (replay (replay_lists s w) a.text.now) (replay_text a.text.now) s _ _ (long_lists a.text.now s w long long_too) c.replay_with_room.ensures
 
 pub returns-else-text : goal.returns-else-text
 unfolding state_need word_count work_need
@@ -70,4 +58,4 @@ returns-else-text c =
     let w = length a.work.now in
     let long : state_need ≤ s = omega (arith, c.if-states.false) in
     let long_too : work_need ≤ w = omega (arith, c.if-work-lt-WORK.false) in
-    as_replayed (replay (replay_lists s w) a.text.now) (replay_text a.text.now) s _ _ (long_lists a.text.now s w long long_too) c.replay_long.ensures
+    as_replayed (replay (replay_lists s w) a.text.now) (replay_text a.text.now) s _ _ (long_lists a.text.now s w long long_too) c.replay_with_room-else-text.ensures

@@ -1,5 +1,5 @@
 -- `decode`: the rows below i have the sets of the line, and the others are zero (Filling). Assumes nothing.
-use Prim.Native.Nat.{ℕ, ◌+◌, ◌-◌, ◌*◌}
+use Prim.Native.Nat.{ℕ, ◌+◌, ◌*◌}
 use Rattle.rows.proofs.Filling.{Filling}
 use Rattle.rules.specs.State.{insert_all}
 use Rattle.running.proofs.SetFields.{place_of}
@@ -16,6 +16,3 @@ IsSetOf fields at n j s = s ≡ insert_all (replicate n 0) (members_at fields (p
 abbrev pub invariant-loop-i : goal.invariant-loop-i
 invariant-loop-i l =
     (l.place ≡ place_of l.fields (l.at + 1) l.i) × Filling l.size set_count (set_count * l.size) (IsSetOf l.fields l.at l.size) l.words l.i
-
-abbrev pub decreases-loop-i : goal.decreases-loop-i
-decreases-loop-i l = set_count - l.i

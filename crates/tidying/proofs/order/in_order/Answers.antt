@@ -1,5 +1,5 @@
 -- `in_order`: all are in order exactly where the last one passed and those left are (Passing). Assumes nothing.
-use mathlib.Core.Path.{refl, sym, ◌∙◌}
+use mathlib.Core.Path.{sym, ◌∙◌}
 use mathlib.Core.List.{List}
 use Prim.Native.Nat.{ℕ, ◌<◌}
 use Rattle.sorting.specs.declared.Key.{Key}
@@ -41,26 +41,24 @@ pub loop-i-init : goal.loop-i-init
 loop-i-init c =
     let a = c.args in
     let k = c.key_at-last in
-    let some = c.if-count-eq0.false in (
-      omega arith,
-      λ cs h.
-          let d = begin a.fields.now a.from a.count cs (omega arith) h in
-          passing_starts a.fields.now a.from cs d k.result (k.ensures d.c d.line) (λ j. let w = c.type_inv.fields j in omega arith)
-          c.key_size.result c.key_size.ensures,
-    )
+    let some = c.if-count-eq0.false in
+    λ cs h.
+    let d = begin a.fields.now a.from a.count cs (omega arith) h in
+    passing_starts a.fields.now a.from cs d k.result (k.ensures d.c d.line) (λ j. let w = c.type_inv.fields j in omega arith)
+    c.key_size.result c.key_size.ensures
 
 pub key_at-key-requires : goal.key_at-key-requires
 key_at-key-requires c =
-    let d = next c.args.fields.now c.args.from c.args.count c.requires.0 c.loop-i.last c.loop-i.at c.loop-i.i c.loop-i-test.true c.requires.1 (c.loop-i.invariant.1 c.requires.0 c.requires.1) in
+    let d = next c.args.fields.now c.args.from c.args.count c.requires.0 c.loop-i.last c.loop-i.at c.loop-i._i c.loop-i-test.true c.requires.1 (c.loop-i.invariant c.requires.0 c.requires.1) in
     (d.c, d.line)
 
-pub overflow_add-at-then-less : goal.overflow_add-at-then-less
-overflow_add-at-then-less c =
+pub overflow_add-at-in-loop-i : goal.overflow_add-at-in-loop-i
+overflow_add-at-in-loop-i c =
     let l = c.loop-i in
     let a = c.args in
     let k = c.key_at-key in
-    let d = next c.args.fields.now c.args.from c.args.count c.requires.0 c.loop-i.last c.loop-i.at c.loop-i.i c.loop-i-test.true c.requires.1 (c.loop-i.invariant.1 c.requires.0 c.requires.1) in
-    let w = line_inside a.fields.now l.at (l.invariant.1 c.requires.0 c.requires.1).rest d k.result (k.ensures d.c d.line)
+    let d = next c.args.fields.now c.args.from c.args.count c.requires.0 c.loop-i.last c.loop-i.at c.loop-i._i c.loop-i-test.true c.requires.1 (c.loop-i.invariant c.requires.0 c.requires.1) in
+    let w = line_inside a.fields.now l.at (l.invariant c.requires.0 c.requires.1).rest d k.result (k.ensures d.c d.line)
     (λ j. let w = c.type_inv.fields j in omega arith) in
     let z = c.key_size-at.ensures in
     omega arith
@@ -70,21 +68,18 @@ loop-i-preserved c =
     let l = c.loop-i in
     let a = c.args in
     let k = c.key_at-key in
-    let more = c.loop-i-test.true in (
-      omega arith,
-      λ cs h.
-          let d = next a.fields.now a.from a.count cs l.last l.at l.i c.loop-i-test.true h (l.invariant.1 cs h) in
-          passing_on a.fields.now a.from cs l.last l.at l.i (l.invariant.1 cs h) d k.result (k.ensures d.c d.line)
-          (λ j. let w = c.type_inv.fields j in omega arith)
-          (sym c.less.ensures ∙ c.if-less.true) c.key_size-at.result c.key_size-at.ensures,
-    )
+    λ cs h.
+    let d = next a.fields.now a.from a.count cs l.last l.at l._i c.loop-i-test.true h (l.invariant cs h) in
+    passing_on a.fields.now a.from cs l.last l.at l._i (l.invariant cs h) d k.result (k.ensures d.c d.line)
+    (λ j. let w = c.type_inv.fields j in omega arith)
+    (sym c.less.ensures ∙ c.if-not-less.false) c.key_size-at.result c.key_size-at.ensures
 
-pub returns-else-less : goal.returns-else-less
-returns-else-less c = λ cs h.
+pub returns-then-not-less : goal.returns-then-not-less
+returns-then-not-less c = λ cs h.
     let l = c.loop-i in
     let a = c.args in
     let k = c.key_at-key in
-    let d = next a.fields.now a.from a.count cs l.last l.at l.i c.loop-i-test.true h (l.invariant.1 cs h) in
-    passing_stops a.fields.now a.from cs l.last l.at l.i (l.invariant.1 cs h) d k.result (k.ensures d.c d.line)
+    let d = next a.fields.now a.from a.count cs l.last l.at l._i c.loop-i-test.true h (l.invariant cs h) in
+    passing_stops a.fields.now a.from cs l.last l.at l._i (l.invariant cs h) d k.result (k.ensures d.c d.line)
     (λ j. let w = c.type_inv.fields j in omega arith)
-    (sym c.less.ensures ∙ c.if-less.false) _ refl
+    (sym c.less.ensures ∙ c.if-not-less.true)

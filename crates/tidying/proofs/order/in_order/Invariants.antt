@@ -1,13 +1,9 @@
 -- `in_order`: all are in order exactly where the last one passed and those left are (Passing). Assumes nothing.
 use mathlib.Core.List.{List}
-use Prim.Native.Nat.{◌-◌, ◌≤◌}
 use Rattle.rules.specs.Case.{Constraint}
 use Rattle.tidying.specs.Tidy.{ConstraintsHere}
 use Rattle.tidying.proofs.Passing.{Passing}
 use Rattle.tidying.proofs.order.in_order.Given as goal
 
 abbrev pub invariant-loop-i : goal.invariant-loop-i
-invariant-loop-i l = (l.i ≤ l.count) × ((cs : List Constraint) → ConstraintsHere l.fields l.from l.count cs → Passing l.fields l.from cs l.last l.at l.i)
-
-abbrev pub decreases-loop-i : goal.decreases-loop-i
-decreases-loop-i l = l.count - l.i
+invariant-loop-i l = (cs : List Constraint) → ConstraintsHere l.fields l.from l.count cs → Passing l.fields l.from cs l.last l.at l._i

@@ -1,13 +1,9 @@
 -- `methods_in_order`: all are in order exactly where those left are (Passing). Assumes nothing.
 use mathlib.Core.List.{List}
-use Prim.Native.Nat.{◌-◌, ◌≤◌}
 use Rattle.rules.specs.Case.{Method}
 use Rattle.tidying.specs.Tidy.{MethodsHere}
 use Rattle.tidying.proofs.Passing.{Trying}
 use Rattle.tidying.proofs.order.methods_in_order.Given as goal
 
 abbrev pub invariant-loop-i : goal.invariant-loop-i
-invariant-loop-i l = (l.i ≤ l.count) × ((ms : List Method) → MethodsHere l.fields l.from l.count ms → Trying l.fields ms l.at l.i)
-
-abbrev pub decreases-loop-i : goal.decreases-loop-i
-decreases-loop-i l = l.count - l.i
+invariant-loop-i l = (ms : List Method) → MethodsHere l.fields l.from l.count ms → Trying l.fields ms l.at l._i

@@ -1,6 +1,8 @@
 -- The node's fit, from what is taken of it. Assumes nothing.
 use Rattle.tree.proofs.Steps.{line_small, judge_lacking, stands_here, entry_within, judge_fit}
 use Rattle.tree.proofs.Entries.{two_fields}
+use Rattle.std.proofs.lemmas.Result.{err_from_is_err_and}
+use Rattle.std.specs.Prelude.{Ok, Err}
 use lib.ListN.{get_or}
 use native.Mathlib.Omega.{arith}
 use Rattle.tree.proofs.fit.judge.Goals as goal
@@ -44,19 +46,22 @@ overflow_add-next-2 c =
     let i = (stands_here k a.fields.now a.g a.work.now st a.p f c.if-g-p.false).inside in
     omega (arith, i, c.node_size.ensures)
 
-pub fit_of-fit-requires : goal.fit_of-fit-requires
-fit_of-fit-requires c =
+pub fit_of-requires : goal.fit_of-requires
+fit_of-requires c =
     let a = c.args in
     let (k, st, f) = c.requires in
     let e = c.entry_at-entry in
     entry_within k a.fields.now a.g a.work.now st a.p f c.if-g-p.false e.result e.ensures
 
+pub returns-in_err-fit : goal.returns-in_err-fit
+returns-in_err-fit c = λ k st f.
+    let a = c.args in
+    let p = err_from_is_err_and c.from_residual.result c.from_residual.ensures.1 in
+    rw (p.1, p.2) (judge_fit k a.fields.now a.g a.work.now st a.p f c.if-g-p.false a.task a.level c.line_at-line.result c.node_size.result
+    c.entry_at-entry.result (Err c.in_err-fit.field-0.0) c.line_at-line.ensures c.entry_at-entry.ensures c.node_size.ensures c.in_err-fit.ensures)
+
 pub returns : goal.returns
 returns c = λ k st f.
     let a = c.args in
-    let l = c.line_at-line in
-    let e = c.entry_at-entry in
-    let n = c.node_size in
-    let t = c.fit_of-fit in
-    judge_fit k a.fields.now a.g a.work.now st a.p f c.if-g-p.false a.task a.level l.result n.result e.result
-    t.result c.at_level.result l.ensures e.ensures n.ensures t.ensures c.at_level.ensures
+    rw c.at_level.ensures (judge_fit k a.fields.now a.g a.work.now st a.p f c.if-g-p.false a.task a.level c.line_at-line.result c.node_size.result
+    c.entry_at-entry.result (Ok c.in_ok-fit.fit) c.line_at-line.ensures c.entry_at-entry.ensures c.node_size.ensures c.in_ok-fit.ensures)

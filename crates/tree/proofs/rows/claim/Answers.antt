@@ -2,13 +2,14 @@
 use Prim.Native.Nat.{ℕ, ◌+◌, ◌-◌}
 use Rattle.rules.specs.Index.{at}
 use Rattle.tree.proofs.Passing.{claim_right, claim_other, claim_taken}
-use Rattle.tree.proofs.Steps.{nodes_few, cues_few, line_small, claim_inside, claim_planned, claim_node}
+use Rattle.tree.proofs.Steps.{nodes_few, cues_few, line_small, line_is, claim_inside, claim_planned}
 use Rattle.tree.specs.Layout.{marks_from}
 use Rattle.tree.specs.Standing.{put_row, settled}
 use lib.ListN.{get_or, set, length-set}
 use mathlib.Core.Path.{ap, ◌∙◌}
 use native.Mathlib.Omega.{arith}
 use Rattle.tree.proofs.rows.claim.Goals as goal
+use Rattle.tree.proofs.rows.claim.Goals.{then-fields-planned-via-then-fields-planned, then-fields-planned-via-else-fields-planned+then-work-mark-ne0}
 
 pub overflow_add-planned : goal.overflow_add-planned
 overflow_add-planned c =
@@ -37,8 +38,8 @@ bounds-work-mark c =
     let (k, st, w) = c.requires in
     omega (arith, st.room, w.low, w.high, cues_few k a.fields.now a.g a.work.now st)
 
-pub bounds-work-mark-then-work-mark-eq0 : goal.bounds-work-mark-then-work-mark-eq0
-bounds-work-mark-then-work-mark-eq0 c =
+pub bounds-work-mark-2 : goal.bounds-work-mark-2
+bounds-work-mark-2 c =
     let a = c.args in
     let (k, st, w) = c.requires in
     omega (arith, st.room, w.low, w.high, cues_few k a.fields.now a.g a.work.now st)
@@ -55,44 +56,36 @@ settle-requires c =
     let (k, st, w) = c.requires in
     (omega (arith, w.node, nodes_few k a.fields.now a.g a.work.now st), simp length-set st.room)
 
-pub taken-requires : goal.taken-requires
-taken-requires c =
+pub line_at-requires : goal.line_at-requires
+line_at-requires c =
     let a = c.args in
     let (k, st, w) = c.requires in
     line_small k a.fields.now a.g a.work.now st a.node (let n = w.node in omega arith)
 
-pub taken-requires-else-fields-planned : goal.taken-requires-else-fields-planned
-taken-requires-else-fields-planned c =
-    let a = c.args in
-    let (k, st, w) = c.requires in
-    line_small k a.fields.now a.g a.work.now st a.node (let n = w.node in omega arith)
-
-pub returns-then-work-mark-eq0 : goal.returns-then-work-mark-eq0
+pub returns-then-fields-planned : goal.returns-then-fields-planned
 unfolding marks_from
-returns-then-work-mark-eq0 c = λ k st w.
+returns-then-fields-planned c = λ k st w.
+    let a = c.args in
+    let x = get_or a.fields.now (a.g.plan + a.position) 0 in
+    let few = cues_few k a.fields.now a.g a.work.now st in
+    let is = claim_planned k a.fields.now a.g a.work.now st a.node a.position w in
+    let line = line_is k a.fields.now a.g a.work.now st a.node c.line_at.result c.line_at.ensures in
+    elim c.then-fields-planned.branch [
+      | then-fields-planned-via-then-fields-planned b ↦
+          claim_other k a.node a.action a.position x a.next a.work.now w few is c.line_at.result a.work.now b.if-fields-planned.true line
+      | then-fields-planned-via-else-fields-planned+then-work-mark-ne0 b ↦
+          claim_taken k a.node a.action a.position x a.next a.work.now w few is c.line_at.result a.work.now b.if-fields-planned.false
+          b.if-work-mark-ne0.true line
+    ]
+
+pub returns : goal.returns
+unfolding marks_from
+returns c = λ k st w.
     let a = c.args in
     let e = c.settle in
     let o = c.of_cue.ensures in
     claim_right k a.node a.action a.position (get_or a.fields.now (a.g.plan + a.position) 0) a.next a.work.now w
     (cues_few k a.fields.now a.g a.work.now st) (claim_planned k a.fields.now a.g a.work.now st a.node a.position w)
-    e.result e.new.work c.if-fields-planned.true c.if-work-mark-eq0.true
+    e.result e.new.work c.if-fields-planned.false c.if-work-mark-ne0.false
     (e.ensures.answer ∙ ap (λ (x : ℕ). settled x a.next) o)
     (e.ensures.row ∙ ap (λ (x : ℕ). put_row a.node (at x) a.next.node (set a.work.now (3072 + (a.position - 1)) 1)) o)
-
-pub returns-else-work-mark-eq0 : goal.returns-else-work-mark-eq0
-unfolding marks_from
-returns-else-work-mark-eq0 c = λ k st w.
-    let a = c.args in
-    claim_taken k a.node a.action a.position (get_or a.fields.now (a.g.plan + a.position) 0) a.next a.work.now w
-    (cues_few k a.fields.now a.g a.work.now st) (claim_planned k a.fields.now a.g a.work.now st a.node a.position w)
-    c.taken.result a.work.now c.if-fields-planned.true c.if-work-mark-eq0.false
-    (claim_node k a.fields.now a.g a.work.now st a.node a.position c.taken.ensures)
-
-pub returns-else-fields-planned : goal.returns-else-fields-planned
-unfolding marks_from
-returns-else-fields-planned c = λ k st w.
-    let a = c.args in
-    claim_other k a.node a.action a.position (get_or a.fields.now (a.g.plan + a.position) 0) a.next a.work.now w
-    (cues_few k a.fields.now a.g a.work.now st) (claim_planned k a.fields.now a.g a.work.now st a.node a.position w)
-    c.taken-else-fields-planned.result a.work.now c.if-fields-planned.false
-    (claim_node k a.fields.now a.g a.work.now st a.node a.position c.taken-else-fields-planned.ensures)

@@ -1,6 +1,6 @@
 -- The cycle of calls {walk_node, walk_subtasks}. "Nodes left and level give the falling number": a node hands its subtasks one node less,
 -- and the subtasks hand each node one level less. Assumes nothing.
-use Prim.Native.Nat.{◌+◌, ◌-◌, ◌≤◌}
+use Prim.Native.Nat.{◌+◌, ◌-◌}
 use Rattle.rules.specs.Case.{Case}
 use Rattle.tree.proofs.Siblings.{Begun}
 use Rattle.tree.specs.Fits.{Follows}
@@ -19,8 +19,5 @@ decreases-walk_subtasks l = (l.g.nodes - l.p.node) + (65 - l.level)
 -- So many of the tasks are walked, for whichever case it is; the work space has its length.
 abbrev pub invariant-walk_subtasks-loop-i : goal.invariant-walk_subtasks-loop-i
 invariant-walk_subtasks-loop-i l =
-    (l.i ≤ length l.tasks) × (length l.work ≡ length l.initial.work)
+    (length l.work ≡ length l.initial.work)
     × ((k : Case) → Steady k l.fields l.g l.initial.work → Follows k l.fields l.initial.next → Begun k l.fields l.level l.tasks l.i l.initial.next l.initial.work l.next l.span l.work)
-
-abbrev pub decreases-walk_subtasks-loop-i : goal.decreases-walk_subtasks-loop-i
-decreases-walk_subtasks-loop-i l = length l.tasks - l.i
