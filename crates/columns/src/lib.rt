@@ -206,6 +206,45 @@ fn pays(words: usize, p: u32, first: StateNumber, past: StateNumber) -> bool
     first.number() as usize + FEW <= past.number() as usize
 }
 
+// Whether "p is in each state l with" first ≤ l < past, or whether it is in none; "no such l, then it holds". Over the first n states.
+pub fn test(
+    columns: &mut [u64],
+    built: &mut [u64],
+    states: &[u64],
+    n: usize,
+    sign: Sign,
+    p: u32,
+    first: StateNumber,
+    past: StateNumber,
+) -> bool
+    requires columns { Columns states.now n columns.old built.old }
+    requires past_bound { state_of past ≤ n }
+    ensures value { result ≡ holds_from (in_row states.now) sign p (state_of first) (state_of past) }
+    ensures columns_2 { Columns states.now n columns.new built.new }
+{
+    if first >= past {
+        return true;
+    }
+    if first.next() >= past {
+        return rows::holds_at(states, sign, p, first);
+    }
+    if state::holds(built, p) {
+        return by_column(columns, sign, p, first, past);
+    }
+    if !pays(built.len(), p, first, past) {
+        return by_states(states, sign, p, first, past);
+    }
+    fill(columns, built, states, n, p);
+    by_column(columns, sign, p, first, past)
+}
+
+// Columns, and the set of the propositions whose column is built, as a caller lends them.
+#[derive(Drop)]
+pub struct Lists<'a> {
+    pub columns: &'a mut [u64],
+    pub built: &'a mut [u64],
+}
+
 // The first states of a run, so many as are held, and the columns that are built of them: what the tests go by. The lists are lent, and stay as
 // they are but for the columns that a test builds. A test is a method, so that a caller carries one value, and no fact of it, from test to test.
 #[derive(Drop)]
@@ -253,27 +292,27 @@ impl<'a> StateColumns<'a> {
         self.states
     }
 
-    // Whether "p is in each state l with" first ≤ l < past, or whether it is in none; "no such l, then it holds".
+    // The lists again, with the columns that the tests have built in them: what holds from test to test holds of them still.
+    pub fn into_lists(self) -> Lists<'a>
+        ensures { Columns self.entry.states self.entry.held result.columns.now result.built.now }
+    {
+        let StateColumns {
+            states: _,
+            held: _,
+            columns,
+            built,
+        } = self;
+        Lists { columns, built }
+    }
+
+    // Whether "p is in each state l with" first ≤ l < past, or whether it is in none, by the columns that are held.
     pub fn test(&mut self, sign: Sign, p: u32, first: StateNumber, past: StateNumber) -> bool
         requires { state_of past ≤ self.old.held }
         ensures value { result ≡ holds_from (in_row self.old.states) sign p (state_of first) (state_of past) }
         ensures same { self.new ≡ self.old }
     {
-        if first >= past {
-            return true;
-        }
-        if first.next() >= past {
-            return rows::holds_at(self.states, sign, p, first);
-        }
-        let columns = &mut *self.columns;
-        let built = &mut *self.built;
-        if state::holds(built, p) {
-            return by_column(columns, sign, p, first, past);
-        }
-        if !pays(built.len(), p, first, past) {
-            return by_states(self.states, sign, p, first, past);
-        }
-        fill(columns, built, self.states, self.held, p);
-        by_column(columns, sign, p, first, past)
+        let states = self.states;
+        let held = self.held;
+        test(self.columns, self.built, states, held, sign, p, first, past)
     }
 }
