@@ -152,7 +152,8 @@ puts same hash slots n k₀ kept only itself within end w =
     go l (Free q) w = added same hash slots n kept k₀ only q (sym w) itself within
     go l Full w = absurd (never_full same hash slots n kept k₀ within l (sym w))
 
--- Each end by itself, however many entries there are: an earlier entry that has the key, a free slot, and neither.
+-- Each end by itself: an earlier entry that has the key, or a free slot, however many entries there are; and neither, which is not where
+-- there are fewer entries than slots.
 module _ {K : Type 0} (same : K → ℕ → Bool) (hash : K → ℕ) (slots : List ℕ) (n : ℕ) (k₀ : K) (kept : Kept same hash slots n)
     (only : (k : K) → same k n ≡ true → k ≡ k₀) (itself : same k₀ n ≡ true) (within : hash k₀ < length slots) where
   pub puts_hit : (e : ℕ) → Hit e ≡ walk (same k₀) slots (hash k₀) → (Some e ≡ first (same k₀) n) × Kept same hash slots (suc n)
