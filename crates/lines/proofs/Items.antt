@@ -14,14 +14,44 @@ use Rattle.rules.specs.Table as T
 use Rattle.rules.specs.Table.{scalar, listed, item, within, follow_taken, with_member, least_after, read_members}
 use Rattle.text.specs.declared.Cursor.{Cursor}
 use Rattle.text.specs.declared.Number.{Number}
+use Rattle.text.specs.declared.FieldError.{FieldError}
+use Rattle.text.specs.declared.FieldError.TheVariants.{NotPlain, Missing}
+use Rattle.text.specs.Cursor.{cursor, as_field}
 use Rattle.lines.specs.declared.item.ItemRead.{ItemRead}
 use Rattle.lines.specs.declared.line.LineError.{LineError}
 use Rattle.lines.specs.declared.line.LineError.TheVariants.{Bad, Range}
 use Rattle.text.proofs.Laws.{number_next, number_feeds}
 use Rattle.lines.specs.Reading.{as_taken, item_read, Room, MembersLeft, ItemLeft}
 
+-- What a field that was read makes of a range.
+abbrev pub taken_by : (ℕ → Bool) → ℕ → Result Number FieldError → Result Number LineError
+taken_by ok field (Ok m) = elim (ok m.value) [ true ↦ Ok m | false ↦ Err (Range field) ]
+taken_by ok field (Err NotPlain) = Err (Bad field)
+taken_by ok field (Err Missing) = Err (Bad field)
+
+take_field : (ok : ℕ → Bool) (field : ℕ) (x : NumberRead) → taken_by ok field (as_field x) ≡ as_taken field (within ok x)
+take_field ok field (number v n) = go (ok v)
+  where
+    go : (b : Bool) → elim b as (λ t. Result Number LineError) [ true ↦ Ok (record { value = v; next = cursor n }) | false ↦ Err (Range field) ]
+        ≡ as_taken field (elim b [ true ↦ T.taken v n | false ↦ T.out ])
+    go true = refl
+    go false = refl
+take_field ok field not_plain = refl
+take_field ok field missing = refl
+
+-- The field that was read, with what its range said.
+pub take_read : (ok : ℕ → Bool) (field : ℕ) (x : NumberRead) {f : Result Number FieldError} {t : Result Number LineError} → f ≡ as_field x
+    → t ≡ taken_by ok field f → t ≡ as_taken field (within ok x)
+take_read ok field x e q = q ∙ ap (taken_by ok field) e ∙ take_field ok field x
+
+pub taken_yes : (ok : ℕ → Bool) (field : ℕ) (m : Number) → ok m.value ≡ true → Ok m ≡ taken_by ok field (Ok m)
+taken_yes ok field m e = ap (λ (b : Bool). elim b as (λ t. Result Number LineError) [ true ↦ Ok m | false ↦ Err (Range field) ]) (sym e)
+
+pub taken_no : (ok : ℕ → Bool) (field : ℕ) (m : Number) → ok m.value ≡ false → Err (Range field) ≡ taken_by ok field (Ok m)
+taken_no ok field m e = ap (λ (b : Bool). elim b as (λ t. Result Number LineError) [ true ↦ Ok m | false ↦ Err (Range field) ]) (sym e)
+
 -- Every number is at least 0.
-take_zero : (ok : ℕ → Bool) (x : NumberRead) → within (λ v. leb 0 v && ok v) x ≡ within ok x
+pub take_zero : (ok : ℕ → Bool) (x : NumberRead) → within (λ v. leb 0 v && ok v) x ≡ within ok x
 take_zero ok (number v n) = ap (λ (b : Bool). elim (b && ok v) as (λ t. T.Taken) [ true ↦ T.taken v n | false ↦ T.out ]) (leb-zero v)
 take_zero ok not_plain = refl
 take_zero ok missing = refl

@@ -11,16 +11,19 @@ use borrow.Author.Tests.{ne_eqb, eq-eqb}
 use lib.Dec.{eqb, ltb, lit<}
 use lib.ListN.{length, get_or, take, set, length-take, length-append, get_or-eq_default}
 use lib.Seq.{sets, get_or-take, get_or-set_other, take-suc-set}
-use Rattle.std.specs.Prelude.{Result, Ok, Err}
+use Rattle.std.specs.Prelude.{Option, Some, None, Result, Ok, Err}
 use Rattle.rules.specs.declared.Header.{Header}
 use Rattle.rules.specs.Text.{Ending, ended, surplus, number_at}
 use Rattle.rules.specs.Table as T
 use Rattle.rules.specs.Table.{Kind, Item, one, in_range, Value, scalar, listed, number_of, item, follow_taken, read_members, read_list, read_item, follow_item, with_value, read_items}
 use Rattle.rules.specs.Fields.{item_fields, items_fields}
+use Rattle.text.specs.declared.Cursor.{Cursor}
+use Rattle.text.specs.Cursor.{as_ending}
 use Rattle.fields.proofs.Standing.{sets_append}
 use Rattle.lines.specs.declared.item.ItemRead.{ItemRead}
 use Rattle.lines.specs.declared.line.Line.{Line}
 use Rattle.lines.specs.declared.line.LineError.{LineError}
+use Rattle.lines.specs.declared.line.LineError.TheVariants.{Bad, Range}
 use Rattle.lines.specs.Shapes.{item_of, items_in}
 use Rattle.lines.specs.Reading.{line_done, finish_of, ItemLeft, ItemsLeft}
 use Rattle.lines.proofs.Items.{Counted, counted_members}
@@ -85,6 +88,17 @@ items_none zero rest e = refl
 items_none (suc m) rest e = ap (λ (b : Bool). elim b as (λ x. List Item) [ true ↦ [] | false ↦ item_of (rest % 256) ∷ items_in m (rest / 256) ]) (eq-eqb rest 0 e)
 
 -- ---- The line's end
+
+abbrev pub finish_by : ℕ → ℕ → Option Cursor → Result Line LineError
+finish_by n field (Some d) = Ok (record { fields = n; next = d })
+finish_by n field None = Err (Bad field)
+
+pub finish_read : (n field : ℕ) (e : Ending) (r : Option Cursor) → r ≡ as_ending e → finish_by n field r ≡ finish_of n field e
+finish_read n field e r q = ap (finish_by n field) q ∙ go e
+  where
+    go : (x : Ending) → finish_by n field (as_ending x) ≡ finish_of n field x
+    go (ended next) = refl
+    go surplus = refl
 
 pub items_end : (n l field : ℕ) (at : ℕ) (w : List ℕ) (e : Ending) (r : Result Line LineError) → r ≡ finish_of n field e → ItemsLeft [] n at w (T.finish_line l field e) r w
 items_end n l field at w (ended next) r q =
@@ -153,6 +167,26 @@ read_field (Err e) = 0
 unfoldable pub read_place : Result ItemRead LineError → ℕ
 read_place (Ok y) = y.next.at
 read_place (Err e) = 0
+
+-- The same, with a refusal's field number as its value and its field.
+unfoldable pub outcome_value : Result ItemRead LineError → ℕ
+outcome_value (Ok y) = y.value
+outcome_value (Err (Bad field)) = field
+outcome_value (Err (Range field)) = field
+
+unfoldable pub outcome_field : Result ItemRead LineError → ℕ
+outcome_field (Ok y) = y.field
+outcome_field (Err (Bad field)) = field
+outcome_field (Err (Range field)) = field
+
+unfoldable pub outcome_place : Result ItemRead LineError → ℕ
+outcome_place (Ok y) = y.next.at
+outcome_place (Err e) = 0
+
+-- Stated of another outcome that is equal.
+pub item_told : (i : Item) (at : ℕ) (w : List ℕ) (y : T.ItemRead) {o o' : Result ItemRead LineError} (u : List ℕ) → o ≡ o' → ItemLeft i at w y o u
+    → ItemLeft i at w y o' u
+item_told i at w y u e h = subst (λ (x : Result ItemRead LineError). ItemLeft i at w y x u) e h
 
 -- An item's fields are stored, and then those of the items after it.
 value_left : (i : Item) (is : List Item) (from field after : ℕ) (w : List ℕ) (v : Value) (y : T.LineRead) (r : Result Line LineError) (u : List ℕ) → 1 ≤ field

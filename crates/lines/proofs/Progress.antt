@@ -103,6 +103,12 @@ module _ (text : List ℕ) (x : List ℕ) (l shape from : ℕ) (start : Cursor) 
     left : 7 - i ≡ suc (7 - (i + 1))
     left = let h = inside in omega arith
 
+    room_field : field < 2 ^ 40
+    room_field = let a = p.room.ahead in let b = p.room.inside in let s = p.room.short in omega arith
+
+    pub item_room : (field < 2 ^ 40) × Room text w (from + (field - 1)) c.at
+    item_room = (room_field, p.room)
+
     by_byte : (r : Result Line LineError) (u : List ℕ)
         → ItemsLeft (item_of (rest % 256) ∷ items_in (7 - (i + 1)) (rest / 256)) (field - 1) (from + (field - 1)) w
         (read_items text (header_in x) (get_or x 7 0) l (item_of (rest % 256) ∷ items_in (7 - (i + 1)) (rest / 256)) (take i values) field c.at) r u

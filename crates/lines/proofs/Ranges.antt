@@ -16,7 +16,7 @@ use Rattle.rules.specs.Case.{header_in}
 use Rattle.rules.proofs.Judgement.Each.{both_true}
 use Rattle.lines.specs.declared.bounds.Bounds.{Bounds}
 use Rattle.lines.specs.Shapes.{kinds, kind_of}
-use Rattle.lines.specs.Ranges.{all_below, bounds_of, apart_from, in_turn, known_of, Known}
+use Rattle.lines.specs.Ranges.{bounds, all_below, bounds_of, apart_from, in_turn, known_of, Known}
 use Rattle.lines.specs.Reading.{in_kind}
 
 -- Tests that hold together are equal.
@@ -40,6 +40,17 @@ below_top : (v n : ℕ) → ltb v n ≡ (leb (all_below n).0 v && leb v (all_bel
 below_top v zero = by_bounds 1 v 0 (ltb v 0) (λ e. absurd (let h = ltb-true v 0 e in omega arith)) (λ l g. absurd (omega arith))
 below_top v (suc n) =
     by_bounds 0 v n (ltb v (suc n)) (λ e. let h = ltb-true v (suc n) e in (omega arith, omega arith)) (λ l g. lt-ltb v (suc n) (omega arith))
+
+pub below_some : (n : ℕ) → (n ≡ 0 → ⊥) → bounds 0 (n - 1) ≡ all_below n
+below_some zero h = absurd (h refl)
+below_some (suc n) h = let e : suc n - 1 ≡ n = omega arith in ap (bounds 0) e
+
+pub below_most : (n : ℕ) {b : Bounds} → b ≡ all_below n → (b.0 ≤ 1) × (b.1 ≤ n)
+below_most n e = subst (λ (b : Bounds). (b.0 ≤ 1) × (b.1 ≤ n)) (sym e) (go n)
+  where
+    go : (n : ℕ) → ((all_below n).0 ≤ 1) × ((all_below n).1 ≤ n)
+    go zero = (omega arith, omega arith)
+    go (suc n) = (omega arith, omega arith)
 
 compound_range : (a c v : ℕ) → is_compound a c v ≡ (leb (a + (all_below c).0) v && leb v (a + (all_below c).1))
 unfolding is_compound

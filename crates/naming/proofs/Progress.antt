@@ -100,6 +100,15 @@ module _ (text : List ℕ) (count : ℕ) (from : Spot) where
     abbrev those : List (List ℕ)
     those = earlier_names text starts ends i
 
+    -- The lists keep their lengths, the slots by their type.
+    pub sizes : (starts₀ ends₀ slots₀ : List ℕ) → Blank starts₀ ends₀ → length slots ≡ 4096 → length slots₀ ≡ 4096
+        → (length starts ≡ length starts₀) × (length ends ≡ length ends₀) × (length slots ≡ length slots₀)
+    sizes starts₀ ends₀ slots₀ blank size size₀ = (
+      p.entered.starts_length ∙ sym blank.starts_length,
+      p.entered.placed.pairs ∙ (p.entered.starts_length ∙ sym blank.ends_length),
+      size ∙ sym size₀,
+    )
+
     module _ (more : i < count) (g : code.Result Spot Answer) (starts' ends' slots' : List ℕ)
         (h : Left (NextName text starts ends i starts' ends' slots') (one_name text i (earlier_names text starts ends i) at.line at.at) g) where
       abbrev one : Read (List ℕ)

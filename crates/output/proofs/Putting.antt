@@ -1,7 +1,7 @@
 -- A list of bytes, put into another from a place on, part by part. Assumes nothing.
 use mathlib.Core.Path.{◌≡◌, refl, sym, ap, ◌∙◌}
 use mathlib.Core.List.{List, [], ◌∷◌, ◌++◌, append_assoc, append-nil}
-use Prim.Native.Nat.{ℕ, ◌+◌, ◌-◌, ◌≤◌}
+use Prim.Native.Nat.{ℕ, suc, ◌+◌, ◌-◌, ◌≤◌, ◌<◌}
 use native.Mathlib.Omega.{arith}
 use lib.ListN.{length, set, replicate, length-append, length-replicate, drop_of_length-le}
 use lib.Seq.{sets, sets-eq, length-sets}
@@ -73,3 +73,15 @@ sets_filled l xs past e fits =
     (λ j. sets (sets l 0 xs) (start j) (replicate {A = ℕ} (size j - e j) 0))
     ∙ sym (sets_append xs zeros l 0)
     ∙ sets_whole l (xs ++ zeros) (omega arith)
+
+-- One zero fewer to come.
+pub zeros_more : (n i : ℕ) → i < n → replicate {A = ℕ} (n - i) 0 ≡ 0 ∷ replicate (n - (i + 1)) 0
+zeros_more n i h = let e : n - i ≡ suc (n - (i + 1)) = omega arith in ap (λ (m : ℕ). replicate {A = ℕ} m 0) e
+
+pub zeros_none : (n i : ℕ) → n ≤ i → replicate {A = ℕ} (n - i) 0 ≡ []
+zeros_none n i h = let e : n - i ≡ 0 = omega arith in ap (λ (m : ℕ). replicate {A = ℕ} m 0) e
+
+pub sets_zero : (l : List ℕ) → sets l 0 (replicate (length l - 0) 0) ≡ replicate (length l) 0
+sets_zero l =
+    let e : length l - 0 ≡ length l = omega arith in
+    ap (λ (n : ℕ). sets l 0 (replicate {A = ℕ} n 0)) e ∙ sets_whole l (replicate (length l) 0) (length-replicate {A = ℕ} (length l) 0)

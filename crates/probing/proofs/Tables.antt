@@ -6,7 +6,8 @@ use mathlib.Core.List.{List, [], ◌∷◌}
 use mathlib.Core.Logic.{⊎_elim}
 use Prim.Native.Nat.{ℕ, zero, suc, ◌+◌, ◌-◌, ◌≤◌, ◌<◌}
 use native.Mathlib.Omega.{arith}
-use lib.ListN.{length, get_or, set, length-set}
+use lib.ListN.{length, get_or, set, length-set, get_or-eq_default}
+use lib.Seq.{get_or-set_same, get_or-set_other}
 use Rattle.std.specs.Prelude.{Option, None, Some}
 use Rattle.probing.specs.declared.Look.{Look}
 use Rattle.probing.specs.declared.Walk.{Walk}
@@ -151,6 +152,23 @@ puts same hash slots n k₀ kept only itself within end w =
     go l (Free q) w = added same hash slots n kept k₀ only q (sym w) itself within
     go l Full w = absurd (never_full same hash slots n kept k₀ within l (sym w))
 
+-- Each end by itself: an earlier entry that has the key, or a free slot, however many entries there are; and neither, which is not where
+-- there are fewer entries than slots.
+module _ {K : Type 0} (same : K → ℕ → Bool) (hash : K → ℕ) (slots : List ℕ) (n : ℕ) (k₀ : K) (kept : Kept same hash slots n)
+    (only : (k : K) → same k n ≡ true → k ≡ k₀) (itself : same k₀ n ≡ true) (within : hash k₀ < length slots) where
+  pub puts_hit : (e : ℕ) → Hit e ≡ walk (same k₀) slots (hash k₀) → (Some e ≡ first (same k₀) n) × Kept same hash slots (suc n)
+  puts_hit e w = (ap answer w ∙ kept.finds k₀, known same hash slots n kept k₀ only e (sym w))
+
+  pub puts_free : (q v : ℕ) → Free q ≡ walk (same k₀) slots (hash k₀) → v ≡ suc n
+      → (None ≡ first (same k₀) n) × Kept same hash (set slots q v) (suc n)
+  puts_free q v w e = (
+    ap answer w ∙ kept.finds k₀,
+    subst (λ (x : ℕ). Kept same hash (set slots q x) (suc n)) (sym e) (added same hash slots n kept k₀ only q (sym w) itself within),
+  )
+
+  pub puts_full : n < length slots → Full ≡ walk (same k₀) slots (hash k₀) → ⊥
+  puts_full l w = never_full same hash slots n kept k₀ within l (sym w)
+
 -- ---- Entries from n on may change
 
 module _ (t u : ℕ → Bool) (n : ℕ) (agree : (e : ℕ) → e < n → t e ≡ u e) where
@@ -175,3 +193,15 @@ kept_agree same other hash slots n a kept =
       low = kept.low;
       room = kept.room;
     }
+
+-- ---- Clearing
+
+pub cleared_next : (l : List ℕ) (i : ℕ) → i < length l → ((j : ℕ) → j < i → get_or l j 0 ≡ 0) → (j : ℕ) → j < i + 1 → get_or (set l i 0) j 0 ≡ 0
+cleared_next l i h z j k =
+    ⊎_elim
+    (λ o. get_or-set_other l i j 0 0 (λ s. omega arith) ∙ z j o)
+    (λ o. let s : j ≡ i = omega arith in ap (λ (m : ℕ). get_or (set l i 0) m 0) s ∙ get_or-set_same l i 0 0 h)
+    (below j i)
+
+pub cleared_all : (l : List ℕ) (i : ℕ) → length l ≤ i → ((j : ℕ) → j < i → get_or l j 0 ≡ 0) → (j : ℕ) → get_or l j 0 ≡ 0
+cleared_all l i h z j = ⊎_elim (z j) (λ o. get_or-eq_default l 0 {n = j} (omega arith)) (below j i)

@@ -12,7 +12,7 @@ use lib.ListN.{length, get_or, set}
 use lib.Seq.{get_or-set_same, get_or-set_other}
 use Rattle.std.specs.Prelude.{None}
 use Rattle.probing.specs.declared.Look.{Look}
-use Rattle.probing.specs.declared.Look.TheVariants.{Other}
+use Rattle.probing.specs.declared.Look.TheVariants.{Empty, Other}
 use Rattle.probing.specs.declared.Walk.{Walk}
 use Rattle.probing.specs.declared.Walk.TheVariants.{Hit, Free, Full}
 use Rattle.probing.specs.Probing.{spot_of, looked, look_of, turn, walk_from, walk, answer}
@@ -60,6 +60,16 @@ spot_over size h d k = rw (le-ltb (h + d) size k)
 
 pub spot_in : (size h d : ℕ) → h < size → d < size → spot_of size h d < size
 spot_in size h d k l = ⊎_elim (λ o. rw (spot_on size h d o) o) (λ o. rw (spot_over size h d o) (omega arith)) (below (h + d) size)
+
+-- ---- What one slot tells
+
+pub look_empty : (t : ℕ → Bool) (v : ℕ) → v ≡ 0 → Empty ≡ look_of t v
+look_empty t v e = ap (look_of t) (sym e)
+
+pub look_taken : (t : ℕ → Bool) (v : ℕ) (b : Bool) → (v ≡ 0 → ⊥) → t (v - 1) ≡ b → looked b (v - 1) ≡ look_of t v
+look_taken t v b z e =
+    let s : v ≡ suc (v - 1) = omega arith in
+    ap (λ (x : Bool). looked x (v - 1)) (sym e) ∙ ap (look_of t) (sym s)
 
 -- ---- Walks
 
@@ -156,6 +166,14 @@ pub record Walking (t : ℕ → Bool) (slots : List ℕ) (h₀ h d : ℕ) : Type
   pub within : d ≤ length slots
   pub left : walk t slots h₀ ≡ walk_from t slots (length slots) h (length slots - d) d
 
+pub walk_starts : (t : ℕ → Bool) (slots : List ℕ) (h₀ h : ℕ) → h ≡ h₀ → Walking t slots h₀ h 0
+walk_starts t slots h₀ h e =
+    let all : length slots ≡ length slots - 0 = omega arith in
+    record {
+      within = omega arith;
+      left = ap (walk t slots) (sym e) ∙ ap (λ (n : ℕ). walk_from t slots (length slots) h n 0) all;
+    }
+
 module _ {t : ℕ → Bool} {slots : List ℕ} {h₀ h d : ℕ} (walking : Walking t slots h₀ h d) where
   -- The step from the slot p that is d further, by what it tells.
   pub walk_step : (o : Look) (p : ℕ) → p ≡ spot_of (length slots) h d → o ≡ look_of t (get_or slots p 0) → d < length slots
@@ -169,3 +187,8 @@ module _ {t : ℕ → Bool} {slots : List ℕ} {h₀ h d : ℕ} (walking : Walki
 
   pub walk_goes_on : (p : ℕ) → p ≡ spot_of (length slots) h d → Other ≡ look_of t (get_or slots p 0) → d < length slots → Walking t slots h₀ h (d + 1)
   walk_goes_on p a b k = record { within = omega arith; left = walk_step Other p a b k }
+
+  pub walk_over : length slots ≤ d → Full ≡ walk t slots h₀
+  walk_over k =
+      let none : length slots - d ≡ 0 = omega arith in
+      sym (walking.left ∙ ap (λ (n : ℕ). walk_from t slots (length slots) h n d) none)

@@ -5,17 +5,39 @@ use mathlib.Core.Logic.{◌≢◌}
 use mathlib.Core.List.{List, [], ◌∷◌, ◌++◌, append_assoc, flatten}
 use mathlib.Core.List.Memᴰ.{head as here}
 use Prim.Native.Nat.{ℕ, zero, suc, ◌+◌, ◌-◌, ◌*◌, ◌≤◌, ◌<◌}
-use native.Mathlib.Nat.{mul-le-mul_left, mul-add, mul-one}
+use native.Mathlib.Nat.{mul-le-mul_left, mul-add, mul-one, not-suc-le-zero}
 use native.Mathlib.Decide.{dec_lt}
 use native.Mathlib.Omega.{arith}
-use lib.ListN.{length, take, drop, replicate, length-append, length-drop, take-append-drop}
-use lib.Seq.{take_at, drop_at, drop-drop, take-append-le, drop-append-le, drop-append-add, length-take-le, get_or-take, get_or-drop}
+use lib.ListN.{length, take, drop, set, replicate, length-append, length-drop, length-set, take-append-drop}
+use lib.Seq.{take_at, drop_at, drop-drop, take-append-le, drop-append-le, drop-append-add, length-take-le, get_or-take, get_or-drop, ext_get_or}
 use Rattle.rules.specs.State.{State, word_count, word}
 use Rattle.rules.specs.Verdict.{filled}
+use Rattle.rules.proofs.Tables.{store_next}
 use Rattle.rules.proofs.Worded.{Worded}
 use Rattle.rules.specs.Refusals.{Each}
 use Rattle.rules.proofs.Judgement.Each.{each_tail}
 use Rattle.rows.specs.Rows.{stretch_at, put_stretch, put_row, put_rows}
+
+-- ---- The words of a state, copied one by one: the first i of ws are in l
+
+pub record Copied (ws l : List ℕ) (i : ℕ) : Type 0 where
+  pub most : i ≤ word_count
+  pub size : length l ≡ word_count
+  pub same : (k : ℕ) → k < i → word l k ≡ word ws k
+
+module _ {ws l : List ℕ} where
+  pub copied_none : length l ≡ word_count → Copied ws l 0
+  copied_none e = record { most = omega arith; size = e; same = λ k h. absurd (not-suc-le-zero h) }
+
+  pub copied_next : {i v : ℕ} → Copied ws l i → i < word_count → v ≡ word ws i → Copied ws (set l i v) (i + 1)
+  copied_next {i} {v} p more e = record {
+    most = omega arith;
+    size = length-set l i v ∙ p.size;
+    same = store_next (word ws) l i v (omega (arith, p.size)) e p.same;
+  }
+
+  pub copied_all : {i : ℕ} → Copied ws l i → word_count ≤ i → length ws ≡ word_count → l ≡ ws
+  copied_all p over w = ext_get_or 0 l ws (p.size ∙ sym w) (λ k h. p.same k (omega (arith, p.size)))
 
 -- ---- One stretch, of any number of numbers
 

@@ -1,12 +1,13 @@
--- The sets that stand among the fields: what a set's members make where its fields stand, and the four sets of an
+-- The sets that stand among the fields: a set's members in turn, what they make where the fields of a set stand, and the four sets of an
 -- action's line, one after the other. Assumes nothing.
 use mathlib.Core.Path.{◌≡◌, sym, ap, ap₂, subst, ◌∙◌}
 use mathlib.Core.List.{List, [], ◌∷◌, ◌++◌, append-nil}
-use Prim.Native.Nat.{ℕ, zero, suc, ◌+◌, ◌*◌, ◌≤◌, ◌<◌}
+use Prim.Native.Nat.{ℕ, zero, suc, ◌+◌, ◌-◌, ◌*◌, ◌≤◌, ◌<◌}
+use native.Mathlib.Numerals.{add-one}
 use native.Mathlib.Omega.{arith}
 use lib.ListN.{length, get_or, take, drop, replicate}
 use lib.Seq.{drop-cons, take-append_seam}
-use Rattle.rules.specs.State.{State, Action, word_count, no_propositions, insert_all}
+use Rattle.rules.specs.State.{State, Action, word_count, no_propositions, insert, insert_all}
 use Rattle.rules.specs.Fields.{propositions_of, line_fields, initial_line, action_line}
 use Rattle.rules.proofs.Judgement.Each.{Each, each_at}
 use Rattle.rules.proofs.Judgement.Sound.{IsSet, GoodAction}
@@ -17,6 +18,21 @@ use Rattle.fields.proofs.Standing.{stands_left, stands_right, stands_rest, stand
 use Rattle.fields.proofs.Lines.{set_fields, initial_fields_lem, action_fields_lem}
 use Rattle.rows.specs.Rows.{stretch_at}
 use Rattle.running.specs.Sets.{members_at, past, Fits, sets_of, set_count, action_in}
+
+-- ---- The loop over a set's members: those from i to the end
+
+pub members_next : (fields : List ℕ) (end i : ℕ) (s : List ℕ) {s' : List ℕ} → i < end → end ≤ length fields → s' ≡ insert s (get_or fields i 0)
+    → insert_all s (take (end - i) (drop i fields)) ≡ insert_all s' (take (end - (i + 1)) (drop (i + 1) fields))
+members_next fields end i s {s'} more inside e =
+    let left : end - i ≡ suc (end - (i + 1)) = omega arith in
+    let here : drop i fields ≡ get_or fields i 0 ∷ drop (i + 1) fields =
+    drop-cons fields i 0 (omega arith) ∙ ap (λ (n : ℕ). get_or fields i 0 ∷ drop n fields) (sym (add-one i)) in
+    ap₂ (λ (n : ℕ) (l : List ℕ). insert_all s (take n l)) left here
+    ∙ ap (λ (x : List ℕ). insert_all x (take (end - (i + 1)) (drop (i + 1) fields))) (sym e)
+
+pub members_end : (fields : List ℕ) (end i : ℕ) (s : List ℕ) → end ≤ i → insert_all s (take (end - i) (drop i fields)) ≡ s
+members_end fields end i s over =
+    let none : end - i ≡ 0 = omega arith in ap (λ (n : ℕ). insert_all s (take n (drop i fields))) none
 
 -- ---- Where the fields of a set stand
 

@@ -1,21 +1,26 @@
--- What later crates go by: how the place after a field is bounded, and the definitions' answers back from the code's. Each follows from
--- the definition by its tests; a field is never longer than the text that is left. Assumes nothing.
-use mathlib.Core.Path.{◌≡◌, refl, sym, ap, ◌∙◌}
+-- What later crates go by: how a field's value and the place of the next are bounded, and the definitions' answers back from the
+-- code's. Each follows from the definition by its tests; a field is never longer than the text that is left. Assumes nothing.
+use mathlib.Core.Path.{◌≡◌, refl, sym, ap, subst, ◌∙◌}
 use mathlib.Core.List.{List, [], ◌∷◌}
 use mathlib.Core.Bool.{Bool, true, false}
+use mathlib.Core.Logic.{◌⊎◌, inl, inr}
 use Prim.Native.Nat.{ℕ, suc, ◌+◌, ◌≤◌, ◌<◌}
 use native.Mathlib.Decide.{dec_lt}
 use native.Mathlib.Omega.{arith}
 use lib.Dec.{leb}
 use lib.ListN.{length, get_or, drop, length-drop}
-use lib.Seq.{drop-drop}
-use borrow.Author.Tests.{eqb-true}
-use Rattle.rules.specs.Text.{is_feed, is_comma, ends_field, field_of, digits_only, value_of, is_plain, Number as NumberRead, number, missing, number_in, number_after, number_at, Letter as LetterRead, letter, no_letter, letter_of, letter_at, Ending, ended, surplus, ending_of, ending_at, has_feed, feed_follows}
-use Rattle.std.specs.Prelude.{Option, Some, None}
+use lib.Seq.{get_or-drop, drop-drop}
+use borrow.Author.Tests.{leb-true, eqb-true}
+use Rattle.rules.specs.Text.{is_feed, is_comma, ends_field, field_of, digits_only, value_of, is_plain, Number as NumberRead, number, not_plain, missing, number_in, number_after, number_at, Letter as LetterRead, letter, no_letter, letter_of, letter_at, Ending, ended, surplus, ending_of, ending_at, has_feed, feed_follows}
+use Rattle.std.specs.Prelude.{Option, Some, None, Result, Ok, Err}
+use Rattle.text.specs.declared.Cursor.{Cursor}
+use Rattle.text.specs.declared.Number.{Number}
+use Rattle.text.specs.declared.FieldError.{FieldError}
+use Rattle.text.specs.declared.FieldError.TheVariants.{NotPlain, Missing}
 use Rattle.text.specs.declared.Letter.{Letter}
-use Rattle.text.specs.Cursor.{as_letter}
+use Rattle.text.specs.Cursor.{as_field, as_letter, as_ending}
 use Rattle.text.specs.Scan.{accepted}
-use Rattle.text.proofs.Scan.{and_left, field_over, field_on, number_accepted}
+use Rattle.text.proofs.Scan.{and_left, and_right, field_over, field_on, number_accepted}
 use Rattle.text.proofs.Places.{drop_in, number_out, letter_out, letter_none, ending_out}
 use Rattle.text.proofs.Feeds.{feed_inside, feed_inner, feed_comma, feed_field}
 
@@ -32,6 +37,22 @@ field_length (b ∷ bs) = go (field_length bs) (ends_field b) refl
     go : length (field_of bs) ≤ length bs → (x : Bool) → ends_field b ≡ x → length (field_of (b ∷ bs)) ≤ suc (length bs)
     go h true e = rw (field_over b bs e) (omega arith)
     go h false e = rw (field_on b bs e) (omega arith)
+
+-- A field is ended by a byte that ends fields, or by the text's end.
+field_stops : (l : List ℕ) → (ends_field (get_or l (length (field_of l)) 0) ≡ true) ⊎ (length (field_of l) ≡ length l)
+field_stops [] = inr refl
+field_stops (b ∷ bs) = go (later (field_stops bs)) (ends_field b) refl
+  where
+    Stops : List ℕ → Type 0
+    Stops f = (ends_field (get_or (b ∷ bs) (length f) 0) ≡ true) ⊎ (length f ≡ suc (length bs))
+
+    later : (ends_field (get_or bs (length (field_of bs)) 0) ≡ true) ⊎ (length (field_of bs) ≡ length bs) → Stops (b ∷ field_of bs)
+    later (inl e) = inl e
+    later (inr e) = inr (ap suc e)
+
+    go : Stops (b ∷ field_of bs) → (x : Bool) → ends_field b ≡ x → Stops (field_of (b ∷ bs))
+    go on true e = subst Stops (sym (field_over b bs e)) (inl e)
+    go on false e = subst Stops (sym (field_on b bs e)) on
 
 -- ---- a number that was read
 
@@ -63,6 +84,13 @@ module _ (t : List ℕ) (p : ℕ) where
       go (yes h) = comma (is_comma (get_or t p 0)) refl h (ap (number_after p) (sym (drop_in t p h)) ∙ e)
       go (no h) = let out = number_out t p (omega arith) in apart (cc)
 
+  pub number_value : {v n : ℕ} → number_at t p ≡ number v n → v < 4294967296
+  unfolding is_plain
+  number_value e =
+      let r = number_read e in
+      let h = leb-true (value_of 0 source) 4294967295 (and_right (digits_only source) (leb (value_of 0 source) 4294967295) r.1) in
+      omega (arith, r.2)
+
   -- A number takes its comma and one digit at least.
   pub number_next : {v n : ℕ} → number_at t p ≡ number v n → (p + 2 ≤ n) × (n ≤ length t)
   unfolding is_plain
@@ -80,6 +108,15 @@ module _ (t : List ℕ) (p : ℕ) where
       let r = number_read e in
       ap (λ (k : ℕ). has_feed (drop k t)) r.3
       ∙ (ap has_feed (sym (drop-drop (length source) (p + 1) t)) ∙ feed_field (drop (p + 1) t) (feed_comma t p f (eqb-true (get_or t p 0) 44 r.4)))
+
+  -- The byte there is a comma or a line feed, or the text is over.
+  pub number_stops : {v n : ℕ} → number_at t p ≡ number v n → (ends_field (get_or t n 0) ≡ true) ⊎ (n ≡ length t)
+  number_stops {v} {n} e = go (number_read e) (field_stops (drop (p + 1) t))
+    where
+      go : Read v n → (ends_field (get_or (drop (p + 1) t) (length source) 0) ≡ true) ⊎ (length source ≡ length (drop (p + 1) t))
+          → (ends_field (get_or t n 0) ≡ true) ⊎ (n ≡ length t)
+      go r (inl s) = inl (ap (λ (k : ℕ). ends_field (get_or t k 0)) r.3 ∙ (ap ends_field (sym (get_or-drop (p + 1) t (length source) 0)) ∙ s))
+      go r (inr s) = let k = length-drop (p + 1) t in inr (omega arith)
 
 -- ---- a letter, and a line's end
 
@@ -132,12 +169,30 @@ module _ (t : List ℕ) (p : ℕ) where
       go (yes h) = let q = feed (is_feed (get_or t p 0)) (ap (ending_of p) (sym (drop_in t p h)) ∙ e) in (q, omega arith)
       go (no h) = let out = ending_out t p (omega arith) in apart (cc)
 
--- ---- what the definitions answer, back from what the code does: `letter_read` of an arm of a `match` says what `letter_at` is
+-- ---- what the definitions answer, back from what the code does: `field_read` of an arm of a `match` says what `number_at` is
+
+abbrev pub of_field : Result Number FieldError → NumberRead
+of_field (Ok m) = number m.value m.next.at
+of_field (Err NotPlain) = not_plain
+of_field (Err Missing) = missing
 
 abbrev pub of_letter : Option Letter → LetterRead
 of_letter (Some l) = letter l.byte l.next.at
 of_letter None = no_letter
 
+abbrev pub of_ending : Option Cursor → Ending
+of_ending (Some next) = ended next.at
+of_ending None = surplus
+
+pub field_read : {f : Result Number FieldError} (x : NumberRead) → f ≡ as_field x → x ≡ of_field f
+field_read (number value next) e = sym (ap of_field e)
+field_read not_plain e = sym (ap of_field e)
+field_read missing e = sym (ap of_field e)
+
 pub letter_read : {l : Option Letter} (x : LetterRead) → l ≡ as_letter x → x ≡ of_letter l
 letter_read (letter byte next) e = sym (ap of_letter e)
 letter_read no_letter e = sym (ap of_letter e)
+
+pub ending_read : {r : Option Cursor} (x : Ending) → r ≡ as_ending x → x ≡ of_ending r
+ending_read (ended next) e = sym (ap of_ending e)
+ending_read surplus e = sym (ap of_ending e)

@@ -48,6 +48,10 @@ module _ (b : ℕ) (bs : List ℕ) where
       go true e = ap is_over (field_over e)
       go false e = ap is_over (field_on e)
 
+pub closed_over : (v here : ℕ) (f : List ℕ) → is_over f ≡ true → closed v here f ≡ number v here
+closed_over v here [] e = refl
+closed_over v here (b ∷ f) e = let z : ◌≡◌ {A = ℕ} 0 1 = cc in absurd (omega arith)
+
 pub closed_on : (v here : ℕ) (f : List ℕ) → is_over f ≡ false → closed v here f ≡ not_plain
 closed_on v here [] e = let z : ◌≡◌ {A = ℕ} 0 1 = cc in absurd (omega arith)
 closed_on v here (b ∷ f) e = refl

@@ -2,10 +2,12 @@
 use mathlib.Core.Path.{◌≡◌, refl, sym, ap, ◌∙◌}
 use mathlib.Core.Bool.{Bool, true, false, ◌&&◌, ◌||◌}
 use mathlib.Core.List.{List, [], ◌∷◌}
-use Prim.Native.Nat.{ℕ, suc, ◌+◌, ◌-◌, ◌*◌, ◌≤◌, ◌<◌}
+use Prim.Native.Nat.{ℕ, zero, suc, ◌+◌, ◌-◌, ◌*◌, ◌≤◌, ◌<◌}
+use native.Mathlib.Numerals.{add-one}
 use native.Mathlib.Omega.{arith}
 use lib.Dec.{eqb}
-use lib.ListN.{length, get_or, take, drop}
+use lib.ListN.{length, get_or, take, drop, drop_of_length-le}
+use lib.Seq.{drop-cons}
 use lib.Pointwise.{pointwise}
 use borrow.Author.Tests.{eq-eqb, ne_eqb, eqb-true, eqb-false}
 use Rattle.rules.specs.Text.{is_feed, is_digit, number, not_plain, number_in, feed_follows}
@@ -159,6 +161,14 @@ module _ (separator : ℕ) (t : List ℕ) (i : ℕ) (f : feed_follows t i ≡ tr
       go false e =
           ap is_name (piece_on separator t i (feed_inside t i f) e) ∙ ap (λ (y : Bool). y && all_in_name (piece_from separator t (i + 1))) n
 
+-- Where a name that goes on from here would end; or `from`, if it is none.
+abbrev pub name_goes : ℕ → ℕ → List ℕ → ℕ
+name_goes from at piece = elim (all_in_name piece) [ true ↦ at + length piece | false ↦ from ]
+
+module _ (separator : ℕ) (t : List ℕ) (from i : ℕ) (f : feed_follows t i ≡ true) where
+  pub name_ends : ends_piece separator (get_or t i 0) ≡ true → name_goes from i (piece_from separator t i) ≡ i
+  name_ends e = ap (name_goes from i) (piece_over separator t i (feed_inside t i f) e) ∙ omega arith
+
 -- ---- A word
 
 module _ (separator : ℕ) (t : List ℕ) (i : ℕ) (f : feed_follows t i ≡ true) where
@@ -185,6 +195,31 @@ module _ (separator : ℕ) (t : List ℕ) (i : ℕ) (f : feed_follows t i ≡ tr
       go : (x : Bool) → ends_piece separator (get_or t i 0) ≡ x → same_bytes (piece_from separator t i) [] ≡ x
       go true e = ap (λ (p : List ℕ). same_bytes p []) (piece_over separator t i (feed_inside t i f) e)
       go false e = ap (λ (p : List ℕ). same_bytes p []) (piece_on separator t i (feed_inside t i f) e)
+
+-- A byte of a word that ends no piece, by its place.
+none_at : (separator : ℕ) (word : List ℕ) (i : ℕ) → NoneEnds separator word → i < length word → ends_piece separator (get_or word i 0) ≡ false
+none_at separator [] i n h = absurd (omega arith)
+none_at separator (b ∷ bs) zero n h = n.0
+none_at separator (b ∷ bs) (suc i) n h = none_at separator bs i n.1 (omega arith)
+
+module _ (separator : ℕ) (t : List ℕ) (p : ℕ) (f : feed_follows t p ≡ true) (word : List ℕ) (i : ℕ) where
+  ahead : i < length word → drop i word ≡ get_or word i 0 ∷ drop (i + 1) word
+  ahead h = drop-cons word i 0 h ∙ ap (λ (n : ℕ). get_or word i 0 ∷ drop n word) (sym (add-one i))
+
+  pub word_next : NoneEnds separator word → i < length word → get_or t p 0 ≡ get_or word i 0
+      → same_bytes (piece_from separator t p) (drop i word) ≡ same_bytes (piece_from separator t (p + 1)) (drop (i + 1) word)
+  word_next n h q =
+      ap (same_bytes (piece_from separator t p)) (ahead h)
+      ∙ word_on separator t p f (get_or word i 0) (drop (i + 1) word) (none_at separator word i n h) q
+
+  pub word_feeds : NoneEnds separator word → i < length word → get_or t p 0 ≡ get_or word i 0 → feed_follows t (p + 1) ≡ true
+  word_feeds n h q = inner_feeds separator t p f (ap (ends_piece separator) q ∙ none_at separator word i n h)
+
+  pub word_stops : i < length word → (get_or t p 0 ≡ get_or word i 0 → ⊥) → same_bytes (piece_from separator t p) (drop i word) ≡ false
+  word_stops h n = ap (same_bytes (piece_from separator t p)) (ahead h) ∙ word_off separator t p f (get_or word i 0) (drop (i + 1) word) n
+
+  pub word_done : length word ≤ i → same_bytes (piece_from separator t p) (drop i word) ≡ ends_piece separator (get_or t p 0)
+  word_done h = ap (same_bytes (piece_from separator t p)) (drop_of_length-le word h) ∙ word_over separator t p f
 
 -- The bytes from the next place on are those of a word.
 abbrev from_next : List ℕ → List ℕ → ℕ → Bool
