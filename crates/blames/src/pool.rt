@@ -84,15 +84,15 @@ pub fn push(
     pool[bucket * BUCKET + count] = x;
 }
 
-// Each bucket's slots in turn, before any is broken: their numbers in the bucket, which fit a byte. Nothing is promised: any order is right.
-pub fn in_order(order: &mut [u8]) {
+// Each bucket's slots in turn, before any is broken: their numbers in the bucket. Nothing is promised: any order is right.
+pub fn in_order(order: &mut [u32]) {
     for (i, slot) in order.iter_mut().enumerate() {
-        *slot = (i % BUCKET) as u8;
+        *slot = (i % BUCKET) as u32;
     }
 }
 
 // The slot of turn i comes first, those before it one turn later. Nothing is promised: any order is right.
-fn to_front(turns: &mut [u8], i: usize)
+fn to_front(turns: &mut [u32], i: usize)
     requires { i < length turns.old }
 {
     turns[..i + 1].rotate_right(1);
@@ -103,7 +103,7 @@ fn broken_in(
     pool: &[Entry; SLOTS],
     first: usize,
     count: usize,
-    turns: &[u8],
+    turns: &[u32],
     choice: &[u32],
     k: u32,
     columns: &mut StateColumns,
@@ -114,7 +114,7 @@ fn broken_in(
     ensures same { columns.new ≡ columns.old }
 {
     for i in 0..count {
-        let place = usize::from(turns[i]);
+        let place = turns[i] as usize;
         if place < count {
             let x = pool[first + place];
             if !keeps_entry(x, choice, k, columns) {
@@ -133,7 +133,7 @@ fn broken_in(
 pub fn test(
     pool: &[Entry; SLOTS],
     counts: &[u32; POSITIONS],
-    order: &mut [u8; SLOTS],
+    order: &mut [u32; SLOTS],
     from: usize,
     choice: &[u32],
     k: u32,

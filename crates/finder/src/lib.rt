@@ -184,7 +184,7 @@ fn seek_with(
     let nodes = o.nodes;
     let mut pool = [SILENT; SLOTS];
     let mut counts = [0u32; POSITIONS];
-    let mut order = [0u8; SLOTS];
+    let mut order = [0u32; SLOTS];
     blames::in_order(&mut order);
     entering::enter_all(
         fields,

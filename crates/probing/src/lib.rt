@@ -24,7 +24,7 @@ pub enum Walk {
 
 // The slot that is d further than h, from the last on to slot 0.
 #[tactic(auto, unfolding(crate::specs::Probing::spot_of))]
-fn spot(size: usize, h: usize, d: usize) -> usize
+pub fn spot(size: usize, h: usize, d: usize) -> usize
     requires { (h < size) × (d < size) × (size ≤ 65536) }
     ensures { (result ≡ spot_of size h d) × (result < size) }
 {

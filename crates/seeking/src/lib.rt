@@ -56,7 +56,7 @@ pub fn seek(
     why: &mut [u32],
     pool: &[Entry; SLOTS],
     counts: &[u32; POSITIONS],
-    order: &mut [u8; SLOTS],
+    order: &mut [u32; SLOTS],
     k: u32,
     spare: u32,
     columns: &mut StateColumns,
