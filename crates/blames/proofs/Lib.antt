@@ -2,4 +2,5 @@
 pub mod Walks
 pub mod Edges
 pub mod Letters
+pub mod Slots
 pub mod Reasons

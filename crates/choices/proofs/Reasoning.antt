@@ -184,3 +184,10 @@ learnt k m s t n c why₀ why after p e l q up h same passing r known =
       subst (Blames passing k c) (sym (add-one t)) (blames passing k (suc t) n c (omega arith) at),
       λ d f. keeps passing k t n c why after d l up y at x.1 (subst (λ (i : ℕ). next_of k i c ≡ next d) (add-one t) f),
     )
+
+pub learnt_none : (k m s n : ℕ) (c why₀ why : List ℕ) → s ≡ 0 → Stands k m c why₀ s n why → Learns k m c why₀ 0 why
+learnt_none k m s n c why₀ why e h passing r known =
+    let x = h passing r known in (
+      blames passing k 0 n c (omega arith) (subst (λ (i : ℕ). Reason passing k i n c) e x.0),
+      λ d f. let z : ◌≡◌ {A = ℕ} 0 1 = cc in absurd (omega arith),
+    )

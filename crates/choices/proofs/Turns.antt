@@ -1,13 +1,14 @@
 -- One law for each turn and each way out of the loops of `count_of`, `place_of`, `clear_from` and `advance`. Assumes nothing.
 use mathlib.Core.Path.{◌≡◌, refl, sym, ap, ◌∙◌}
-use mathlib.Core.List.{List, [], ◌∷◌, ◌++◌}
+use mathlib.Core.List.{List, [], ◌∷◌, ◌++◌, append-nil, append_assoc}
 use Prim.Native.Nat.{ℕ, zero, suc, ◌+◌, ◌*◌, ◌-◌, ◌≤◌, ◌<◌, min}
 use native.Mathlib.Omega.{arith}
-use native.Mathlib.Nat.{pow-suc, pow-le-pow_right, min-eq_left, min-eq_right, mul_assoc, add-mul, zero-mul, mul-one, mul-suc}
+use native.Mathlib.Nat.{pow-suc, pow-le-pow_right, min-eq_left, min-eq_right, mul_assoc, add-mul, zero-mul, mul-one, mul-suc, mul-le-mul}
 use native.Mathlib.Numerals.{add-one}
 use borrow.Author.Tests.{lt-ltb, le-ltb}
-use lib.ListN.{length, take, set, get_or, replicate, length-append, length-set}
-use lib.Seq.{length-take-le, take-suc}
+use lib.ListN.{length, take, drop, set, get_or, replicate, length-append, length-set, length-replicate}
+use lib.ListN.{replicate-append-replicate, take-append-drop, drop_of_length-le}
+use lib.Seq.{length-take-le, take-suc, drop-cons, set_at}
 use Rattle.rules.specs.Gaps.{power, Within}
 use Rattle.choices.specs.Searching.{place, next, carried, next_of}
 use Rattle.choices.proofs.Count.{power_zero, place_below}
@@ -30,6 +31,9 @@ counted_over k i e n p h o = sym (min-eq_right (omega (arith, power_mono k (i + 
 
 pub counted : (k i e n : ℕ) → n ≡ power k i → i ≡ e → n ≤ 1000000 → n ≡ min (power k e) 1000001
 counted k i e n p h o = let q : n ≡ power k e = p ∙ ap (power k) h in q ∙ sym (min-eq_left (omega arith))
+
+pub product_small : (n k : ℕ) → n ≤ 1000000 → k ≤ 1000 → n * (k + 1) ≤ 1000000 * 1001
+product_small n k a b = let c : k + 1 ≤ 1001 = omega arith in mul-le-mul a c
 
 -- ---- `place_of`
 
@@ -70,6 +74,43 @@ place_fits k i n c w h l e =
     )
 
 -- ---- `clear_from`
+
+-- Zeros from `from` to i.
+abbrev pub zeroed : List ℕ → ℕ → ℕ → List ℕ
+zeroed d from i = (take from d ++ replicate (i - from) 0) ++ drop i d
+
+pub zeroed_start : (d : List ℕ) (from : ℕ) → d ≡ zeroed d from from
+zeroed_start d from =
+    let z : from - from ≡ 0 = omega arith in
+    rw (z, append-nil (take from d)) (sym (take-append-drop from d))
+
+set_past : (p d : List ℕ) (i : ℕ) → length p ≡ i → i < length d → set (p ++ drop i d) i 0 ≡ (p ++ (0 ∷ [])) ++ drop (i + 1) d
+set_past p d i n h =
+    ap (λ (l : List ℕ). set (p ++ l) i 0) (drop-cons d i 0 h)
+    ∙ set_at p (get_or d i 0) (drop (suc i) d) 0 i n
+    ∙ sym (append_assoc p (0 ∷ []) (drop (suc i) d))
+    ∙ ap (λ (m : ℕ). (p ++ (0 ∷ [])) ++ drop m d) (sym (add-one i))
+
+zeros_more : (p : List ℕ) (n : ℕ) → (p ++ replicate n 0) ++ (0 ∷ []) ≡ p ++ replicate (n + 1) 0
+zeros_more p n = append_assoc p (replicate n 0) (0 ∷ []) ∙ ap (λ (l : List ℕ). p ++ l) (replicate-append-replicate n 1 0)
+
+pub zeroed_next : (d : List ℕ) (from i : ℕ) → from ≤ i → i < length d → set (zeroed d from i) i 0 ≡ zeroed d from (i + 1)
+zeroed_next d from i f h =
+    let n : length (take from d ++ replicate (i - from) 0) ≡ i = omega (
+      arith,
+      length-append (take from d) (replicate (i - from) 0),
+      length-take-le from d (omega arith),
+      length-replicate {A = ℕ} (i - from) 0,
+    ) in
+    let s : i - from + 1 ≡ i + 1 - from = omega arith in
+    set_past (take from d ++ replicate (i - from) 0) d i n h
+    ∙ ap (λ (l : List ℕ). l ++ drop (i + 1) d) (zeros_more (take from d) (i - from) ∙ ap (λ (m : ℕ). take from d ++ replicate m 0) s)
+
+pub zeroed_all : (d : List ℕ) (from i : ℕ) → i ≡ length d → zeroed d from i ≡ take from d ++ replicate (length d - from) 0
+zeroed_all d from i h =
+    ap (λ (l : List ℕ). (take from d ++ replicate (i - from) 0) ++ l) (drop_of_length-le d {i = i} (omega arith))
+    ∙ append-nil (take from d ++ replicate (i - from) 0)
+    ∙ ap (λ (m : ℕ). take from d ++ replicate (m - from) 0) h
 
 -- ---- `advance`
 

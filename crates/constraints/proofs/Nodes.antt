@@ -26,7 +26,8 @@ use Rattle.rules.proofs.Judgement.Walk.{walk_shows}
 use Rattle.tree.proofs.Directory.{finds_kept}
 use Rattle.tree.specs.Layout.{subtasks_past, rows_from, rows_past, subtasks_from, size, rows, rows_in}
 use Rattle.rows.specs.Rows.{in_row}
-use Rattle.columns.specs.Columns.{state_words}
+use Rattle.columns.specs.Columns.{state_words, Columns, Blank}
+use Rattle.columns.proofs.Kept.{columns_none}
 use Rattle.parts.specs.Spans.{row_span, RowInside, siblings, nodes_in, spans_in}
 use Rattle.constraints.specs.Ready.{Ready, Leaves, names_method, Labels, node_of_tree}
 use Rattle.parts.proofs.Stretches.{states_hold, filled_size}
@@ -120,6 +121,10 @@ module _ {k : Case} {t : Tree} {fields : List ℕ} {header : Header} {plan_line 
       let all = filled_size r.state_size (flatten (states_of k)) in
       let same = ap length r.states_held in
       omega arith
+
+  -- No column is built yet.
+  pub columns_start : (columns built : List ℕ) → Blank columns built → Columns states (header.cues + 1) columns built
+  columns_start columns built blank = columns_none states (header.cues + 1) columns built few_states states_there blank
 
 -- ---- a node with a method
 

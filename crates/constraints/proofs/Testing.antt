@@ -5,7 +5,7 @@ use mathlib.Core.Bool.{Bool, true, false}
 use mathlib.Core.List.{List, [], ◌∷◌, map}
 use mathlib.Core.List.Memᴰ.{head as here}
 use mathlib.Core.Option.{Option, some}
-use Prim.Native.Nat.{ℕ, ◌+◌, ◌<◌}
+use Prim.Native.Nat.{ℕ, ◌+◌, ◌≤◌, ◌<◌}
 use native.Mathlib.Omega.{arith}
 use lib.ListN.{length}
 use Rattle.rules.specs.declared.Answer.{Answer}
@@ -16,11 +16,11 @@ use Rattle.rules.specs.Constraint.{Holds, keeps, broken_at, first_broken_of}
 use Rattle.rules.proofs.Judgement.Each.{Each, each_tail}
 use Rattle.fields.specs.Standing.{Stands}
 use Rattle.constraints.specs.declared.method.Line.{Line}
-use Rattle.std.specs.Prelude.{Err}
+use Rattle.std.specs.Prelude.{Ok, Err}
 use Rattle.rows.specs.Rows.{in_row}
 use Rattle.parts.specs.Spans.{spans_in}
 use Rattle.parts.specs.Tests.{Tested}
-use Rattle.constraints.specs.Methods.{kept_as, meant, Says}
+use Rattle.constraints.specs.Methods.{kept_as, ConstraintsHere, meant, Says}
 
 abbrev decide : Holds → (Part → Span) → ℕ → ℕ → Constraint → List Constraint → Bool → Option Answer
 decide holds at line number d ds b = elim b [ true ↦ first_broken_of holds at line (number + 1) ds | false ↦ some (broken_at line number d) ]
@@ -34,10 +34,23 @@ pub record Testing (fields : List ℕ) (at count line : ℕ) (own : Span) (held 
   pub same : first_broken_of (in_row words) (span_of_part own (spans_in work)) line 0 all
       ≡ first_broken_of (in_row words) (span_of_part own (spans_in work)) line number left
 
+pub testing_starts : {fields : List ℕ} {at count : ℕ} (line : ℕ) (own : Span) (held : ℕ) (words work : List ℕ) {all : List Constraint}
+    → ConstraintsHere fields at count all → Testing fields at count line own held words work 0 all
+testing_starts line own held words work {all} h =
+    let e = h.counted in
+    record { left = all; stand = h.here; most = omega arith; inside = λ f. f; same = refl }
+
 module _ {fields : List ℕ} {at count line : ℕ} {own : Span} {held : ℕ} {words work : List ℕ} {number : ℕ} {all : List Constraint}
     (p : Testing fields at count line own held words work number all) where
   abbrev first_from : ℕ → List Constraint → Option Answer
   first_from i ds = first_broken_of (in_row words) (span_of_part own (spans_in work)) line i ds
+
+  pub testing_ends : count ≤ number → Ok tt ≡ kept_as (first_from 0 all)
+  testing_ends m = sym (ap kept_as (p.same ∙ go p.left p.most))
+    where
+      go : (ds : List Constraint) → number + length ds ≡ count → first_from number ds ≡ first_from number []
+      go [] e = refl
+      go (d ∷ ds) e = absurd (omega arith)
 
   -- The constraint that is due, and those after it.
   pub record Due : Type 0 where

@@ -11,7 +11,8 @@ use Rattle.rules.specs.Case.{Case}
 use Rattle.rules.specs.Verdict.{state_need}
 use Rattle.rules.specs.Gaps.{Within, ChoiceOf}
 use Rattle.rows.specs.Rows.{in_row}
-use Rattle.columns.specs.Columns.{state_words}
+use Rattle.columns.specs.Columns.{state_words, Columns, Blank}
+use Rattle.columns.proofs.Kept.{columns_none}
 use Rattle.choices.specs.Reasons.{Known}
 use Rattle.blames.specs.declared.entry.Entry.{Entry}
 use Rattle.blames.specs.Entries.{PoolSound}
@@ -37,6 +38,9 @@ module _ {k : Case} {fields : List ℕ} {o : Opened} {states work : List ℕ} (x
       let few = few_cues (claimed_printable x) in
       let room = x.walked.run.state_room in
       omega arith
+
+  pub columns_ready : (columns built : List ℕ) → Blank columns built → Columns states (o.header.cues + 1) columns built
+  columns_ready columns built blank = columns_none states (o.header.cues + 1) columns built few_states states_there blank
 
   pub within_cues : (c : List ℕ) → ChoiceOf k c → Within o.header.cues c
   within_cues c h = subst (λ (y : Header). Within y.cues c) (sym x.walked.opens.head) h.1

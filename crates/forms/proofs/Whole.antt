@@ -21,6 +21,14 @@ use Rattle.forms.specs.declared.fronts.Fronts.{Fronts as FrontsRead}
 use Rattle.forms.specs.declared.backs.Backs.{Backs}
 use Rattle.forms.specs.Held.{FrontsAre, BacksAre, FormIs}
 
+-- How much the lists have room for, which their types say, and how many lines there are.
+pub fronts_few : (k : Case) (ns : Names) (text : List ℕ) (from : ℕ) (r : Returned FrontsRead Answer) (ids labels : List ℕ) → length ids ≡ 3000
+    → length labels ≡ 3000 → FrontsAre k ns text from r ids labels
+    → (cues root next : ℕ) → r ≡ Ok (record { cues = cues; root = root; next = next }) → (cues ≤ 3000) × (length ids ≡ 3000) × (length labels ≡ 3000)
+fronts_few k ns text from r ids labels i l h cues root next q =
+    let w = subst (λ (x : Returned FrontsRead Answer). FrontsAre k ns text from x ids labels) q h in
+    (w.3, i, l)
+
 module _ (k : Case) (ns : Names) (text : List ℕ) where
   -- What is left to do after the lines up to the root line, and after the others.
   abbrev ended : List FormLine → ℕ → List FormLine → Result (Unit {0}) → Result Form

@@ -5,7 +5,7 @@ use mathlib.Core.List.{List, [], ◌∷◌, ◌++◌, map}
 use Prim.Native.Nat.{ℕ, ◌+◌, ◌-◌, ◌≤◌, ◌<◌, min, max}
 use native.Mathlib.Numerals.{add-one}
 use native.Mathlib.Omega.{arith}
-use lib.ListN.{length, get_or, drop}
+use lib.ListN.{length, get_or, drop, drop_of_length-le}
 use lib.Seq.{drop-cons}
 use Rattle.rules.specs.declared.Header.{Header}
 use Rattle.rules.specs.Text.{decimal}
@@ -178,6 +178,9 @@ pub record Counting (f : List NodeLine → ℕ) (fields : List ℕ) (ns : List N
 abbrev pub Counted : (List NodeLine → ℕ) → List ℕ → ℕ → ℕ → ℕ → ℕ → ℕ → Type 0
 Counted f fields nodes count p i n = (ns : List NodeLine) → NodesStand fields nodes count ns → Counting f fields ns p i n
 
+pub counting_starts : (f : List NodeLine → ℕ) (fields : List ℕ) (nodes count : ℕ) → Counted f fields nodes count nodes 0 0
+counting_starts f fields nodes count ns w = record { here = w.here; same = omega arith }
+
 pub stands_next : (fields : List ℕ) (p : ℕ) (ns : List NodeLine) (i : ℕ) (d : Due fields p ns i) (size : ℕ) → size ≡ node_size (get_or fields p 0)
     → Stands fields (p + size) (fields_of_lines (drop (i + 1) ns))
 stands_next fields p ns i d size e = subst (λ (k : ℕ). Stands fields (p + k) (fields_of_lines (drop (i + 1) ns))) (sym e) d.rest
@@ -191,6 +194,12 @@ module _ (f : List NodeLine → ℕ) (fields : List ℕ) (nodes count p i n : �
   counting_on more m size e step ns w =
       let d = due_of ns w more in
       record { here = stands_next fields p ns i d size e; same = step ns d ∙ (t ns w).same }
+
+  pub counting_ends : f [] ≡ 0 → count ≤ i → (ns : List NodeLine) → NodesStand fields nodes count ns → n ≡ f ns
+  counting_ends none most ns w =
+      let over : drop i ns ≡ [] = drop_of_length-le ns {i = i} (omega (arith, w.counted)) in
+      let same = (t ns w).same in
+      omega (arith, ap f over)
 
 -- The line that is due lies inside the fields.
 abbrev pub Inside : List ℕ → ℕ → Type 0

@@ -1,10 +1,10 @@
 -- Gaps put into the E lines among the fields: the lines passed hold the gaps of the choice, the others are as they came. Assumes nothing.
 use mathlib.Core.Path.{◌≡◌, refl, sym, ap, ap₂, ◌∙◌}
-use mathlib.Core.List.{List, ◌∷◌, ◌++◌, append_assoc}
+use mathlib.Core.List.{List, [], ◌∷◌, ◌++◌, append_assoc}
 use Prim.Native.Nat.{ℕ, ◌+◌, ◌≤◌, ◌<◌}
 use native.Mathlib.Numerals.{add-one}
 use native.Mathlib.Omega.{arith}
-use lib.ListN.{length, get_or, take, drop, set}
+use lib.ListN.{length, get_or, take, drop, set, take-append-drop, drop_of_length-le}
 use lib.Seq.{take_at, drop_at, take-add, drop-drop, take-set-le, drop-set-add}
 use Rattle.rules.specs.Case.{NodeLine, D, E, L}
 use Rattle.rules.specs.Gaps.{empty_count, with_gaps}
@@ -31,9 +31,20 @@ abbrev pub Puts : List ℕ → List ℕ → ℕ → ℕ → List ℕ → ℕ →
 Puts start choice nodes count fields p i a = (ns : List NodeLine) (s : NodesStand start nodes count ns) → empty_count ns ≤ length choice
     → Putting start choice nodes ns s.here.rest fields p i a
 
+pub puts_start : (start choice : List ℕ) (nodes count : ℕ) → Puts start choice nodes count start nodes 0 0
+puts_start start choice nodes count ns s e = record { here = s.here.here; same = refl; counted = omega arith }
+
 module _ (start choice : List ℕ) (nodes : ℕ) (ns : List NodeLine) (rest fields : List ℕ) (p i a : ℕ) (g : Putting start choice nodes ns rest fields p i a) where
   pub due_now : i < length ns → Due fields p ns i
   due_now more = line_due fields p ns i (record { rest = rest; here = g.here }) more
+
+  pub puts_end : length ns ≤ i → fields ≡ take nodes start ++ (fields_of_lines (with_gaps choice 0 ns) ++ rest)
+  puts_end most =
+      let none : drop i ns ≡ [] = drop_of_length-le ns {i = i} most in
+      sym (take-append-drop p fields)
+      ∙ ap (λ (l : List ℕ). take p fields ++ l) (g.here ∙ ap (λ (l : List NodeLine). fields_of_lines l ++ rest) none)
+      ∙ ap (λ (l : List NodeLine). take p fields ++ (fields_of_lines (with_gaps choice a l) ++ rest)) (sym none)
+      ∙ g.same
 
   module _ (d : Due fields p ns i) where
     -- The line passed is x now.

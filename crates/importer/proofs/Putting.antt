@@ -2,10 +2,10 @@
 use mathlib.Core.Path.{◌≡◌, refl, sym, ap, subst, ◌∙◌}
 use mathlib.Core.Bool.{Bool, true, false}
 use mathlib.Core.List.{List}
-use Prim.Native.Nat.{ℕ, zero, suc, ◌≤◌, ◌<◌}
+use Prim.Native.Nat.{ℕ, zero, suc, ◌*◌, ◌≤◌, ◌<◌}
 use native.Mathlib.Omega.{arith}
 use borrow.Author.Tests.{lt-ltb, le-ltb}
-use lib.ListN.{length, get_or, take, drop, replicate}
+use lib.ListN.{length, get_or, take, drop, replicate, length-replicate}
 use Rattle.std.specs.Prelude.{Ok, Err, Result as Returned, None, Some}
 use Rattle.rules.specs.declared.Answer.{Answer}
 use Rattle.rules.specs.declared.Answer.TheVariants.{ShortOutput, WrongId}
@@ -25,7 +25,7 @@ use Rattle.linking.specs.Linking.{Joined}
 use Rattle.making.specs.Making.{Makes}
 use Rattle.making.proofs.Cases.{form_cued, form_tasked}
 use Rattle.output.proofs.Cases.{case_text}
-use Rattle.importer.specs.Importing.{FormHeld, made_of, MadeIs, PutMade}
+use Rattle.importer.specs.Importing.{FormHeld, Unlinked, made_of, MadeIs, PutMade}
 
 -- ---- The output
 
@@ -53,6 +53,26 @@ zero_at zero i = refl
 zero_at (suc n) zero = refl
 zero_at (suc n) (suc i) = zero_at n i
 
+zeros_long : (n count : ℕ) → count ≤ n → count ≤ length (replicate {A = ℕ} n 0)
+zeros_long n count h = omega (arith, length-replicate {A = ℕ} n 0)
+
+pub zeros_unlinked : (count lines links : ℕ) → count ≤ lines → 32 * count ≤ links
+    → Unlinked count (replicate (suc lines) 0) (replicate links 0) (replicate lines 0) (replicate lines 0) (replicate lines 0) (replicate lines 0)
+zeros_unlinked count lines links few fit =
+    let long = zeros_long lines count few in
+    record {
+      starts_long = zeros_long (suc lines) (suc count) (omega arith);
+      links_long = zeros_long links (32 * count) fit;
+      twin_long = long;
+      used_long = long;
+      marks_long = long;
+      spare_long = long;
+      links_zero = zero_at links;
+      twin_zero = zero_at lines;
+      used_zero = zero_at lines;
+      marks_zero = zero_at lines;
+    }
+
 -- ---- The form
 
 right_ids : (f : Form) → wrong_line f ≡ as_line None → ids_right f ≡ found tt
@@ -64,6 +84,9 @@ unfolding ids_right
 wrong_ids f line e = ap (unless WrongId) e
 
 module _ {k : Case} {f : Form} {text places ids labels : List ℕ} {cues count root : ℕ} {fields : List ℕ} {plan : ℕ} (h : FormHeld k f text places ids labels cues count root fields plan) where
+  pub held_few : (cues ≤ count) × (count ≤ 3000)
+  held_few = (omega (arith, h.lines.few, h.counted), omega (arith, h.lines.most, h.counted))
+
   held_cued : f.cues ≡ take cues (form_lines f)
   held_cued = form_cued f ∙ ap (λ (n : ℕ). take n (form_lines f)) h.cued
 

@@ -19,6 +19,12 @@ use Rattle.judge.proofs.Verdicts.{claims_right, run_right, text_reads, tree_clai
 abbrev Rest : Type 0
 Rest = Case → Tree → Found Tree
 
+-- A refusal, and the state list zero.
+pub goes_refused : (rows : Rest → Found Tree) (k : Case) (fields : List ℕ) (size : ℕ) (r : Result Opened Answer) (states work : List ℕ) (a : Answer)
+    → ((rest : Rest) → rows rest ≡ refused a) → r ≡ Err a → states ≡ replicate size 0 → RowsPass rows k fields size r states work
+goes_refused rows k fields size r states work a e q zeros =
+    subst (λ (x : Result Opened Answer). RowsPass rows k fields size x states work) (sym q) (e, zeros)
+
 -- Row 9 is passed.
 pub goes_claimed : {k : Case} {fields : List ℕ} {o : Opened} {states work : List ℕ} (x : Walked k fields o states work)
     → least_unclaimed x.claimed k.head.cues 1 ≡ none

@@ -96,11 +96,21 @@ module _ {count n : ℕ} {links used : List ℕ} (tallied : Tallied count n link
 
 -- ---- Links of ids
 
+or-true : (b : Bool) → (b || true) ≡ true
+or-true true = refl
+or-true false = refl
+
 or-false : (b : Bool) → (b || false) ≡ b
 or-false true = refl
 or-false false = refl
 
 -- A flag that is raised where the test holds, and stays where it does not.
+pub flag_raised : {test flag : Bool} (b : Bool) → test ≡ true → flag ≡ true → flag ≡ (b || test)
+flag_raised b t e = e ∙ sym (ap (λ (x : Bool). b || x) t ∙ or-true b)
+
+pub flag_stays : {test flag : Bool} (b : Bool) → test ≡ false → flag ≡ b → flag ≡ (b || test)
+flag_stays b t e = e ∙ sym (ap (λ (x : Bool). b || x) t ∙ or-false b)
+
 pub stored_one : (link_of : ℕ → ℕ) (id n v : ℕ) (links : List ℕ) (r : Bool) → n < length links → v ≡ link_of id → r ≡ eqb v 0
     → Stored link_of (id ∷ []) n links (n + 1) r (set links n v)
 stored_one link_of id n v links r h e q =

@@ -1,7 +1,7 @@
 -- The P line stored action by action, and its actions as those of a form's action lines. Assumes nothing.
 use mathlib.Core.Path.{◌≡◌, refl, sym, ap, ◌∙◌}
 use mathlib.Core.List.{List, [], ◌∷◌, ◌++◌}
-use Prim.Native.Nat.{ℕ, zero, suc, ◌+◌, ◌≤◌}
+use Prim.Native.Nat.{ℕ, zero, suc, ◌+◌, ◌≤◌, ◌<◌}
 use native.Mathlib.Numerals.{add-one}
 use native.Mathlib.Omega.{arith}
 use lib.ListN.{length, get_or, take, drop, set, length-set}
@@ -11,8 +11,20 @@ use Rattle.std.proofs.lemmas.Slice.{put_mid-paste}
 use Rattle.rules.specs.Fields.{line_fields, cues_line}
 use Rattle.rules.specs.Form.{FormLine, cue_line, task_line}
 use Rattle.rules.specs.Import.{actions_of}
+use Rattle.fields.proofs.Standing.{sets_append}
 use Rattle.fields.proofs.Lines.{cues_fields}
 use Rattle.links.specs.Links.{no_line, line_at, Lines}
+
+-- One more action is stored.
+pub copy_more : (before labels : List ℕ) (first i : ℕ) → i < length labels
+    → set (sets before first (take i labels)) (first + i) (get_or labels i 0) ≡ sets before first (take (i + 1) labels)
+copy_more before labels first i h =
+    let size : length (take i labels) ≡ i = length-take-le i labels (omega arith) in
+    sym
+    (ap (λ (n : ℕ). sets before first (take n labels)) (add-one i)
+    ∙ ap (sets before first) (take-suc labels i 0 h)
+    ∙ sets_append (take i labels) (get_or labels i 0 ∷ []) before first
+    ∙ ap (λ (n : ℕ). set (sets before first (take i labels)) (first + n) (get_or labels i 0)) size)
 
 -- A part of a list replaced is its numbers stored one after the other.
 part_put : (a k : ℕ) (xs ys : List ℕ) → length ys ≡ k → a + length ys ≤ length xs → put_mid a k xs ys ≡ sets xs a ys

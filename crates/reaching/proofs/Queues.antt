@@ -176,6 +176,11 @@ among_next links from i f a b =
     a
     b
 
+-- All of them.
+pub among_all : (links : List ℕ) (from i to : ℕ) {m q m' q' : List ℕ} {t t' : ℕ} → i ≡ to → Adds (Among links from i) m q t m' q' t'
+    → Adds (Among links from to) m q t m' q' t'
+among_all links from i to s a = rw s at a
+
 -- The links, and then the twin.
 pub follows_both : (starts links twin : List ℕ) (e : ℕ) {m q m' q' m'' q'' : List ℕ} {t t' t'' : ℕ}
     → Adds (Among links (get_or starts e 0) (get_or starts (e + 1) 0)) m q t m' q' t' → Adds (Names (get_or twin e 0)) m' q' t' m'' q'' t''

@@ -2,7 +2,7 @@
 use mathlib.Core.Path.{◌≡◌, refl, sym, subst, ◌∙◌}
 use mathlib.Core.Bool.{Bool}
 use mathlib.Core.List.{List}
-use Prim.Native.Nat.{ℕ}
+use Prim.Native.Nat.{ℕ, ◌<◌}
 use lib.ListN.{length}
 use Rattle.std.specs.Prelude.{Option, Some, None}
 use Rattle.rules.specs.Constraint.{Holds}
@@ -69,6 +69,10 @@ module _ (holds : Holds) (k spare : ℕ) (pool : List Entry) where
         → Whatever (length c₀) (λ passing. Known passing k why₀ c₀ → AllFail passing (on_from k c₀))
     ended None d after n p passing s l known = let y = kept None d after p passing s l known in fails_on passing k c₀ c y.0.skips y.1
     ended (Some b) d after n p passing s l known = absurd (n b refl)
+
+    pub fewer : (r : Option ℕ) (d : List ℕ) → (r ≡ None → ⊥) → Nearer k c r d → length (on_from k d) < length (on_from k c)
+    fewer None d n y = absurd (n refl)
+    fewer (Some b) d n y = y.2
 
     pub moved : (r : Option ℕ) {b : ℕ} (d after : List ℕ) → r ≡ Some b → Nearer k c r d → length after ≡ length why → Promised r d after
         → Searched c₀ why₀ d after

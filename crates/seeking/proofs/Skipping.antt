@@ -2,7 +2,7 @@
 use mathlib.Core.Path.{◌≡◌, refl, subst}
 use mathlib.Core.Bool.{Bool, false}
 use mathlib.Core.List.{List}
-use Prim.Native.Nat.{ℕ, zero, suc, ◌≤◌}
+use Prim.Native.Nat.{ℕ, zero, suc, ◌≤◌, ◌<◌}
 use native.Mathlib.Omega.{arith}
 use lib.ListN.{length}
 use Rattle.std.specs.Prelude.{Some}
@@ -17,7 +17,18 @@ use Rattle.seeking.specs.Seeking.{GoesOn, Nearer}
 pub blame_inside : (k m b : ℕ) (c why after : List ℕ) → Learns k m c why b after → b ≤ length c
 blame_inside k m b c why after l = (l (λ d. false) (λ d h a. refl) (λ s i d h a x. refl)).0.0
 
--- There is a next choice only where a gap is to blame.
+-- There is a next choice only where a gap is to blame, and then fewer choices are left.
+pub nearer_any : (k b : ℕ) (c d : List ℕ) → next_of k b c ≡ next d
+    → (1 ≤ b) × (length (on_from k d) < length (on_from k c)) × (length d ≡ length c) × (Within k c → Within k d)
+nearer_any k zero c d e = let z : ◌≡◌ {A = ℕ} 0 1 = cc in absurd (omega arith)
+nearer_any k (suc b) c d e = (
+  omega arith,
+  shorter k (suc b) c d e,
+  subst (Sized (length c)) e (sized k (suc b) c),
+  λ w. subst (Kept k) e (kept k (suc b) c w),
+)
+
+-- The same of no more gaps than there are, as `skip` says it.
 pub nearer : (k b : ℕ) (c d : List ℕ) → b ≤ length c → next_of k b c ≡ next d → Nearer k c (Some b) d
 nearer k zero c d inside e = let z : ◌≡◌ {A = ℕ} 0 1 = cc in absurd (omega arith)
 nearer k (suc b) c d inside e = (

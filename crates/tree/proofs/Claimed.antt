@@ -3,14 +3,14 @@
 use mathlib.Core.Path.{◌≡◌, refl, sym, ap, ◌∙◌}
 use mathlib.Core.Bool.{Bool, true, false, cond, ◌||◌}
 use mathlib.Core.List.{List, ◌∷◌}
-use mathlib.Core.Option.{Option, some}
+use mathlib.Core.Option.{Option, none, some}
 use Prim.Native.Nat.{ℕ, zero, suc, ◌+◌, ◌≤◌, ◌<◌}
 use native.Mathlib.Decide.{ℕ_discrete}
 use native.Mathlib.Numerals.{add-one}
 use native.Mathlib.Omega.{arith}
 use borrow.Author.Tests.{eq-eqb, ne_eqb}
 use lib.Dec.{eqb}
-use lib.ListN.{length, get_or, set, length-set}
+use lib.ListN.{length, get_or, set, take, length-set, length-take, drop_of_length-le}
 use lib.Seq.{slice, slice-cons, ext_get_or, get_or-set_same, get_or-set_other}
 use Rattle.rules.specs.State.{tabulate}
 use Rattle.rules.specs.Tree.{is_in, least_unclaimed}
@@ -107,3 +107,7 @@ module _ (k i : ℕ) (w : List ℕ) (h : i < k) (room : marks_from + k ≤ lengt
   unmarked_on e =
       ap (least_unmarked (i + 1)) marks_next
       ∙ ap (λ (b : Bool). elim b as (λ x. Option ℕ) [ true ↦ some (i + 1) | false ↦ least_unmarked (i + 1 + 1) (slice (marks_from + (i + 1)) (marks_from + k) w) ]) (ne_eqb _ _ e)
+
+pub unmarked_none : (k i : ℕ) (w : List ℕ) → k ≤ i → least_unmarked (i + 1) (slice (marks_from + i) (marks_from + k) w) ≡ none
+unmarked_none k i w h =
+    ap (least_unmarked (i + 1)) (drop_of_length-le (take (marks_from + k) w) {i = marks_from + i} (simp length-take (omega arith)))

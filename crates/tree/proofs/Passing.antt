@@ -7,8 +7,8 @@ use Prim.Native.Nat.{ℕ, ◌+◌, ◌-◌, ◌*◌, ◌≤◌, ◌<◌}
 use native.Mathlib.Omega.{arith}
 use borrow.Author.Tests.{eq-eqb, ne_eqb}
 use lib.Dec.{eqb}
-use lib.ListN.{get_or, set, take, drop}
-use lib.Seq.{sets}
+use lib.ListN.{length, get_or, set, take, drop, length-drop}
+use lib.Seq.{sets, length-take-le}
 use Rattle.std.specs.Prelude.{Result, Ok, Err}
 use Rattle.rules.specs.declared.Answer.{Answer}
 use Rattle.rules.specs.declared.Answer.TheVariants.{WrongClaim}
@@ -23,7 +23,7 @@ use Rattle.tree.specs.declared.fit.Subtasks.{Subtasks}
 use Rattle.tree.specs.declared.rows.Walked.{Walked}
 use Rattle.index.specs.Spans.{span_of}
 use Rattle.tree.specs.Layout.{rows_from, marks_from, size, sizes, row, rows, rows_all, marks_of, directory_of, marks_in}
-use Rattle.tree.specs.Fits.{line_at, subtasks_in}
+use Rattle.tree.specs.Fits.{line_at, SubtasksWithin, subtasks_in}
 use Rattle.tree.specs.Standing.{as_task, Steady, ClaimWithin, list_from, claim_from, Beyond, Judged, put_row, settled, Told, ToldAll, ClaimTold, Claims, WalksNode, WalksList}
 use Rattle.tree.proofs.Stores.{in_front, row_rows, row_directory, row_marks, mark_rows, mark_directory, mark_marks}
 use Rattle.tree.proofs.Claimed.{marks_claim, mark_clear, mark_set}
@@ -95,6 +95,13 @@ module _ (fields : List ℕ) (s : Subtasks) where
 
   pub lent_subtasks : take (s.at + s.count - s.at) (drop s.at fields) ≡ subtasks_in fields s
   lent_subtasks = ap (λ (c : ℕ). take c (drop s.at fields)) lent_count
+
+  pub lent_some : SubtasksWithin fields s → 0 < length (take (s.at + s.count - s.at) (drop s.at fields))
+  lent_some h =
+      let o = h.some in
+      let i = h.inside in
+      let e = ap length lent_subtasks ∙ length-take-le s.count (drop s.at fields) (omega (arith, length-drop s.at fields)) in
+      omega arith
 
 -- ---- What a call answered
 

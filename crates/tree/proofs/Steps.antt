@@ -9,7 +9,7 @@ use lib.Dec.{eqb}
 use lib.ListN.{length, get_or, drop}
 use Rattle.std.specs.Prelude.{Result, Ok, Err}
 use Rattle.rules.specs.declared.Answer.{Answer}
-use Rattle.rules.specs.declared.Answer.TheVariants.{TooDeep, MissingNode}
+use Rattle.rules.specs.declared.Answer.TheVariants.{TooDeep, MissingNode, WrongClaim}
 use Rattle.rules.specs.Case.{NodeLine, D, E, L, Case}
 use Rattle.rules.proofs.Judgement.Sound.{Sound, GoodNode, sound}
 use Rattle.fields.specs.Directory.{node_size}
@@ -20,6 +20,7 @@ use Rattle.tree.specs.declared.fit.Entry.TheVariants.{Task, Empty, Leaf}
 use Rattle.tree.specs.declared.fit.MethodHead.{MethodHead}
 use Rattle.tree.specs.declared.fit.Fit.{Fit}
 use Rattle.tree.specs.declared.fit.Fit.TheVariants.{Open, Empty as EmptyFit, Leaf as LeafFit}
+use Rattle.tree.specs.declared.rows.Walked.{Walked}
 use Rattle.tree.specs.Fits.{line_at, Follows, as_entry, entry_at, HeadWithin, MethodWithin, head_in, pick_fit, fit_if, fit_of, at_level}
 use Rattle.tree.specs.Standing.{Steady, ClaimWithin, Beyond, Judged}
 use Rattle.tree.proofs.Entries.{EntryHere, entry_here, plan_at_lem, plan_inside}
@@ -82,6 +83,9 @@ module _ (k : Case) (fields : List ℕ) (g : Given) (w : List ℕ) (st : Steady 
   pub claim_planned : (n i : ℕ) → ClaimWithin k n i → get_or fields (g.plan + i) 0 ≡ get_or k.plan (i - 1) 0
   claim_planned n i c =
       plan_at_lem fields g.plan k.plan i st.plan c.low (let l = case_sound.plan_length in let h = c.high in omega arith)
+
+  pub claim_node : (n i : ℕ) {r : Result Walked Answer} → r ≡ Err (WrongClaim (line_at g.line n) i) → r ≡ Err (WrongClaim (line_at k.plan_line n) i)
+  claim_node n i e = e ∙ ap (λ (x : ℕ). Err (WrongClaim (line_at x n) i)) st.planned
 
   module _ (p : Place) (f : Follows k fields p) where
     pub judge_lacking : (t level l : ℕ) → l ≡ line_at g.line p.node → g.nodes ≤ p.node → Judged k fields p t level (Err (MissingNode l))
