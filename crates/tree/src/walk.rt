@@ -13,21 +13,22 @@ use crate::{fit, rows};
 use index::{Doubled, Span};
 use rules::{Answer, Header};
 
-// The node here, where `task` is expected at `level`.
+// The node here, where `task` is expected at `level`. What is given is lent: a copy of it would stand in the frame of `walk_subtasks`, and the
+// stack grows by that frame with each level.
 #[cycle(walk_node_walk_subtasks)]
 fn walk_node(
     fields: &[u32],
-    g: Given,
+    g: &Given,
     work: &mut [u32],
     p: Place,
     task: u32,
     level: u32,
 ) -> Result<Walked, Answer>
-    requires steady { (k : Case) × Steady k fields.now g work.old × Follows k fields.now p }
+    requires steady { (k : Case) × Steady k fields.now g.now work.old × Follows k fields.now p }
     requires level_bound { level ≤ 65 }
-    ensures { (k : Case) → Steady k fields.now g work.old → Follows k fields.now p → WalksNode k fields.now (65 - level) task p.node work.old result work.new }
+    ensures { (k : Case) → Steady k fields.now g.now work.old → Follows k fields.now p → WalksNode k fields.now (65 - level) task p.node work.old result work.new }
 {
-    let fit = fit::judge(fields, g, work, p, task, level)?;
+    let fit = fit::judge(fields, *g, work, p, task, level)?;
     match fit {
         Fit::Open { subtasks, next } => {
             let from = subtasks.at;
@@ -41,7 +42,7 @@ fn walk_node(
             action,
             position,
             next,
-        } => rows::claim(fields, g, work, p.node, action, position, next),
+        } => rows::claim(fields, *g, work, p.node, action, position, next),
     }
 }
 
@@ -50,15 +51,15 @@ fn walk_node(
 #[cycle(walk_node_walk_subtasks)]
 fn walk_subtasks(
     fields: &[u32],
-    g: Given,
+    g: &Given,
     work: &mut [u32],
     p: Place,
     tasks: &[u32],
     level: u32,
 ) -> Result<Walked, Answer>
-    requires steady { (k : Case) × Steady k fields.now g work.old × Follows k fields.now p }
+    requires steady { (k : Case) × Steady k fields.now g.now work.old × Follows k fields.now p }
     requires level_bound { (level ≤ 64) × (0 < length tasks.now) }
-    ensures { (k : Case) → Steady k fields.now g work.old → Follows k fields.now p → WalksList k fields.now (64 - level) tasks.now p.node work.old result work.new }
+    ensures { (k : Case) → Steady k fields.now g.now work.old → Follows k fields.now p → WalksList k fields.now (64 - level) tasks.now p.node work.old result work.new }
 {
     let mut next = p;
     // The span of no subtask yet: any, since it is joined to none.
@@ -91,7 +92,7 @@ pub fn walk_tree(
     };
     let root = Place { node: 0, at: nodes };
     let goal = [header.goal];
-    let walked = walk_subtasks(fields, g, work, root, &goal, 0)?;
+    let walked = walk_subtasks(fields, &g, work, root, &goal, 0)?;
     let next = walked.next.node;
     if next < header.nodes {
         return Err(Answer::SurplusNode {

@@ -11,10 +11,10 @@ use Rattle.tree.proofs.walk.+walk_node_walk_subtasks.Given as goal
 
 -- Nodes left plus levels left.
 abbrev pub decreases-walk_node : goal.decreases-walk_node
-decreases-walk_node l = (l.g.nodes - l.p.node) + (65 - l.level)
+decreases-walk_node l = (l.g.now.nodes - l.p.node) + (65 - l.level)
 
 abbrev pub decreases-walk_subtasks : goal.decreases-walk_subtasks
-decreases-walk_subtasks l = (l.g.nodes - l.p.node) + (65 - l.level)
+decreases-walk_subtasks l = (l.g.now.nodes - l.p.node) + (65 - l.level)
 
 -- So many of the tasks are walked, for whichever case it is; the work space has its length.
 abbrev pub invariant-walk_subtasks-loop-i : goal.invariant-walk_subtasks-loop-i
