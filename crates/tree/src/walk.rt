@@ -64,8 +64,8 @@ fn walk_subtasks(
     let mut next = p;
     // The span of no subtask yet: any, since it is joined to none.
     let mut span = Span::at(Doubled::of_cue(0));
-    for i in 0..tasks.len() {
-        let walked = walk_node(fields, g, work, next, tasks[i], level + 1)?;
+    for (i, task) in tasks.iter().enumerate() {
+        let walked = walk_node(fields, g, work, next, *task, level + 1)?;
         next = walked.next;
         span = rows::join(i, span, walked.span);
     }
