@@ -81,13 +81,15 @@ module _ (k : Case) (ns : Names) (form : List ℕ) (from : ℕ) where
         x : FormLine
         x = cue_line (e + 2) id a (e + 1)
 
-    so_far_root : e ≤ 3000 → (root next : ℕ) → AheadIs k ns form e at ids labels (Ok (Root root next)) ids' labels'
+    so_far_root : e ≤ 3000 → length ids ≡ 3000 → length labels ≡ 3000 → (root next : ℕ) → AheadIs k ns form e at ids labels (Ok (Root root next)) ids' labels'
         → FrontsAre k ns form from (Ok (record { cues = e; root = root; next = next })) ids' labels'
-    so_far_root most root next (is, ls, step) = (
+    so_far_root most ids_long labels_long root next (is, ls, step) = (
       p.cues,
       p.size,
       subst (λ (l : List ℕ). Lines p.cues e ids' l) (sym ls) (subst (λ (l : List ℕ). Lines p.cues e l labels) (sym is) p.lines),
       most,
+      ap length is ∙ ids_long,
+      ap length ls ∙ labels_long,
       p.same
           ∙ (ap (ahead p.cues) (step (3000 - e))
           ∙ (ap (λ (cs : List FormLine). found (record { cues = cs; root = root; left = 3000 - e; next = e + 2 + 1; place = next })) (append-nil p.cues)
@@ -135,7 +137,7 @@ module _ (Fits : Case → Names → Type 0) (form : List ℕ) (from : ℕ) where
       pub fronting_root : (k : Case) (ns : Names) → Fits k ns → (root next : ℕ) → r ≡ Root root next
           → FrontsAre k ns form from (Ok (record { cues = e; root = root; next = next })) ids' labels'
       fronting_root k ns t root next q =
-          so_far_root k ns form from ids labels at e (p.so_far k ns t) ids' labels' p.most root next (told (Root root next) q k ns t)
+          so_far_root k ns form from ids labels at e (p.so_far k ns t) ids' labels' p.most p.ids_long p.labels_long root next (told (Root root next) q k ns t)
 
     pub fronting_refused : (k : Case) (ns : Names) → Fits k ns → (answer : Answer) → AheadIs k ns form e at ids labels (Err answer) ids' labels'
         → FrontsAre k ns form from (Err answer) ids' labels'

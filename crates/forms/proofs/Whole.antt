@@ -21,13 +21,12 @@ use Rattle.forms.specs.declared.fronts.Fronts.{Fronts as FrontsRead}
 use Rattle.forms.specs.declared.backs.Backs.{Backs}
 use Rattle.forms.specs.Held.{FrontsAre, BacksAre, FormIs}
 
--- How much the lists have room for, which their types say, and how many lines there are.
-pub fronts_few : (k : Case) (ns : Names) (text : List ℕ) (from : ℕ) (r : Returned FrontsRead Answer) (ids labels : List ℕ) → length ids ≡ 3000
-    → length labels ≡ 3000 → FrontsAre k ns text from r ids labels
+-- How much the lists have room for, and how many lines there are.
+pub fronts_few : (k : Case) (ns : Names) (text : List ℕ) (from : ℕ) (r : Returned FrontsRead Answer) (ids labels : List ℕ) → FrontsAre k ns text from r ids labels
     → (cues root next : ℕ) → r ≡ Ok (record { cues = cues; root = root; next = next }) → (cues ≤ 3000) × (length ids ≡ 3000) × (length labels ≡ 3000)
-fronts_few k ns text from r ids labels i l h cues root next q =
+fronts_few k ns text from r ids labels h cues root next q =
     let w = subst (λ (x : Returned FrontsRead Answer). FrontsAre k ns text from x ids labels) q h in
-    (w.3, i, l)
+    (w.3, w.4, w.5)
 
 module _ (k : Case) (ns : Names) (text : List ℕ) where
   -- What is left to do after the lines up to the root line, and after the others.
@@ -71,7 +70,7 @@ module _ (k : Case) (ns : Names) (text : List ℕ) where
 
     module _ (r : FrontsRead) (ids labels : List ℕ) (h : FrontsAre k ns text second (Ok r) ids labels) where
       by_backs : read_form k ns text ≡ after_backs h.0 r.root (back_lines k ns text (3000 - r.cues) (r.cues + 3) r.next)
-      by_backs = opened ∙ ap after_fronts h.4
+      by_backs = opened ∙ ap after_fronts h.6
 
       -- What reading the lines after the root line answers and leaves.
       abbrev BacksHere : Returned Backs Answer → List ℕ → List ℕ → List ℕ → Type 0

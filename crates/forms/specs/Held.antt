@@ -66,7 +66,7 @@ AheadIs k ns form e at ids labels (Err answer) ids' labels' = front_lines k ns f
 -- All lines up to the root line, the first of which starts at a place: action lines, each at its position, and the root line.
 abbrev pub FrontsAre : Case → Names → List ℕ → ℕ → Returned Fronts Answer → List ℕ → List ℕ → Type 0
 FrontsAre k ns form from (Ok r) ids labels =
-    (cs : List FormLine) × (length cs ≡ r.cues) × Lines cs r.cues ids labels × (r.cues ≤ 3000)
+    (cs : List FormLine) × (length cs ≡ r.cues) × Lines cs r.cues ids labels × (r.cues ≤ 3000) × (length ids ≡ 3000) × (length labels ≡ 3000)
     × (front_lines k ns form 3000 1 2 from ≡ found (record { cues = cs; root = r.root; left = 3000 - r.cues; next = r.cues + 3; place = r.next }))
 FrontsAre k ns form from (Err answer) ids labels = front_lines k ns form 3000 1 2 from ≡ refused answer
 

@@ -25,13 +25,13 @@ fn take_after(
     at: usize,
     e: usize,
     model: &Model,
-    ids: &mut [u32; LINES],
-    labels: &mut [u32; LINES],
-    places: &mut [usize; LINES],
+    ids: &mut [u32],
+    labels: &mut [u32],
+    places: &mut [usize],
 ) -> Result<After, Answer>
     requires modelled { (k : Case) × (ns : Names) × Modelled k ns model.now }
     requires by_index { (p : ℕ) → feed_follows form.now p ≡ ltb p past }
-    requires e_bound { e ≤ 3000 }
+    requires e_bound { (e ≤ 3000) × (length ids.old ≡ 3000) × (length labels.old ≡ 3000) × (length places.old ≡ 3000) }
     ensures { (k : Case) (ns : Names) → Modelled k ns model.now → AfterIs k ns form.now e at ids.old labels.old places.old result ids.new labels.new places.new }
 {
     let line = e as u32 + 3;
@@ -73,13 +73,13 @@ pub fn read_backs(
     from: usize,
     cues: usize,
     model: &Model,
-    ids: &mut [u32; LINES],
-    labels: &mut [u32; LINES],
-    places: &mut [usize; LINES],
+    ids: &mut [u32],
+    labels: &mut [u32],
+    places: &mut [usize],
 ) -> Result<Backs, Answer>
     requires modelled { (k : Case) × (ns : Names) × Modelled k ns model.now }
     requires by_index { (p : ℕ) → feed_follows form.now p ≡ ltb p past }
-    requires cues_bound { cues ≤ 3000 }
+    requires cues_bound { (cues ≤ 3000) × (length ids.old ≡ 3000) × (length labels.old ≡ 3000) × (length places.old ≡ 3000) }
     ensures { (k : Case) (ns : Names) → Modelled k ns model.now → (cs : List FormLine) → length cs ≡ cues → Lines cs cues ids.old labels.old → BacksAre k ns form.now cues from cs result ids.new labels.new places.new }
 {
     let mut at = from;

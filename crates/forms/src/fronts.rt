@@ -1,5 +1,5 @@
 // The lines up to the root line, the action lines first: 17, "first on each line", then 18.
-ghost use Rattle.std.specs.Prelude.{◌≡◌, ℕ, ◌≤◌, ltb};
+ghost use Rattle.std.specs.Prelude.{◌≡◌, ℕ, ◌≤◌, ltb, length};
 ghost use Rattle.rules.specs.Text.{feed_follows};
 ghost use Rattle.rules.specs.Case.{Case};
 ghost use Rattle.rules.specs.Naming.{Names};
@@ -23,12 +23,12 @@ fn take_ahead(
     at: usize,
     e: usize,
     model: &Model,
-    ids: &mut [u32; LINES],
-    labels: &mut [u32; LINES],
+    ids: &mut [u32],
+    labels: &mut [u32],
 ) -> Result<Ahead, Answer>
     requires modelled { (k : Case) × (ns : Names) × Modelled k ns model.now }
     requires by_index { (p : ℕ) → feed_follows form.now p ≡ ltb p past }
-    requires e_bound { e ≤ 3000 }
+    requires e_bound { (e ≤ 3000) × (length ids.old ≡ 3000) × (length labels.old ≡ 3000) }
     ensures { (k : Case) (ns : Names) → Modelled k ns model.now → AheadIs k ns form.now e at ids.old labels.old result ids.new labels.new }
 {
     let line = e as u32 + 2;
@@ -62,11 +62,12 @@ pub fn read_fronts(
     past: usize,
     from: usize,
     model: &Model,
-    ids: &mut [u32; LINES],
-    labels: &mut [u32; LINES],
+    ids: &mut [u32],
+    labels: &mut [u32],
 ) -> Result<Fronts, Answer>
     requires modelled { (k : Case) × (ns : Names) × Modelled k ns model.now }
     requires by_index { (p : ℕ) → feed_follows form.now p ≡ ltb p past }
+    requires ids_len { (length ids.old ≡ 3000) × (length labels.old ≡ 3000) }
     ensures { (k : Case) (ns : Names) → Modelled k ns model.now → FrontsAre k ns form.now from result ids.new labels.new }
 {
     let mut at = from;

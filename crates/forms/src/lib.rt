@@ -1,8 +1,9 @@
 // Reading the competition's plan form (02, Card 6), line by line: 17, "first on each line", then 18, "next on the line". What each line defines goes to lists: its id, its
-// action or method, and of a compound line where its subtask ids stand. The lists are the caller's arrays, since there is no heap, with room for
+// action or method, and of a compound line where its subtask ids stand. The lists are the caller's, since there is no heap, with room for
 // all LINES lines, and line e of the form's lines has the number e in each.
 #![tactic(auto)]
 
+ghost use Rattle.std.specs.Prelude.{◌≡◌, length};
 ghost use Rattle.rules.specs.Case.{Case};
 ghost use Rattle.rules.specs.Naming.{Names};
 ghost use Rattle.rules.specs.Form.{read_form};
@@ -48,11 +49,12 @@ pub struct FormRead {
 pub fn read_form(
     form: &[u8],
     model: &Model,
-    ids: &mut [u32; LINES],
-    labels: &mut [u32; LINES],
-    places: &mut [usize; LINES],
+    ids: &mut [u32],
+    labels: &mut [u32],
+    places: &mut [usize],
 ) -> Result<FormRead, Answer>
     requires modelled { (k : Case) × (ns : Names) × Modelled k ns model.now }
+    requires ids_len { (length ids.old ≡ 3000) × (length labels.old ≡ 3000) × (length places.old ≡ 3000) }
     ensures { (k : Case) (ns : Names) → Modelled k ns model.now → FormIs form.now (read_form k ns form.now) result ids.new labels.new places.new }
 {
     let past = text::past_last_feed(form);

@@ -32,8 +32,8 @@ pub fn same(a: &[u8], b: &[u8]) -> bool
 }
 
 // The walk from the name's slot on.
-fn walk_to(text: &[u8], starts: &[usize], ends: &[usize], slots: &[u32; SLOTS], name: &[u8]) -> Walk
-    requires { Placed text.now starts.now ends.now × ((i : ℕ) → get_or slots.now i 0 ≤ length starts.now) }
+fn walk_to(text: &[u8], starts: &[usize], ends: &[usize], slots: &[u32], name: &[u8]) -> Walk
+    requires { (length slots.now ≡ 4096) × Placed text.now starts.now ends.now × ((i : ℕ) → get_or slots.now i 0 ≤ length starts.now) }
     ensures { result ≡ walk (same_name text.now starts.now ends.now name.now) slots.now (hash_name name.now) }
 {
     probing::walk_to(slots, hash(name), |e| {
@@ -46,13 +46,13 @@ pub fn find(
     text: &[u8],
     starts: &[usize],
     ends: &[usize],
-    slots: &[u32; SLOTS],
+    slots: &[u32],
     count: usize,
     other: &[u8],
     from: usize,
     to: usize,
 ) -> Option<usize>
-    requires { (count ≤ length starts.now) × Placed text.now starts.now ends.now × (from ≤ to) × (to ≤ length other.now) × Kept (same_name text.now starts.now ends.now) hash_name slots.now count }
+    requires { (length slots.now ≡ 4096) × (count ≤ length starts.now) × Placed text.now starts.now ends.now × (from ≤ to) × (to ≤ length other.now) × Kept (same_name text.now starts.now ends.now) hash_name slots.now count }
     ensures { result ≡ first (same_name text.now starts.now ends.now (take (to - from) (drop from other.now))) count }
 {
     probing::told(walk_to(text, starts, ends, slots, &other[from..to]))
@@ -63,10 +63,10 @@ pub fn insert(
     text: &[u8],
     starts: &[usize],
     ends: &[usize],
-    slots: &mut [u32; SLOTS],
+    slots: &mut [u32],
     count: usize,
 ) -> Option<usize>
-    requires { (count < 4096) × (count < length starts.now) × Placed text.now starts.now ends.now × Kept (same_name text.now starts.now ends.now) hash_name slots.old count }
+    requires { (length slots.old ≡ 4096) × (count < 4096) × (count < length starts.now) × Placed text.now starts.now ends.now × Kept (same_name text.now starts.now ends.now) hash_name slots.old count }
     ensures { (result ≡ first (same_name text.now starts.now ends.now (name_at text.now starts.now ends.now count)) count) × Kept (same_name text.now starts.now ends.now) hash_name slots.new (suc count) }
 {
     let from = starts[count];

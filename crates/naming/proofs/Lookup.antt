@@ -49,7 +49,7 @@ module _ (text starts ends slots : List ℕ) (names : List (List ℕ)) (listed :
       each e h = let z : 0 + e ≡ e = omega arith in ap (same_name text starts ends name) z ∙ ap (λ (l : List ℕ). same_bytes l name) (listed.each e h)
 
   module _ (count : ℕ) (all : count ≡ length names) where
-    -- What `names::find` asks, for the name other[from..to].
+    -- What `names::find` asks beside the length of the slots, for the name other[from..to].
     pub find_ready : (other : List ℕ) (from to : ℕ) → from ≤ to → to ≤ length other
         → (count ≤ length starts) × Placed text starts ends × (from ≤ to) × (to ≤ length other)
         × Kept (same_name text starts ends) hash_name slots count

@@ -100,7 +100,7 @@ module _ (text : List ℕ) (count : ℕ) (from : Spot) where
     abbrev those : List (List ℕ)
     those = earlier_names text starts ends i
 
-    -- The lists keep their lengths, the slots by their type.
+    -- The lists keep their lengths, the slots by what is asked of them.
     pub sizes : (starts₀ ends₀ slots₀ : List ℕ) → Blank starts₀ ends₀ → length slots ≡ 4096 → length slots₀ ≡ 4096
         → (length starts ≡ length starts₀) × (length ends ≡ length ends₀) × (length slots ≡ length slots₀)
     sizes starts₀ ends₀ slots₀ blank size size₀ = (

@@ -4,13 +4,12 @@
 // methods (the later line) [..] next on the line [..] item 1 in the name list".
 #![tactic(auto)]
 
-ghost use Rattle.std.specs.Prelude.{◌≡◌, [], ℕ, ◌+◌, ◌<◌, ◌≤◌, ltb};
+ghost use Rattle.std.specs.Prelude.{◌≡◌, [], ℕ, ◌+◌, ◌<◌, ◌≤◌, ltb, length};
 ghost use Rattle.rules.specs.Text.{feed_follows};
 ghost use Rattle.rules.specs.Naming.{name_lines, read_names};
 ghost use Rattle.naming.specs.Lines.{Told, Entered, earlier_names, one_name, NextName, Left, whole_list};
 ghost use Rattle.naming.specs.Listing.{Blank, Listed, NamesLeft};
 
-use names::SLOTS;
 use rules::{Answer, Header};
 use tokens::Plain;
 
@@ -60,10 +59,11 @@ fn next_name(
     number: usize,
     starts: &mut [usize],
     ends: &mut [usize],
-    slots: &mut [u32; SLOTS],
+    slots: &mut [u32],
 ) -> Result<Spot, Answer>
     requires by_index { (p : ℕ) → feed_follows text.now p ≡ ltb p past }
     requires line_bound { (at.line ≤ 4096) × (number < 2048) }
+    requires slots_length { length slots.old ≡ 4096 }
     requires entered { Entered text.now starts.old ends.old slots.old number }
     ensures { Left (NextName text.now starts.old ends.old number starts.new ends.new slots.new) (one_name text.now number (earlier_names text.now starts.old ends.old number) at.line at.at) result }
 {
@@ -90,10 +90,11 @@ fn lines_of(
     count: usize,
     starts: &mut [usize],
     ends: &mut [usize],
-    slots: &mut [u32; SLOTS],
+    slots: &mut [u32],
 ) -> Result<Spot, Answer>
     requires by_index { (p : ℕ) → feed_follows text.now p ≡ ltb p past }
     requires line_bound { (from.line ≤ 2049) × (count ≤ 2048) }
+    requires slots_length { length slots.old ≡ 4096 }
     requires blank { Blank starts.old ends.old }
     ensures { Left (Listed text.now starts.new ends.new slots.new) (name_lines text.now count 0 [] from.line from.at) result }
 {
@@ -124,15 +125,17 @@ pub fn read_names(
     header: Header,
     task_starts: &mut [usize],
     task_ends: &mut [usize],
-    task_slots: &mut [u32; SLOTS],
+    task_slots: &mut [u32],
     method_starts: &mut [usize],
     method_ends: &mut [usize],
-    method_slots: &mut [u32; SLOTS],
+    method_slots: &mut [u32],
 ) -> Result<(), Answer>
     requires compounds_bound { (header.actions + header.compounds ≤ 2048) × (header.methods ≤ 2048) }
+    requires slots_length { (length task_slots.old ≡ 4096) × (length method_slots.old ≡ 4096) }
     requires blank { Blank task_starts.old task_ends.old }
     requires blank_2 { Blank method_starts.old method_ends.old }
-    ensures { NamesLeft text.now (read_names header text.now) result task_starts.new task_ends.new task_slots.new method_starts.new method_ends.new method_slots.new }
+    ensures left { NamesLeft text.now (read_names header text.now) result task_starts.new task_ends.new task_slots.new method_starts.new method_ends.new method_slots.new }
+    ensures slots_length { (length task_slots.new ≡ 4096) × (length method_slots.new ≡ 4096) }
 {
     let past = text::past_last_feed(text);
     let first = Spot { line: 1, at: 0 };

@@ -9,12 +9,12 @@ pub put-requires-clause-in_table : goal.put-requires-clause-in_table
 put-requires-clause-in_table c =
     let a = c.args in
     let w = c.walk_to-end in
-    (name_puts a.text.now a.starts.now a.ends.now a.slots.now a.count c.told-slots c.requires.3 w.result w.ensures).spot
+    (name_puts a.text.now a.starts.now a.ends.now a.slots.now a.count c.requires.0 c.requires.4 w.result w.ensures).spot
 
 pub returns : goal.returns
 returns c =
     let a = c.args in
     let w = c.walk_to-end in
-    let puts = name_puts a.text.now a.starts.now a.ends.now a.slots.now a.count c.told-slots c.requires.3 w.result w.ensures in
-    let room : a.count < length a.slots.now = omega (arith, c.told-slots, c.requires.0) in
+    let puts = name_puts a.text.now a.starts.now a.ends.now a.slots.now a.count c.requires.0 c.requires.4 w.result w.ensures in
+    let room : a.count < length a.slots.now = omega (arith, c.requires.0, c.requires.1) in
     (c.put.ensures.told ∙ puts.told, subst (λ (l : List ℕ). Kept (same_name a.text.now a.starts.now a.ends.now) hash_name l (suc a.count)) (sym c.put.ensures.stored) (puts.kept room))

@@ -10,7 +10,8 @@ returns-in_default c =
 pub insert-requires : goal.insert-requires
 insert-requires c =
     let a = c.args in
-    insert_ready a.text.now a.starts.now a.ends.now a.slots.now a.number a.at.line a.at.at _ _ c.requires.entered c.requires.line_bound.1 c.in-Some.ensures
+    let r = insert_ready a.text.now a.starts.now a.ends.now a.slots.now a.number a.at.line a.at.at _ _ c.requires.entered c.requires.line_bound.1 c.in-Some.ensures in
+    (c.requires.slots_length, r.0, r.1, r.2, r.3)
 
 pub returns-in-Some-insert : goal.returns-in-Some-insert
 returns-in-Some-insert c =

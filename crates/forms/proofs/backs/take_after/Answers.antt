@@ -25,7 +25,7 @@ returns-in_err-m-in-Compound c =
     let f = subst (BackIs a.form.now a.at) (there c.back_line.result _ _ c.in_ok-id.ensures.value ∙ ap (λ x. Some x) c.in-Compound.is) c.back_line.ensures in
     let n = missing c.both_named.result _ _ c.in_err-m-in-Compound.ensures.value in
     let p = err_from_is_err_and c.from_residual-in_err-m-in-Compound.result c.from_residual-in_err-m-in-Compound.ensures.1 in
-    let few = c.requires.e_bound in
+    let few = c.requires.e_bound.0 in
     let fewer = c.if-e-eq-LINES.false in
     λ k ns t. rw (p.1, p.2, n.1)
     (back_unnamed k ns a.form.now (a.e + 3) a.at _ _ _ _ f.4.0 (f.4.3 (a.e + 3)) (3000 - a.e) _ (omega arith)
@@ -36,7 +36,7 @@ returns-in_ok-m-in-Compound c =
     let a = c.args in
     let f = subst (BackIs a.form.now a.at) (there c.back_line.result _ _ c.in_ok-id.ensures.value ∙ ap (λ x. Some x) c.in-Compound.is) c.back_line.ensures in
     let n = there c.both_named.result c.in_ok-m-in-Compound.m _ c.in_ok-m-in-Compound.ensures.value in
-    let few = c.requires.e_bound in
+    let few = c.requires.e_bound.0 in
     let fewer = c.if-e-eq-LINES.false in
     λ k ns t.
     let m = c.both_named.ensures.ids_value k ns t (a.e + 3) f.4.0 f.4.2 ∙ ap (named (a.e + 3)) n in

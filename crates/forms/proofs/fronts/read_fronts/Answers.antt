@@ -8,7 +8,7 @@ use Rattle.forms.proofs.fronts.read_fronts.Goals as goal
 pub loop-next-init : goal.loop-next-init
 loop-next-init c =
     let a = c.args in
-    fronting_starts (λ k ns. Modelled k ns a.model.now) a.form.now a.from _ _ c.told-ids c.told-labels
+    fronting_starts (λ k ns. Modelled k ns a.model.now) a.form.now a.from _ _ c.requires.ids_len.0 c.requires.ids_len.1
 
 pub loop-next-smaller : goal.loop-next-smaller
 loop-next-smaller c =

@@ -24,7 +24,7 @@ returns-in_err-a-in-Action c =
     let f = subst (FrontIs a.form.now a.at) (there c.front_line.result _ _ c.in_ok-id.ensures.value ∙ ap (λ x. Some x) c.in-Action.is) c.front_line.ensures in
     let m = missing c.action_named.result _ _ c.in_err-a-in-Action.ensures.value in
     let p = err_from_is_err_and c.from_residual-in_err-a-in-Action.result c.from_residual-in_err-a-in-Action.ensures.1 in
-    let few = c.requires.e_bound in
+    let few = c.requires.e_bound.0 in
     let fewer = c.if-e-eq-LINES.false in
     λ k ns t. rw (p.1, p.2, m.1)
     (front_unnamed k ns a.form.now (a.e + 1) (a.e + 2) a.at _ _ _ (f.2 (a.e + 2)) (3000 - a.e) _ (omega arith)
