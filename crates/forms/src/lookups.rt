@@ -1,6 +1,6 @@
 // What a name on a line of the form stands for: an action; a compound task with one of its methods. The model is the case's: its names by their
-// tables, its methods by its fields and their directory. The slots of a table are copied out of it before they are lent as a list, since the
-// borrow checker asks it.
+// tables, its methods by its fields and their directory. The reference to a table's slots is taken out of it before it is lent as a list,
+// since the borrow checker asks it.
 ghost use Rattle.std.specs.Prelude.{◌≡◌, List, ℕ, ◌≤◌, ◌<◌, length};
 ghost use Rattle.rules.specs.Case.{Case, method_at};
 ghost use Rattle.rules.specs.Naming.{Names};
