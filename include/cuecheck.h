@@ -64,7 +64,7 @@ typedef struct cuecheck_node {
 } cuecheck_node;
 
 /* Judges a case. The lists may hold anything, but must not overlap. Accepted, states has states 0 to k and nodes a record for each node, in the
-   tree's order, and zero after; refused, both are zero. work is zero after each call. It needs 277 KiB of stack (measured). */
+   tree's order, and zero after; refused, both are zero. work is zero after each call. It needs 276 KiB of stack (measured). */
 cuecheck_reply cuecheck_check(const uint8_t *text, size_t text_len,
                               uint64_t *states, size_t states_len,
                               cuecheck_node *nodes, size_t nodes_len,
@@ -79,7 +79,7 @@ cuecheck_reply cuecheck_replay(const uint8_t *text, size_t text_len,
 /* Judges a case and, accepted, puts it out with each method's constraints in order (O, B, b, F, f, W, w, then by their fields as numbers), lines
    that repeat another of the same method left out, and the method's count of them following; all else stays as it is. The text is never longer
    than the one that came, and output is zero after it. The lists as for cuecheck_check. Refused, output is zero too. An output that is too short
-   is the last thing refused: number 14, item the bytes needed. It has no least length. The call needs 279 KiB of stack (measured). */
+   is the last thing refused: number 14, item the bytes needed. It has no least length. The call needs 278 KiB of stack (measured). */
 cuecheck_written cuecheck_write(const uint8_t *text, size_t text_len,
                                 uint64_t *states, size_t states_len,
                                 cuecheck_node *nodes, size_t nodes_len,
@@ -91,7 +91,7 @@ cuecheck_written cuecheck_write(const uint8_t *text, size_t text_len,
    empty task are tried in dictionary order, gaps compared as numbers, the first task in the tree's order slowest, and the first choice is taken with
    which the text would be accepted; a text that its gaps would make longer than CUECHECK_TEXT is not. The lists as by the check of that text: each gap is
    the place of its node's record. If there is none: number 16, item the number of choices. Both have line 0, and the lists are zero. Numbers 10 to 14
-   are not answered. The call needs 378 KiB of stack (measured). */
+   are not answered. The call needs 377 KiB of stack (measured). */
 cuecheck_found cuecheck_find_gaps(const uint8_t *text, size_t text_len,
                                   uint64_t *states, size_t states_len,
                                   cuecheck_node *nodes, size_t nodes_len,
