@@ -58,14 +58,8 @@ pub fn fits(k: u32, positions: u32, x: Entry) -> bool
 }
 
 // An entry put into the bucket of its last position, if it fits and there is room.
-pub fn push(
-    pool: &mut [Entry; SLOTS],
-    counts: &mut [u32; POSITIONS],
-    k: u32,
-    positions: u32,
-    x: Entry,
-)
-    requires { (k ≤ 1000) × (positions ≤ 19) }
+pub fn push(pool: &mut [Entry; SLOTS], counts: &mut [u32], k: u32, positions: u32, x: Entry)
+    requires { (k ≤ 1000) × (positions ≤ 19) × (length counts.old ≡ 19) }
     ensures pool_fits { PoolFits k positions pool.old → PoolFits k positions pool.new }
     ensures pool_sound { (holds : Holds) (passing : List ℕ → Bool) → PoolSound holds passing k positions pool.old → (EntryFits k positions x → EntrySound holds passing k positions x) → PoolSound holds passing k positions pool.new }
 {
@@ -132,14 +126,15 @@ fn broken_in(
 // from then on. What is said where none is found is left open: the caller tries such a choice whole.
 pub fn test(
     pool: &[Entry; SLOTS],
-    counts: &[u32; POSITIONS],
-    order: &mut [u32; SLOTS],
+    counts: &[u32],
+    order: &mut [u32],
     from: usize,
     choice: &[u32],
     k: u32,
     columns: &mut StateColumns,
 ) -> Option<u32>
     requires k_bound { (k ≤ 1000) × (k < columns.old.held) × Within k choice.now × (length choice.now ≤ 19) × PoolFits k (length choice.now) pool.now }
+    requires counts_len { (length counts.now ≡ 19) × (length order.old ≡ 2432) }
     ensures says { Says (in_row columns.old.states) pool.now choice.now result }
     ensures same { columns.new ≡ columns.old }
 {

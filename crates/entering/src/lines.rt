@@ -9,7 +9,7 @@ ghost use Rattle.blames.specs.Entries.{EntryFits, EntrySound, PoolFits, PoolSoun
 ghost use Rattle.entering.specs.Lines.{InSums, entry_of, EntriesSound};
 
 use crate::sums::{Part, SUBTASKS, part_of_set};
-use blames::{Entry, POSITIONS, SLOTS};
+use blames::{Entry, SLOTS};
 use columns::StateColumns;
 use constraints::Line;
 use parts::is_either;
@@ -81,7 +81,7 @@ fn is_settled(x: Entry, choice: &[u32], k: u32, columns: &mut StateColumns) -> b
 // An entry put among the others, if it fits and is not settled already.
 fn enter(
     pool: &mut [Entry; SLOTS],
-    counts: &mut [u32; POSITIONS],
+    counts: &mut [u32],
     k: u32,
     choice: &[u32],
     x: Entry,
@@ -89,6 +89,7 @@ fn enter(
 )
     requires k_bound { (k ≤ 1000) × (k < columns.old.held) × Within k choice.now × (length choice.now ≤ 19) }
     requires pool_fits { PoolFits k (length choice.now) pool.old }
+    requires counts_len { length counts.old ≡ 19 }
     ensures same { columns.new ≡ columns.old }
     ensures fits { PoolFits k (length choice.now) pool.new }
     ensures sound { (holds : Holds) (passing : List ℕ → Bool) → (EntryFits k (length choice.now) x → EntrySound holds passing k (length choice.now) x) → PoolSound holds passing k (length choice.now) pool.old → PoolSound holds passing k (length choice.now) pool.new }
@@ -113,12 +114,13 @@ pub fn enter_lines(
     k: u32,
     choice: &[u32],
     pool: &mut [Entry; SLOTS],
-    counts: &mut [u32; POSITIONS],
+    counts: &mut [u32],
     columns: &mut StateColumns,
 )
     requires k_bound { (k ≤ 1000) × (k < columns.old.held) × Within k choice.now × (length choice.now ≤ 19) }
     requires constraints_here { (cs : List Constraint) × ConstraintsHere fields.now from count cs × Each InSums cs }
     requires pool_fits { PoolFits k (length choice.now) pool.old }
+    requires counts_len { length counts.old ≡ 19 }
     ensures same { columns.new ≡ columns.old }
     ensures fits { PoolFits k (length choice.now) pool.new }
     ensures sound { (holds : Holds) (passing : List ℕ → Bool) (cs : List Constraint) → ConstraintsHere fields.now from count cs → EntriesSound holds passing k (length choice.now) own sums.now cs → PoolSound holds passing k (length choice.now) pool.old → PoolSound holds passing k (length choice.now) pool.new }

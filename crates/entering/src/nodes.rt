@@ -11,7 +11,7 @@ ghost use Rattle.entering.specs.Visits.{Visiting};
 
 use crate::lines::enter_lines;
 use crate::sums::{ABSENT, SUBTASKS, sum_trees};
-use blames::{Entry, POSITIONS, SLOTS};
+use blames::{Entry, SLOTS};
 use columns::StateColumns;
 use fields::node_size;
 use rules::Header;
@@ -38,12 +38,13 @@ fn enter_node(
     choice: &[u32],
     work: &[u32],
     pool: &mut [Entry; SLOTS],
-    counts: &mut [u32; POSITIONS],
+    counts: &mut [u32],
     columns: &mut StateColumns,
 )
     requires visiting { (c : Case) × (t : Tree) × Visiting c t fields.now k (length choice.now) columns.old.states work.now x }
     requires within { (k < columns.old.held) × Within k choice.now × (length choice.now ≤ 19) }
     requires pool_fits { PoolFits k (length choice.now) pool.old }
+    requires counts_len { length counts.old ≡ 19 }
     ensures same { columns.new ≡ columns.old }
     ensures fits { PoolFits k (length choice.now) pool.new }
     ensures sound { (c : Case) (t : Tree) → Visiting c t fields.now k (length choice.now) columns.old.states work.now x → (passing : List ℕ → Bool) → BreaksFail c t passing → PoolSound (in_row columns.old.states) passing k (length choice.now) pool.old → PoolSound (in_row columns.old.states) passing k (length choice.now) pool.new }
@@ -95,12 +96,13 @@ pub fn enter_all(
     work: &[u32],
     choice: &[u32],
     pool: &mut [Entry; SLOTS],
-    counts: &mut [u32; POSITIONS],
+    counts: &mut [u32],
     columns: &mut StateColumns,
 )
     requires ready { (k : Case) × (t : Tree) × Ready k t fields.now header plan_line nodes columns.old.states work.now × (empty_count k.nodes ≡ length choice.now) }
     requires within { (header.cues < columns.old.held) × Within header.cues choice.now × (length choice.now ≤ 19) }
     requires pool_fits { PoolFits header.cues (length choice.now) pool.old }
+    requires counts_len { length counts.old ≡ 19 }
     ensures same { columns.new ≡ columns.old }
     ensures fits { PoolFits header.cues (length choice.now) pool.new }
     ensures sound { (k : Case) (t : Tree) → Ready k t fields.now header plan_line nodes columns.old.states work.now → empty_count k.nodes ≡ length choice.now → (passing : List ℕ → Bool) → BreaksFail k t passing → PoolSound (in_row columns.old.states) passing header.cues (length choice.now) pool.old → PoolSound (in_row columns.old.states) passing header.cues (length choice.now) pool.new }

@@ -9,7 +9,7 @@ ghost use Rattle.choices.specs.Reasons.{Reason, Known};
 ghost use Rattle.blames.specs.Entries.{PoolFits, PoolSound};
 ghost use Rattle.seeking.specs.Seeking.{LongFails, LongSays, Skipped, Nearer, Sought};
 
-use blames::{Entry, POSITIONS, SLOTS};
+use blames::{Entry, SLOTS};
 use columns::StateColumns;
 
 // The next choice that does not fail for a reason that is known, with the reasons known of it: how many of its first positions may have
@@ -55,14 +55,15 @@ pub fn seek(
     choice: &mut [u32],
     why: &mut [u32],
     pool: &[Entry; SLOTS],
-    counts: &[u32; POSITIONS],
-    order: &mut [u32; SLOTS],
+    counts: &[u32],
+    order: &mut [u32],
     k: u32,
     spare: u32,
     columns: &mut StateColumns,
 ) -> bool
     requires k_bound { (k ≤ 1000) × (k < columns.old.held) × Within k choice.old × (length choice.old ≤ 19) × (length why.old ≡ length choice.old) }
     requires pool_fits { PoolFits k (length choice.old) pool.now }
+    requires counts_len { (length counts.now ≡ 19) × (length order.old ≡ 2432) }
     ensures within { result ≡ true → Within k choice.new }
     ensures sought { (passing : List ℕ → Bool) → PoolSound (in_row columns.old.states) passing k (length choice.old) pool.now → LongFails passing k (length choice.old) spare → Known passing k why.old choice.old → Sought passing k choice.old result choice.new why.new }
 {

@@ -42,4 +42,5 @@ loop-set-preserved c =
       moved holds a.k a.spare a.pool.now a.choice.now a.why.now d c.loop-set.why c.loop-set.invariant.0 c.match-test.set because c.skip.result
           c.skip.new.choice c.skip.new.why c.in-Some-skip.is c.skip.ensures.nearer c.skip.auto.why c.skip.ensures.skips,
       c.test.ensures.same ∙ c.loop-set.invariant.1,
+      c.test.auto.order ∙ c.loop-set.invariant.2,
     )

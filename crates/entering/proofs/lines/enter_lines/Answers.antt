@@ -37,4 +37,5 @@ loop-number-preserved c =
           let its : EntryFits k e c.entry_of-x.result → EntrySound holds passing k e c.entry_of-x.result =
           subst (λ (y : Entry). EntryFits k e y → EntrySound holds passing k e y) (sym c.entry_of-x.ensures) (all c.line_at-d.result among) in
           c.enter.ensures.sound holds passing its (l.3 holds passing cs h all sound),
+      c.enter.auto.counts ∙ l.4,
     )

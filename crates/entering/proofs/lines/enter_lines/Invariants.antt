@@ -1,4 +1,5 @@
--- `enter_lines`: the constraints that are left stand at a place, and the entries of the others are sound (Entered). Assumes nothing.
+-- `enter_lines`: the constraints that are left stand at a place, and the entries of the others are sound (Entered);
+-- the counts are as many. Assumes nothing.
 use Prim.Native.Nat.{ℕ}
 use Rattle.blames.specs.Entries.{PoolFits, PoolSound}
 use Rattle.constraints.specs.Methods.{ConstraintsHere}
@@ -19,3 +20,4 @@ invariant-loop-number l =
     × ((cs : List Constraint) → ConstraintsHere l.fields l.from l.count cs → Entered l.fields l.at l.count l.number cs)
     × ((holds : Holds) (passing : List ℕ → Bool) (cs : List Constraint) → ConstraintsHere l.fields l.from l.count cs → EntriesSound holds passing l.k (length l.choice) l.own l.sums cs
     → PoolSound holds passing l.k (length l.choice) l.initial.pool → PoolSound holds passing l.k (length l.choice) l.pool)
+    × (length l.counts ≡ length l.initial.counts)

@@ -86,4 +86,5 @@ loop-n-preserved c =
       λ k u r z passing breaks all.
           (rw l.invariant.0 at e.ensures.sound) k u (visited r l.n l.at l.first _ more (l.invariant.2 k.nodes (nodes_stand r)) z) passing breaks
           (l.invariant.3 k u r z passing breaks all),
+      e.auto.counts ∙ l.invariant.4,
     )

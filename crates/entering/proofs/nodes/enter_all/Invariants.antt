@@ -1,5 +1,5 @@
 -- `enter_all`: the lines from this node's on stand at a place, so many empty tasks come before it, and the entries of the nodes before it are
--- sound (Visits). Assumes nothing.
+-- sound (Visits); the counts are as many. Assumes nothing.
 use Prim.Native.Nat.{ℕ}
 use Rattle.blames.specs.Entries.{PoolFits, PoolSound}
 use Rattle.constraints.specs.Ready.{Ready}
@@ -22,3 +22,4 @@ invariant-loop-n l =
     × Counted empty_count l.fields l.nodes l.header.nodes l.at l.n l.first
     × ((k : Case) (t : Tree) → Ready k t l.fields l.header l.plan_line l.nodes l.fn.columns.states l.work → empty_count k.nodes ≡ length l.choice → (passing : List ℕ → Bool)
     → BreaksFail k t passing → PoolSound (in_row l.fn.columns.states) passing l.header.cues (length l.choice) l.initial.pool → PoolSound (in_row l.fn.columns.states) passing l.header.cues (length l.choice) l.pool)
+    × (length l.counts ≡ length l.initial.counts)
