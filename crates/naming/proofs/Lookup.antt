@@ -61,6 +61,12 @@ module _ (text starts ends slots : List ℕ) (names : List (List ℕ)) (listed :
       subst (Kept (same_name text starts ends) hash_name slots) (sym all) listed.kept,
     )
 
+    -- All that it asks, where the slots have their length.
+    pub find_ready_all : (other : List ℕ) (from to : ℕ) → length slots ≡ 4096 → from ≤ to → to ≤ length other
+        → (length slots ≡ 4096) × (count ≤ length starts) × Placed text starts ends × (from ≤ to) × (to ≤ length other)
+        × Kept (same_name text starts ends) hash_name slots count
+    find_ready_all other from to size order inside = let f = find_ready other from to order inside in (size, f.0, f.1, f.2, f.3, f.4)
+
     -- What it answers.
     pub find_listed : (name : List ℕ) (r : Option ℕ) → r ≡ first (same_name text starts ends name) count → r ≡ as_found (listed_at names name)
     find_listed name r e = e ∙ (ap (first (same_name text starts ends name)) all ∙ listed_first name)
