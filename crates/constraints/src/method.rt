@@ -9,11 +9,11 @@ ghost use Rattle.index.specs.Spans.{span_of};
 ghost use Rattle.fields.specs.Standing.{Stands};
 ghost use Rattle.tree.specs.Layout.{subtasks_past};
 ghost use Rattle.rows.specs.Rows.{in_row};
+ghost use Rattle.columns.specs.Columns.{Columns};
 ghost use Rattle.parts.specs.Spans.{spans_in};
 ghost use Rattle.parts.specs.Tests.{Tested};
 ghost use Rattle.constraints.specs.Methods.{kept_as, ConstraintsHere, meant, Says};
 
-use columns::StateColumns;
 use index::Span;
 use parts::{is_either, keeps};
 use rules::Answer;
@@ -86,13 +86,24 @@ pub fn line_at(fields: &[u32], at: usize) -> Line
 }
 
 // Whether a task with this span keeps the constraint of a line.
-fn keeps_line(work: &[u32], columns: &mut StateColumns, own: Span, d: Line) -> bool
+fn keeps_line(
+    work: &[u32],
+    columns: &mut [u64],
+    built: &mut [u64],
+    states: &[u64],
+    held: usize,
+    own: Span,
+    d: Line,
+) -> bool
     requires subtasks_past_in_bounds { subtasks_past ≤ length work.now }
-    requires tested { Tested work.now columns.old.held (span_of own) (meant d) }
-    ensures value { result ≡ keeps (in_row columns.old.states) (span_of_part (span_of own) (spans_in work.now)) (meant d) }
-    ensures same { columns.new ≡ columns.old }
+    requires columns { Columns states.now held columns.old built.old }
+    requires tested { Tested work.now held (span_of own) (meant d) }
+    ensures value { result ≡ keeps (in_row states.now) (span_of_part (span_of own) (spans_in work.now)) (meant d) }
+    ensures columns_2 { Columns states.now held columns.new built.new }
 {
-    keeps(work, columns, own, d.letter, d.first, d.second, d.third)
+    keeps(
+        work, columns, built, states, held, own, d.letter, d.first, d.second, d.third,
+    )
 }
 
 // Whether all of so many constraints hold, or the answer for the first broken one, "each method's in text order", for a node with this line and span.
@@ -102,18 +113,22 @@ pub fn first_broken_of(
     count: u32,
     line: u32,
     own: Span,
+    held: usize,
+    states: &[u64],
     work: &[u32],
-    columns: &mut StateColumns,
+    columns: &mut [u64],
+    built: &mut [u64],
 ) -> Result<(), Answer>
     requires subtasks_past_in_bounds { subtasks_past ≤ length work.now }
-    requires constraints_here { (cs : List Constraint) × ConstraintsHere fields.now from count cs × Each (Tested work.now columns.old.held (span_of own)) cs }
-    ensures value { (cs : List Constraint) → ConstraintsHere fields.now from count cs → result ≡ kept_as (first_broken_of (in_row columns.old.states) (span_of_part (span_of own) (spans_in work.now)) line 0 cs) }
-    ensures same { columns.new ≡ columns.old }
+    requires columns { Columns states.now held columns.old built.old }
+    requires constraints_here { (cs : List Constraint) × ConstraintsHere fields.now from count cs × Each (Tested work.now held (span_of own)) cs }
+    ensures value { (cs : List Constraint) → ConstraintsHere fields.now from count cs → result ≡ kept_as (first_broken_of (in_row states.now) (span_of_part (span_of own) (spans_in work.now)) line 0 cs) }
+    ensures columns_2 { Columns states.now held columns.new built.new }
 {
     let mut at = from;
     for number in 0..count {
         let d = line_at(fields, at);
-        if !keeps_line(work, columns, own, d) {
+        if !keeps_line(work, columns, built, states, held, own, d) {
             return Err(broken(d.letter, line, number));
         }
         at = d.next;

@@ -3,12 +3,11 @@ ghost use Rattle.std.specs.Prelude.{◌≡◌, ◌+◌, ◌<◌, length, get_or}
 ghost use Rattle.rules.specs.Case.{Case};
 ghost use Rattle.rules.specs.Tree.{Tree};
 ghost use Rattle.fields.specs.Directory.{methods_from};
-ghost use Rattle.columns.specs.Columns.{Blank};
+ghost use Rattle.columns.specs.Columns.{Columns, Blank};
 ghost use Rattle.constraints.specs.Methods.{kept_as};
 ghost use Rattle.constraints.specs.Ready.{Ready, Leaves, names_method, NodeReady, broken_of_node, broken_of_tree};
 
 use crate::method::first_broken_of;
-use columns::StateColumns;
 use fields::{METHODS_FROM, node_size};
 use parts::{span_at, subtask_nodes};
 use rules::{Answer, Header};
@@ -44,17 +43,21 @@ pub fn method_place(directory: &[u32], method: u32) -> u32
     directory[at]
 }
 
-// The first broken constraint of a node. An empty task has constraints too, at its own span.
+// The first broken constraint of a node, of so many states. An empty task has constraints too, at its own span.
 fn node_kept(
     fields: &[u32],
     x: Named,
+    held: usize,
+    states: &[u64],
     work: &mut [u32],
-    columns: &mut StateColumns,
+    columns: &mut [u64],
+    built: &mut [u64],
 ) -> Result<(), Answer>
-    requires { (k : Case) × (t : Tree) × NodeReady k t fields.now columns.old.held columns.old.states work.old x.n x.letter x.label }
-    ensures value { (k : Case) (t : Tree) → NodeReady k t fields.now columns.old.held columns.old.states work.old x.n x.letter x.label → result ≡ kept_as (broken_of_node k t x.line x.n) }
+    requires node_ready { (k : Case) × (t : Tree) × NodeReady k t fields.now held states.now work.old x.n x.letter x.label }
+    requires columns { Columns states.now held columns.old built.old }
+    ensures value { (k : Case) (t : Tree) → NodeReady k t fields.now held states.now work.old x.n x.letter x.label → result ≡ kept_as (broken_of_node k t x.line x.n) }
     ensures leaves { Leaves work.old work.new }
-    ensures same { columns.new ≡ columns.old }
+    ensures columns_2 { Columns states.now held columns.new built.new }
 {
     if !names_method(x.letter) {
         return Ok(());
@@ -74,8 +77,11 @@ fn node_kept(
             count,
             x.line,
             span_at(work, x.n),
+            held,
+            states,
             work,
             columns,
+            built,
         );
     }
     subtask_nodes(work, x.n, subtasks);
@@ -85,8 +91,11 @@ fn node_kept(
         count,
         x.line,
         span_at(work, x.n),
+        held,
+        states,
         work,
         columns,
+        built,
     )
 }
 
@@ -107,7 +116,6 @@ pub fn first_broken(
     ensures leaves { Leaves work.old work.new }
 {
     let held = header.cues as usize + 1;
-    let mut columns = StateColumns::new(states, held, columns, built);
     let mut at = nodes;
     for n in 0..header.nodes {
         let letter = fields[at];
@@ -117,7 +125,7 @@ pub fn first_broken(
             letter,
             label: fields[at + 1],
         };
-        node_kept(fields, x, work, &mut columns)?;
+        node_kept(fields, x, held, states, work, columns, built)?;
         at += node_size(letter);
     }
     Ok(())

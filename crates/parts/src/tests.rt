@@ -6,13 +6,13 @@ ghost use Rattle.rules.specs.Index.{c, f, span_of_part};
 ghost use Rattle.rules.specs.Constraint.{holds_from, keeps};
 ghost use Rattle.index.specs.Spans.{span_of};
 ghost use Rattle.rows.specs.Rows.{in_row};
+ghost use Rattle.columns.specs.Columns.{Columns};
 ghost use Rattle.tree.specs.Layout.{subtasks_past};
 ghost use Rattle.parts.specs.Spans.{spans_in};
 ghost use Rattle.parts.specs.Tests.{Tested};
 ghost use Rattle.rules.specs.Case.{sign_of, is_either, constraint_of};
 
 use crate::spans::{span_of_set, subtask_span};
-use columns::StateColumns;
 use index::Span;
 use rules::Sign;
 
@@ -52,20 +52,33 @@ pub fn keeps_after(states: &[u64], sign: Sign, p: u32, u: Span) -> bool
     rows::holds_at(states, sign, p, u.f())
 }
 
-// "between(U, p, V): p is in each state l with f(U) ≤ l < c(V); no such l, then it holds."
-pub fn keeps_between(columns: &mut StateColumns, sign: Sign, p: u32, u: Span, v: Span) -> bool
-    requires { c (span_of v) ≤ columns.old.held }
-    ensures value { result ≡ holds_from (in_row columns.old.states) sign p (f (span_of u)) (c (span_of v)) }
-    ensures same { columns.new ≡ columns.old }
+// "between(U, p, V): p is in each state l with f(U) ≤ l < c(V); no such l, then it holds." Over the first n states, by their columns.
+pub fn keeps_between(
+    columns: &mut [u64],
+    built: &mut [u64],
+    states: &[u64],
+    n: usize,
+    sign: Sign,
+    p: u32,
+    u: Span,
+    v: Span,
+) -> bool
+    requires columns { Columns states.now n columns.old built.old }
+    requires v_bound { c (span_of v) ≤ n }
+    ensures value { result ≡ holds_from (in_row states.now) sign p (f (span_of u)) (c (span_of v)) }
+    ensures columns_2 { Columns states.now n columns.new built.new }
 {
-    columns.test(sign, p, u.f(), v.c())
+    columns::test(columns, built, states, n, sign, p, u.f(), v.c())
 }
 
 // Whether a task keeps the constraint of a line's letter and numbers: "O,i,j (i before j, i ≠ j, both subtask numbers); B,p,U (before);
 // F,p,U (after); W,U,p,V (between)"; "Lines b, f and w take the fields of B, F and W".
 pub fn keeps(
     work: &[u32],
-    columns: &mut StateColumns,
+    columns: &mut [u64],
+    built: &mut [u64],
+    states: &[u64],
+    n: usize,
     own: Span,
     letter: u8,
     first: u32,
@@ -73,31 +86,22 @@ pub fn keeps(
     third: u32,
 ) -> bool
     requires subtasks_past_in_bounds { subtasks_past ≤ length work.now }
-    requires tested { Tested work.now columns.old.held (span_of own) (constraint_of letter first second third) }
-    ensures value { result ≡ keeps (in_row columns.old.states) (span_of_part (span_of own) (spans_in work.now)) (constraint_of letter first second third) }
-    ensures same { columns.new ≡ columns.old }
+    requires columns { Columns states.now n columns.old built.old }
+    requires tested { Tested work.now n (span_of own) (constraint_of letter first second third) }
+    ensures value { result ≡ keeps (in_row states.now) (span_of_part (span_of own) (spans_in work.now)) (constraint_of letter first second third) }
+    ensures columns_2 { Columns states.now n columns.new built.new }
 {
     let sign = sign_of(letter);
     if is_either(letter, b'W') {
         let u = span_of_set(work, own, first);
         let v = span_of_set(work, own, third);
-        return keeps_between(columns, sign, second, u, v);
+        return keeps_between(columns, built, states, n, sign, second, u, v);
     }
     if is_either(letter, b'F') {
-        return keeps_after(
-            columns.states(),
-            sign,
-            first,
-            span_of_set(work, own, second),
-        );
+        return keeps_after(states, sign, first, span_of_set(work, own, second));
     }
     if is_either(letter, b'B') {
-        return keeps_before(
-            columns.states(),
-            sign,
-            first,
-            span_of_set(work, own, second),
-        );
+        return keeps_before(states, sign, first, span_of_set(work, own, second));
     }
     subtask_span(work, first).is_before(subtask_span(work, second))
 }

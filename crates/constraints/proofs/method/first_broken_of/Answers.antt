@@ -16,22 +16,24 @@ keeps_line-requires-clause-tested c =
     let r = c.requires.constraints_here in
     let p = c.loop-number.invariant.1 r.0 r.1 in
     let x = due p c.loop-number-test.true in
-    rw c.loop-number.invariant.0 (tested_here p x (c.line_at-d.ensures x.this x.later x.stands) r.2)
+    tested_here p x (c.line_at-d.ensures x.this x.later x.stands) r.2
 
 pub returns-then-not-keeps_line-clause-value : goal.returns-then-not-keeps_line-clause-value
 returns-then-not-keeps_line-clause-value c = λ cs h.
     let p = c.loop-number.invariant.1 cs h in
     let x = due p c.loop-number-test.true in
     let d = c.line_at-d.result in
-    testing_breaks p x (c.line_at-d.ensures x.this x.later x.stands) (rw c.loop-number.invariant.0 at c.keeps_line.ensures.value) c.if-not-keeps_line.true
+    testing_breaks p x (c.line_at-d.ensures x.this x.later x.stands) c.keeps_line.ensures.value c.if-not-keeps_line.true
     (c.broken.ensures d.first d.second d.third)
 
 pub loop-number-preserved : goal.loop-number-preserved
 loop-number-preserved c =
     let k = c.keeps_line in (
-      k.ensures.same ∙ c.loop-number.invariant.0,
+      k.ensures.columns_2,
       λ cs h.
           let p = c.loop-number.invariant.1 cs h in
           let x = due p c.loop-number-test.true in
-          testing_goes_on p x (c.line_at-d.ensures x.this x.later x.stands) (rw c.loop-number.invariant.0 at k.ensures.value) c.if-not-keeps_line.false,
+          testing_goes_on p x (c.line_at-d.ensures x.this x.later x.stands) k.ensures.value c.if-not-keeps_line.false,
+      k.auto.columns ∙ c.loop-number.invariant.2,
+      k.auto.built ∙ c.loop-number.invariant.3,
     )
