@@ -3,10 +3,10 @@ ghost use Rattle.std.specs.Prelude.{◌≡◌, ◌≢◌, ◌+◌, ◌^◌, ◌<
 ghost use Rattle.rules.specs.Gaps.{Within};
 ghost use Rattle.index.specs.Spans.{span_of};
 ghost use Rattle.rows.specs.Rows.{in_row};
+ghost use Rattle.columns.specs.Columns.{Columns};
 ghost use Rattle.subsets.specs.Members.{members_of};
 ghost use Rattle.blames.specs.Entries.{lowest, highest, edges, entry_keeps, EntryFits};
 
-use columns::StateColumns;
 use index::{Doubled, Span};
 use parts::{is_either, keeps_after, keeps_before, keeps_between, sign_of};
 
@@ -75,10 +75,18 @@ fn span_of(x: Entry, choice: &[u32], k: u32) -> Span
 }
 
 // Whether the constraint of an entry holds with the gaps of a choice.
-pub fn keeps_entry(x: Entry, choice: &[u32], k: u32, columns: &mut StateColumns) -> bool
-    requires { (k ≤ 1000) × (k < columns.old.held) × Within k choice.now × (length choice.now ≤ 32) × (x.letter ≢ 0 → EntryFits k (length choice.now) x) }
-    ensures value { result ≡ entry_keeps (in_row columns.old.states) x choice.now }
-    ensures same { columns.new ≡ columns.old }
+pub fn keeps_entry(
+    x: Entry,
+    choice: &[u32],
+    k: u32,
+    states: &[u64],
+    columns: &mut [u64],
+    built: &mut [u64],
+) -> bool
+    requires k_bound { (k ≤ 1000) × Within k choice.now × (length choice.now ≤ 32) × (x.letter ≢ 0 → EntryFits k (length choice.now) x) }
+    requires columns { Columns states.now (k + 1) columns.old built.old }
+    ensures value { result ≡ entry_keeps (in_row states.now) x choice.now }
+    ensures columns_2 { Columns states.now (k + 1) columns.new built.new }
 {
     let letter = x.letter;
     if letter == 0 {
@@ -87,14 +95,15 @@ pub fn keeps_entry(x: Entry, choice: &[u32], k: u32, columns: &mut StateColumns)
     let p = x.p;
     let sign = sign_of(letter);
     let span = span_of(x, choice, k);
+    let held = k as usize + 1;
     if is_either(letter, b'W') {
-        return keeps_between(columns, sign, p, span, span);
+        return keeps_between(columns, built, states, held, sign, p, span, span);
     }
     if is_either(letter, b'F') {
-        return keeps_after(columns.states(), sign, p, span);
+        return keeps_after(states, sign, p, span);
     }
     if is_either(letter, b'B') {
-        return keeps_before(columns.states(), sign, p, span);
+        return keeps_before(states, sign, p, span);
     }
     span.is_before(span)
 }

@@ -3,11 +3,11 @@ ghost use Rattle.std.specs.Prelude.{◌≡◌, Bool, true, List, ℕ, ◌+◌, �
 ghost use Rattle.rules.specs.Constraint.{Holds};
 ghost use Rattle.rules.specs.Gaps.{Within};
 ghost use Rattle.rows.specs.Rows.{in_row};
+ghost use Rattle.columns.specs.Columns.{Columns};
 ghost use Rattle.blames.specs.Entries.{EntryFits, EntrySound, PoolFits, PoolSound};
 ghost use Rattle.blames.specs.Tests.{Broken, Says};
 
 use crate::entry::{Entry, keeps_entry};
-use columns::StateColumns;
 
 // How many positions have a bucket: with at least one cue more empty tasks make more than 1,000,000 choices.
 pub const POSITIONS: usize = 19;
@@ -100,18 +100,21 @@ fn broken_in(
     turns: &[u32],
     choice: &[u32],
     k: u32,
-    columns: &mut StateColumns,
+    states: &[u64],
+    columns: &mut [u64],
+    built: &mut [u64],
 ) -> Option<Hit>
-    requires k_bound { (k ≤ 1000) × (k < columns.old.held) × Within k choice.now × (length choice.now ≤ 32) × PoolFits k (length choice.now) pool.now }
+    requires k_bound { (k ≤ 1000) × Within k choice.now × (length choice.now ≤ 32) × PoolFits k (length choice.now) pool.now }
     requires count_in_bounds { (first + count ≤ length pool.now) × (count ≤ length turns.now) }
-    ensures broken { Broken (in_row columns.old.states) pool.now choice.now (length turns.now) result }
-    ensures same { columns.new ≡ columns.old }
+    requires columns { Columns states.now (k + 1) columns.old built.old }
+    ensures broken { Broken (in_row states.now) pool.now choice.now (length turns.now) result }
+    ensures columns_2 { Columns states.now (k + 1) columns.new built.new }
 {
     for i in 0..count {
         let place = turns[i] as usize;
         if place < count {
             let x = pool[first + place];
-            if !keeps_entry(x, choice, k, columns) {
+            if !keeps_entry(x, choice, k, states, columns, built) {
                 return Some(Hit {
                     slot: first + place,
                     turn: i,
@@ -131,18 +134,31 @@ pub fn test(
     from: usize,
     choice: &[u32],
     k: u32,
-    columns: &mut StateColumns,
+    states: &[u64],
+    columns: &mut [u64],
+    built: &mut [u64],
 ) -> Option<u32>
-    requires k_bound { (k ≤ 1000) × (k < columns.old.held) × Within k choice.now × (length choice.now ≤ 19) × PoolFits k (length choice.now) pool.now }
+    requires k_bound { (k ≤ 1000) × Within k choice.now × (length choice.now ≤ 19) × PoolFits k (length choice.now) pool.now }
     requires counts_len { (length counts.now ≡ 19) × (length order.old ≡ 2432) }
-    ensures says { Says (in_row columns.old.states) pool.now choice.now result }
-    ensures same { columns.new ≡ columns.old }
+    requires columns { Columns states.now (k + 1) columns.old built.old }
+    ensures says { Says (in_row states.now) pool.now choice.now result }
+    ensures columns_2 { Columns states.now (k + 1) columns.new built.new }
 {
     for s in from..choice.len() {
         let first = s * BUCKET;
         let past = first + BUCKET;
         let count = (counts[s] as usize).min(BUCKET);
-        let hit = broken_in(pool, first, count, &order[first..past], choice, k, columns);
+        let hit = broken_in(
+            pool,
+            first,
+            count,
+            &order[first..past],
+            choice,
+            k,
+            states,
+            columns,
+            built,
+        );
         if let Some(hit) = hit {
             to_front(&mut order[first..past], hit.turn);
             let x = pool[hit.slot];

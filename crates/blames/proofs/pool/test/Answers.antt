@@ -10,6 +10,6 @@ returns-in-Some-clause-says c =
     record {
       slot = c.in-Some.hit.slot;
       inside = t.0;
-      broken = rw c.loop-s.invariant.0 at t.2;
+      broken = t.2;
       positions = refl;
     }
