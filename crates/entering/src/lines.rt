@@ -1,16 +1,16 @@
 // The constraints of one node as entries, from the parts of its task and its subtasks.
-ghost use Rattle.std.specs.Prelude.{◌≡◌, Bool, List, ℕ, ◌<◌, ◌≤◌, length};
+ghost use Rattle.std.specs.Prelude.{◌≡◌, Bool, List, ℕ, ◌+◌, ◌≤◌, length};
 ghost use Rattle.rules.specs.Case.{Constraint};
 ghost use Rattle.rules.specs.Constraint.{Holds};
 ghost use Rattle.rules.specs.Refusals.{Each};
 ghost use Rattle.rules.specs.Gaps.{Within};
+ghost use Rattle.columns.specs.Columns.{Columns};
 ghost use Rattle.constraints.specs.Methods.{ConstraintsHere, meant};
 ghost use Rattle.blames.specs.Entries.{EntryFits, EntrySound, PoolFits, PoolSound};
 ghost use Rattle.entering.specs.Lines.{InSums, entry_of, EntriesSound};
 
 use crate::sums::{Part, SUBTASKS, part_of_set};
 use blames::{Entry, SLOTS};
-use columns::StateColumns;
 use constraints::Line;
 use parts::is_either;
 
@@ -68,12 +68,20 @@ fn entry_of(d: Line, own: Part, sums: &[Part; SUBTASKS]) -> Entry
 }
 
 // Whether no empty task touches an entry, and it holds: then it holds with every choice.
-fn is_settled(x: Entry, choice: &[u32], k: u32, columns: &mut StateColumns) -> bool
-    requires { (k ≤ 1000) × (k < columns.old.held) × Within k choice.now × (length choice.now ≤ 19) × EntryFits k (length choice.now) x }
-    ensures { columns.new ≡ columns.old }
+fn is_settled(
+    x: Entry,
+    choice: &[u32],
+    k: u32,
+    states: &[u64],
+    columns: &mut [u64],
+    built: &mut [u64],
+) -> bool
+    requires k_bound { (k ≤ 1000) × Within k choice.now × (length choice.now ≤ 19) × EntryFits k (length choice.now) x }
+    requires columns { Columns states.now (k + 1) columns.old built.old }
+    ensures { Columns states.now (k + 1) columns.new built.new }
 {
     if x.ends | x.starts == 0 {
-        return blames::keeps_entry(x, choice, k, columns);
+        return blames::keeps_entry(x, choice, k, states, columns, built);
     }
     false
 }
@@ -85,12 +93,15 @@ fn enter(
     k: u32,
     choice: &[u32],
     x: Entry,
-    columns: &mut StateColumns,
+    states: &[u64],
+    columns: &mut [u64],
+    built: &mut [u64],
 )
-    requires k_bound { (k ≤ 1000) × (k < columns.old.held) × Within k choice.now × (length choice.now ≤ 19) }
+    requires k_bound { (k ≤ 1000) × Within k choice.now × (length choice.now ≤ 19) }
+    requires columns_2 { Columns states.now (k + 1) columns.old built.old }
     requires pool_fits { PoolFits k (length choice.now) pool.old }
     requires counts_len { length counts.old ≡ 19 }
-    ensures same { columns.new ≡ columns.old }
+    ensures columns { Columns states.now (k + 1) columns.new built.new }
     ensures fits { PoolFits k (length choice.now) pool.new }
     ensures sound { (holds : Holds) (passing : List ℕ → Bool) → (EntryFits k (length choice.now) x → EntrySound holds passing k (length choice.now) x) → PoolSound holds passing k (length choice.now) pool.old → PoolSound holds passing k (length choice.now) pool.new }
 {
@@ -98,7 +109,7 @@ fn enter(
     if !blames::fits(k, positions, x) {
         return;
     }
-    if is_settled(x, choice, k, columns) {
+    if is_settled(x, choice, k, states, columns, built) {
         return;
     }
     blames::push(pool, counts, k, positions, x);
@@ -115,13 +126,16 @@ pub fn enter_lines(
     choice: &[u32],
     pool: &mut [Entry; SLOTS],
     counts: &mut [u32],
-    columns: &mut StateColumns,
+    states: &[u64],
+    columns: &mut [u64],
+    built: &mut [u64],
 )
-    requires k_bound { (k ≤ 1000) × (k < columns.old.held) × Within k choice.now × (length choice.now ≤ 19) }
+    requires k_bound { (k ≤ 1000) × Within k choice.now × (length choice.now ≤ 19) }
     requires constraints_here { (cs : List Constraint) × ConstraintsHere fields.now from count cs × Each InSums cs }
+    requires columns_2 { Columns states.now (k + 1) columns.old built.old }
     requires pool_fits { PoolFits k (length choice.now) pool.old }
     requires counts_len { length counts.old ≡ 19 }
-    ensures same { columns.new ≡ columns.old }
+    ensures columns { Columns states.now (k + 1) columns.new built.new }
     ensures fits { PoolFits k (length choice.now) pool.new }
     ensures sound { (holds : Holds) (passing : List ℕ → Bool) (cs : List Constraint) → ConstraintsHere fields.now from count cs → EntriesSound holds passing k (length choice.now) own sums.now cs → PoolSound holds passing k (length choice.now) pool.old → PoolSound holds passing k (length choice.now) pool.new }
 {
@@ -129,7 +143,7 @@ pub fn enter_lines(
     for number in 0..count {
         let d = constraints::line_at(fields, at);
         let x = entry_of(d, own, sums);
-        enter(pool, counts, k, choice, x, columns);
+        enter(pool, counts, k, choice, x, states, columns, built);
         at = d.next;
     }
 }

@@ -1,9 +1,10 @@
 // The constraints of the claimed tree's nodes as entries, node by node.
-ghost use Rattle.std.specs.Prelude.{◌≡◌, Bool, List, ℕ, ◌<◌, ◌≤◌, length};
+ghost use Rattle.std.specs.Prelude.{◌≡◌, Bool, List, ℕ, ◌+◌, ◌≤◌, length};
 ghost use Rattle.rules.specs.Case.{Case};
 ghost use Rattle.rules.specs.Tree.{Tree};
 ghost use Rattle.rules.specs.Gaps.{empty_count, Within};
 ghost use Rattle.rows.specs.Rows.{in_row};
+ghost use Rattle.columns.specs.Columns.{Columns};
 ghost use Rattle.constraints.specs.Ready.{Ready};
 ghost use Rattle.blames.specs.Entries.{PoolFits, PoolSound};
 ghost use Rattle.entering.specs.Entering.{BreaksFail};
@@ -12,7 +13,6 @@ ghost use Rattle.entering.specs.Visits.{Visiting};
 use crate::lines::enter_lines;
 use crate::sums::{ABSENT, SUBTASKS, sum_trees};
 use blames::{Entry, SLOTS};
-use columns::StateColumns;
 use fields::node_size;
 use rules::Header;
 
@@ -39,15 +39,18 @@ fn enter_node(
     work: &[u32],
     pool: &mut [Entry; SLOTS],
     counts: &mut [u32],
-    columns: &mut StateColumns,
+    states: &[u64],
+    columns: &mut [u64],
+    built: &mut [u64],
 )
-    requires visiting { (c : Case) × (t : Tree) × Visiting c t fields.now k (length choice.now) columns.old.states work.now x }
-    requires within { (k < columns.old.held) × Within k choice.now × (length choice.now ≤ 19) }
+    requires visiting { (c : Case) × (t : Tree) × Visiting c t fields.now k (length choice.now) states.now work.now x }
+    requires within { Within k choice.now × (length choice.now ≤ 19) }
+    requires columns_2 { Columns states.now (k + 1) columns.old built.old }
     requires pool_fits { PoolFits k (length choice.now) pool.old }
     requires counts_len { length counts.old ≡ 19 }
-    ensures same { columns.new ≡ columns.old }
+    ensures columns { Columns states.now (k + 1) columns.new built.new }
     ensures fits { PoolFits k (length choice.now) pool.new }
-    ensures sound { (c : Case) (t : Tree) → Visiting c t fields.now k (length choice.now) columns.old.states work.now x → (passing : List ℕ → Bool) → BreaksFail c t passing → PoolSound (in_row columns.old.states) passing k (length choice.now) pool.old → PoolSound (in_row columns.old.states) passing k (length choice.now) pool.new }
+    ensures sound { (c : Case) (t : Tree) → Visiting c t fields.now k (length choice.now) states.now work.now x → (passing : List ℕ → Bool) → BreaksFail c t passing → PoolSound (in_row states.now) passing k (length choice.now) pool.old → PoolSound (in_row states.now) passing k (length choice.now) pool.new }
 {
     if !constraints::names_method(x.letter) {
         return;
@@ -83,7 +86,9 @@ fn enter_node(
         choice,
         pool,
         counts,
+        states,
         columns,
+        built,
     );
 }
 
@@ -93,19 +98,22 @@ pub fn enter_all(
     header: Header,
     plan_line: u32,
     nodes: usize,
+    states: &[u64],
     work: &[u32],
     choice: &[u32],
     pool: &mut [Entry; SLOTS],
     counts: &mut [u32],
-    columns: &mut StateColumns,
+    columns: &mut [u64],
+    built: &mut [u64],
 )
-    requires ready { (k : Case) × (t : Tree) × Ready k t fields.now header plan_line nodes columns.old.states work.now × (empty_count k.nodes ≡ length choice.now) }
-    requires within { (header.cues < columns.old.held) × Within header.cues choice.now × (length choice.now ≤ 19) }
+    requires ready { (k : Case) × (t : Tree) × Ready k t fields.now header plan_line nodes states.now work.now × (empty_count k.nodes ≡ length choice.now) }
+    requires within { Within header.cues choice.now × (length choice.now ≤ 19) }
+    requires columns_2 { Columns states.now (header.cues + 1) columns.old built.old }
     requires pool_fits { PoolFits header.cues (length choice.now) pool.old }
     requires counts_len { length counts.old ≡ 19 }
-    ensures same { columns.new ≡ columns.old }
+    ensures columns { Columns states.now (header.cues + 1) columns.new built.new }
     ensures fits { PoolFits header.cues (length choice.now) pool.new }
-    ensures sound { (k : Case) (t : Tree) → Ready k t fields.now header plan_line nodes columns.old.states work.now → empty_count k.nodes ≡ length choice.now → (passing : List ℕ → Bool) → BreaksFail k t passing → PoolSound (in_row columns.old.states) passing header.cues (length choice.now) pool.old → PoolSound (in_row columns.old.states) passing header.cues (length choice.now) pool.new }
+    ensures sound { (k : Case) (t : Tree) → Ready k t fields.now header plan_line nodes states.now work.now → empty_count k.nodes ≡ length choice.now → (passing : List ℕ → Bool) → BreaksFail k t passing → PoolSound (in_row states.now) passing header.cues (length choice.now) pool.old → PoolSound (in_row states.now) passing header.cues (length choice.now) pool.new }
 {
     let mut at = nodes;
     let mut first: u32 = 0;
@@ -118,7 +126,18 @@ pub fn enter_all(
             label: fields[at + 1],
             first,
         };
-        enter_node(fields, x, header.cues, choice, work, pool, counts, columns);
+        enter_node(
+            fields,
+            x,
+            header.cues,
+            choice,
+            work,
+            pool,
+            counts,
+            states,
+            columns,
+            built,
+        );
         if letter == EMPTY {
             first += 1;
         }

@@ -28,7 +28,7 @@ loop-number-preserved c =
     let e = length a.choice.now in
     let l = c.loop-number.invariant in
     let more = c.loop-number-test.true in (
-      c.enter.ensures.same ∙ l.0,
+      c.enter.ensures.columns,
       c.enter.ensures.fits,
       λ cs h. let x = due (l.2 cs h) more in entered_on (l.2 cs h) x (c.line_at-d.ensures x.this x.later x.stands),
       λ holds passing cs h all sound.
@@ -38,4 +38,6 @@ loop-number-preserved c =
           subst (λ (y : Entry). EntryFits k e y → EntrySound holds passing k e y) (sym c.entry_of-x.ensures) (all c.line_at-d.result among) in
           c.enter.ensures.sound holds passing its (l.3 holds passing cs h all sound),
       c.enter.auto.counts ∙ l.4,
+      c.enter.auto.columns ∙ l.5,
+      c.enter.auto.built ∙ l.6,
     )

@@ -60,13 +60,13 @@ pub enter_node-requires-clause-visiting : goal.enter_node-requires-clause-visiti
 enter_node-requires-clause-visiting c =
     let p = c.requires.ready in
     let l = c.loop-n in
-    (p.0, p.1, rw l.invariant.0 (visited p.2 l.n l.at l.first _ c.loop-n-test.true (l.invariant.2 p.0.nodes (nodes_stand p.2)) p.3))
+    (p.0, p.1, visited p.2 l.n l.at l.first _ c.loop-n-test.true (l.invariant.2 p.0.nodes (nodes_stand p.2)) p.3)
 
 pub overflow_add-first : goal.overflow_add-first
 overflow_add-first c =
     let p = c.requires.ready in
     let s = (c.loop-n.invariant.2 p.0.nodes (nodes_stand p.2)).same in
-    omega (arith, p.3, c.requires.within.2)
+    omega (arith, p.3, c.requires.within.1)
 
 pub loop-n-preserved : goal.loop-n-preserved
 loop-n-preserved c =
@@ -75,7 +75,7 @@ loop-n-preserved c =
     let l = c.loop-n in
     let e = c.enter_node in
     let more = c.loop-n-test.true in (
-      e.ensures.same ∙ l.invariant.0,
+      e.ensures.columns,
       e.ensures.fits,
       counting_on empty_count f a.nodes a.header.nodes l.at l.n l.first l.invariant.2 more c.if-letter-eq-EMPTY.first c.node_size-at.result
           c.node_size-at.ensures
@@ -84,7 +84,9 @@ loop-n-preserved c =
             | else-letter-eq-EMPTY w ↦ let own = due_others over_empties f l.at ns l.n d w.if-letter-eq-EMPTY.false in omega (arith, w.first-is)
           ]),
       λ k u r z passing breaks all.
-          (rw l.invariant.0 at e.ensures.sound) k u (visited r l.n l.at l.first _ more (l.invariant.2 k.nodes (nodes_stand r)) z) passing breaks
+          e.ensures.sound k u (visited r l.n l.at l.first _ more (l.invariant.2 k.nodes (nodes_stand r)) z) passing breaks
           (l.invariant.3 k u r z passing breaks all),
       e.auto.counts ∙ l.invariant.4,
+      e.auto.columns ∙ l.invariant.5,
+      e.auto.built ∙ l.invariant.6,
     )

@@ -37,7 +37,7 @@ sum_trees-requires-clause-cues_bound c = (few_cues c.requires.visiting.2, omega 
 pub sum_trees-requires-clause-trees_stand : goal.sum_trees-requires-clause-trees_stand
 sum_trees-requires-clause-trees_stand c =
     let p = c.requires.visiting in
-    (more (node_of_tree p.1 c.args.x.n) no_tree, whole_stands p.2 (omega (arith, c.requires.within.2)))
+    (more (node_of_tree p.1 c.args.x.n) no_tree, whole_stands p.2 (omega (arith, c.requires.within.1)))
 
 pub overflow_add-x : goal.overflow_add-x
 overflow_add-x c =
@@ -64,11 +64,11 @@ sum_trees-requires-2-clause-trees_stand c =
     let n = standing v.node (sym c.names_method.ensures ∙ c.if-not-names_method.false) in
     let h = method_found n c.method_place-place.result c.method_place-place.ensures in (
       subtrees_of (node_of_tree p.1 c.args.x.n),
-      parts_stand v (omega (arith, c.requires.within.2)) c.node_size.result _ c.node_size.ensures (h.subtasks ∙ sym n.node.count),
+      parts_stand v (omega (arith, c.requires.within.1)) c.node_size.result _ c.node_size.ensures (h.subtasks ∙ sym n.node.count),
     )
 
 pub enter_lines-requires-clause-k_bound : goal.enter_lines-requires-clause-k_bound
-enter_lines-requires-clause-k_bound c = (few_cues c.requires.visiting.2, c.requires.within.0, c.requires.within.1, c.requires.within.2)
+enter_lines-requires-clause-k_bound c = (few_cues c.requires.visiting.2, c.requires.within.0, c.requires.within.1)
 
 pub enter_lines-requires-clause-constraints_here : goal.enter_lines-requires-clause-constraints_here
 enter_lines-requires-clause-constraints_here c =
@@ -81,12 +81,12 @@ pub returns-clause-sound : goal.returns-clause-sound
 returns-clause-sound c = λ k t v passing breaks all.
     let x = c.args.x in
     let y = node_of_tree t x.n in
-    let few : length c.args.choice.now ≤ 32 = omega (arith, c.requires.within.2) in
+    let few : length c.args.choice.now ≤ 32 = omega (arith, c.requires.within.1) in
     let n = standing v.node (sym c.names_method.ensures ∙ c.if-not-names_method.false) in
     let h = method_found n c.method_place-place.result c.method_place-place.ensures in
     let own = (c.sum_trees.ensures (more y no_tree) (whole_stands v few)).0 in
     let parts =
     c.sum_trees-2.ensures (subtrees_of y)
     (parts_stand v few c.node_size.result _ c.node_size.ensures (h.subtasks ∙ sym n.node.count)) in
-    c.enter_lines.ensures.sound (in_row c.args.columns.now.states) passing (method_at k.methods x.label).constraints h.constraints
+    c.enter_lines.ensures.sound (in_row c.args.states.now) passing (method_at k.methods x.label).constraints h.constraints
     (entries_sound v n.node few _ _ own parts passing breaks) all
