@@ -13,14 +13,14 @@ ghost use Rattle.rules.proofs.Judgement.Rows.{from_text, from_tree};
 ghost use Rattle.rules.proofs.Gaps.Lengths.{surplus};
 ghost use Rattle.choices.specs.Reasons.{Known};
 ghost use Rattle.fields.specs.Directory.{Roomy};
-ghost use Rattle.columns.specs.Columns.{column_words};
+ghost use Rattle.columns.specs.Columns.{column_words, Blank};
 ghost use Rattle.output.specs.Output.{HasLines};
 ghost use Rattle.seeking.specs.Seeking.{Sought};
 ghost use Rattle.judge.specs.Phases.{Answers, Cleared, Claimed, Passes, from_claimed};
 ghost use Rattle.finder.specs.Finding.{checked_with, passing, from_choices, from_count, from_gaps, Finds, Tried, LimitedBy, Printable, BaseOf, SpareOf, digits_most, Spacious, TurnsOut};
 
 use blames::{POSITIONS, SILENT, SLOTS};
-use columns::{PER_WORD, StateColumns};
+use columns::PER_WORD;
 use fields::FIELDS;
 use judge::Opened;
 use rules::{Answer, NODES, TEXT};
@@ -171,13 +171,15 @@ fn seek_with(
     spare: u32,
     choice: &mut [u32],
     why: &mut [u32],
+    states: &[u64],
     work: &[u32],
-    columns: &mut StateColumns,
+    columns: &mut [u64],
+    built: &mut [u64],
 ) -> bool
-    requires claimed { (k : Case) × Claimed k fields.now o columns.old.states work.now × ChoiceOf k choice.old }
-    requires choice_len_bound { (length choice.old ≤ 19) × (length why.old ≡ length choice.old) × (o.header.cues < columns.old.held) }
+    requires claimed { (k : Case) × Claimed k fields.now o states.now work.now × ChoiceOf k choice.old }
+    requires choice_len_bound { (length choice.old ≤ 19) × (length why.old ≡ length choice.old) × Blank columns.old built.old }
     ensures within { result ≡ true → Within o.header.cues choice.new }
-    ensures sought { (k : Case) → Claimed k fields.now o columns.old.states work.now → ChoiceOf k choice.old → SpareOf k spare → Known (passing k) k.head.cues why.old choice.old → Sought (passing k) k.head.cues choice.old result choice.new why.new }
+    ensures sought { (k : Case) → Claimed k fields.now o states.now work.now → ChoiceOf k choice.old → SpareOf k spare → Known (passing k) k.head.cues why.old choice.old → Sought (passing k) k.head.cues choice.old result choice.new why.new }
 {
     let header = o.header;
     let line = o.plan_line;
@@ -191,11 +193,13 @@ fn seek_with(
         header,
         line,
         nodes,
+        states,
         work,
         choice,
         &mut pool,
         &mut counts,
         columns,
+        built,
     );
     seeking::seek(
         choice,
@@ -205,7 +209,9 @@ fn seek_with(
         &mut order,
         header.cues,
         spare,
+        states,
         columns,
+        built,
     )
 }
 
@@ -238,9 +244,17 @@ fn seek_within<const WORDS: usize, const COLUMNS: usize>(
 {
     let mut columns = [0u64; COLUMNS];
     let mut built = [0u64; WORDS];
-    let held = o.header.cues as usize + 1;
-    let mut columns = StateColumns::new(states, held, &mut columns, &mut built);
-    seek_with(fields, o, spare, choice, why, work, &mut columns)
+    seek_with(
+        fields,
+        o,
+        spare,
+        choice,
+        why,
+        states,
+        work,
+        &mut columns,
+        &mut built,
+    )
 }
 
 fn seek_on(

@@ -2,15 +2,15 @@
 // with all others that fail for the same reason.
 #![tactic(auto)]
 
-ghost use Rattle.std.specs.Prelude.{◌≡◌, Bool, true, List, ℕ, ◌<◌, ◌≤◌, length};
+ghost use Rattle.std.specs.Prelude.{◌≡◌, Bool, true, List, ℕ, ◌+◌, ◌≤◌, length};
 ghost use Rattle.rules.specs.Gaps.{Within};
 ghost use Rattle.rows.specs.Rows.{in_row};
+ghost use Rattle.columns.specs.Columns.{Columns};
 ghost use Rattle.choices.specs.Reasons.{Reason, Known};
 ghost use Rattle.blames.specs.Entries.{PoolFits, PoolSound};
 ghost use Rattle.seeking.specs.Seeking.{LongFails, LongSays, Skipped, Nearer, Sought};
 
 use blames::{Entry, SLOTS};
-use columns::StateColumns;
 
 // The next choice that does not fail for a reason that is known, with the reasons known of it: how many of its first positions may have
 // changed; none where no choice is left.
@@ -59,18 +59,21 @@ pub fn seek(
     order: &mut [u32],
     k: u32,
     spare: u32,
-    columns: &mut StateColumns,
+    states: &[u64],
+    columns: &mut [u64],
+    built: &mut [u64],
 ) -> bool
-    requires k_bound { (k ≤ 1000) × (k < columns.old.held) × Within k choice.old × (length choice.old ≤ 19) × (length why.old ≡ length choice.old) }
+    requires k_bound { (k ≤ 1000) × Within k choice.old × (length choice.old ≤ 19) × (length why.old ≡ length choice.old) }
     requires pool_fits { PoolFits k (length choice.old) pool.now }
     requires counts_len { (length counts.now ≡ 19) × (length order.old ≡ 2432) }
+    requires columns { Columns states.now (k + 1) columns.old built.old }
     ensures within { result ≡ true → Within k choice.new }
-    ensures sought { (passing : List ℕ → Bool) → PoolSound (in_row columns.old.states) passing k (length choice.old) pool.now → LongFails passing k (length choice.old) spare → Known passing k why.old choice.old → Sought passing k choice.old result choice.new why.new }
+    ensures sought { (passing : List ℕ → Bool) → PoolSound (in_row states.now) passing k (length choice.old) pool.now → LongFails passing k (length choice.old) spare → Known passing k why.old choice.old → Sought passing k choice.old result choice.new why.new }
 {
     let mut from: usize = 0;
     // A `loop`: each turn goes on from the position that the step to the next choice has changed.
     loop {
-        let set = match blames::test(pool, counts, order, from, choice, k, columns) {
+        let set = match blames::test(pool, counts, order, from, choice, k, states, columns, built) {
             Some(set) => set,
             None => match too_long(choice, k, spare) {
                 Some(set) => set,
