@@ -34,10 +34,11 @@ apart z = absurd (omega arith)
 -- ---- What the readers ask for
 
 -- New lists hold no names.
-pub zeros_blank : (n : ℕ) → n ≡ 2048 → Blank (replicate n 0) (replicate n 0)
-zeros_blank n e = record {
+pub zeros_blank : (n m : ℕ) → n ≡ 2048 → m ≡ 4096 → Blank (replicate n 0) (replicate n 0) (replicate m 0)
+zeros_blank n m e f = record {
   starts_length = length-replicate {A = ℕ} n 0 ∙ e;
   ends_length = length-replicate {A = ℕ} n 0 ∙ e;
+  slots_length = length-replicate {A = ℕ} m 0 ∙ f;
   starts_zero = zero_at n;
   ends_zero = zero_at n;
 }

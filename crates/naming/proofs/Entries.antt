@@ -105,8 +105,9 @@ module _ (text starts ends slots : List ℕ) (i n place : ℕ) where
     long : length starts' ≡ 2048
     long = length-set starts i from ∙ entered.starts_length
 
-    pub insert_ready : (i < 4096) × (i < length starts') × Placed text starts' ends' × Kept (same_name text starts' ends') hash_name slots i
+    pub insert_ready : (length slots ≡ 4096) × (i < 4096) × (i < length starts') × Placed text starts' ends' × Kept (same_name text starts' ends') hash_name slots i
     insert_ready = (
+      entered.slots_length,
       omega arith,
       omega (arith, long),
       placed',
@@ -137,15 +138,15 @@ module _ (text starts ends slots : List ℕ) (i n place : ℕ) where
         subst (λ (r : Read (List ℕ)). Left (NextName text starts ends i s e l) r (Err (WrongName n 1)))
         (sym (one_by text i (earlier_names text starts ends i) n place name true lists.name (among (Some x) h))) refl
 
-    pub name_left : None ≡ first (same_name text starts' ends' (name_at text starts' ends' i)) i → (l : List ℕ)
+    pub name_left : None ≡ first (same_name text starts' ends' (name_at text starts' ends' i)) i → (l : List ℕ) → length l ≡ length slots
         → Kept (same_name text starts' ends') hash_name l (suc i) → Left (NextName text starts ends i starts' ends' l) due (Ok (spot (n + 1) (to + 1)))
-    name_left h l kept =
+    name_left h l same kept =
         let next : to + 1 ≡ place + suc (length (line_of (drop place text))) = omega (arith, lists.ends) in
         subst (λ (r : Read (List ℕ)). Left (NextName text starts ends i starts' ends' l) r (Ok (spot (n + 1) (to + 1))))
         (sym (one_by text i (earlier_names text starts ends i) n place name false lists.name (among None h))) (
           ap (λ (p : ℕ). Ok (spot (n + 1) p)) next,
           record {
-            entered = record { placed = placed'; kept = kept; starts_length = long };
+            entered = record { placed = placed'; kept = kept; starts_length = long; slots_length = same ∙ entered.slots_length };
             names = ap₂ ◌∷◌ stored others;
           },
         )

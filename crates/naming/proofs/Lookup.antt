@@ -49,11 +49,12 @@ module _ (text starts ends slots : List ℕ) (names : List (List ℕ)) (listed :
       each e h = let z : 0 + e ≡ e = omega arith in ap (same_name text starts ends name) z ∙ ap (λ (l : List ℕ). same_bytes l name) (listed.each e h)
 
   module _ (count : ℕ) (all : count ≡ length names) where
-    -- What `names::find` asks beside the length of the slots, for the name other[from..to].
+    -- What `names::find` asks, for the name other[from..to].
     pub find_ready : (other : List ℕ) (from to : ℕ) → from ≤ to → to ≤ length other
-        → (count ≤ length starts) × Placed text starts ends × (from ≤ to) × (to ≤ length other)
+        → (length slots ≡ 4096) × (count ≤ length starts) × Placed text starts ends × (from ≤ to) × (to ≤ length other)
         × Kept (same_name text starts ends) hash_name slots count
     find_ready other from to order inside = (
+      listed.slots_length,
       omega (arith, listed.most, listed.starts_length),
       listed.placed,
       order,
@@ -61,11 +62,11 @@ module _ (text starts ends slots : List ℕ) (names : List (List ℕ)) (listed :
       subst (Kept (same_name text starts ends) hash_name slots) (sym all) listed.kept,
     )
 
-    -- All that it asks, where the slots have their length.
+    -- The same, for a caller that knows the slots' length by itself.
     pub find_ready_all : (other : List ℕ) (from to : ℕ) → length slots ≡ 4096 → from ≤ to → to ≤ length other
         → (length slots ≡ 4096) × (count ≤ length starts) × Placed text starts ends × (from ≤ to) × (to ≤ length other)
         × Kept (same_name text starts ends) hash_name slots count
-    find_ready_all other from to size order inside = let f = find_ready other from to order inside in (size, f.0, f.1, f.2, f.3, f.4)
+    find_ready_all other from to size order inside = find_ready other from to order inside
 
     -- What it answers.
     pub find_listed : (name : List ℕ) (r : Option ℕ) → r ≡ first (same_name text starts ends name) count → r ≡ as_found (listed_at names name)

@@ -74,9 +74,9 @@ module _ (text : List ℕ) (count : ℕ) (from : Spot) where
     pub same : name_lines text count 0 [] from.line from.at
         ≡ read_before (earlier_names text starts ends i) (name_lines text (count - i) i (earlier_names text starts ends i) at.line at.at)
 
-  pub begins : (starts ends cleared : List ℕ) → Blank starts ends → ((e : ℕ) → get_or cleared e 0 ≡ 0)
+  pub begins : (starts ends slots cleared : List ℕ) → Blank starts ends slots → length cleared ≡ length slots → ((e : ℕ) → get_or cleared e 0 ≡ 0)
       → Progress starts ends cleared from 0
-  begins starts ends cleared blank zeros =
+  begins starts ends slots cleared blank size zeros =
       record {
         most = omega arith;
         line = omega arith;
@@ -84,6 +84,7 @@ module _ (text : List ℕ) (count : ℕ) (from : Spot) where
           placed = zeros_placed text starts ends (blank.ends_length ∙ sym blank.starts_length) blank.starts_zero blank.ends_zero;
           kept = empty (same_name text starts ends) hash_name cleared zeros;
           starts_length = blank.starts_length;
+          slots_length = size ∙ blank.slots_length;
         };
         same = go (count - 0) (omega arith);
       }
@@ -100,13 +101,13 @@ module _ (text : List ℕ) (count : ℕ) (from : Spot) where
     abbrev those : List (List ℕ)
     those = earlier_names text starts ends i
 
-    -- The lists keep their lengths, the slots by what is asked of them.
-    pub sizes : (starts₀ ends₀ slots₀ : List ℕ) → Blank starts₀ ends₀ → length slots ≡ 4096 → length slots₀ ≡ 4096
+    -- The lists keep their lengths.
+    pub sizes : (starts₀ ends₀ slots₀ : List ℕ) → Blank starts₀ ends₀ slots₀
         → (length starts ≡ length starts₀) × (length ends ≡ length ends₀) × (length slots ≡ length slots₀)
-    sizes starts₀ ends₀ slots₀ blank size size₀ = (
+    sizes starts₀ ends₀ slots₀ blank = (
       p.entered.starts_length ∙ sym blank.starts_length,
       p.entered.placed.pairs ∙ (p.entered.starts_length ∙ sym blank.ends_length),
-      size ∙ sym size₀,
+      p.entered.slots_length ∙ sym blank.slots_length,
     )
 
     module _ (more : i < count) (g : code.Result Spot Answer) (starts' ends' slots' : List ℕ)
@@ -171,4 +172,5 @@ module _ (text : List ℕ) (count : ℕ) (from : Spot) where
           kept = subst (Kept (same_name text starts ends) hash_name slots) (sym size) p.entered.kept;
           most = omega (arith, size);
           starts_length = p.entered.starts_length;
+          slots_length = p.entered.slots_length;
         }

@@ -51,6 +51,7 @@ pub record Entered (text starts ends slots : List ℕ) (count : ℕ) : Type 0 wh
   pub placed : Placed text starts ends
   pub kept : Kept (same_name text starts ends) hash_name slots count
   pub starts_length : length starts ≡ 2048
+  pub slots_length : length slots ≡ 4096
 
 -- The line that lists number i after earlier names: 17, then 18.
 unfoldable pub one_name : List ℕ → ℕ → List (List ℕ) → ℕ → ℕ → Read (List ℕ)

@@ -9,10 +9,11 @@ use Rattle.rules.specs.Naming.{Names}
 use Rattle.probing.specs.Probing.{Kept}
 use Rattle.names.specs.Names.{name_at, same_name, Placed, hash_name}
 
--- Lists that hold no places of names yet. The slots beside them may hold anything.
-pub record Blank (starts ends : List ℕ) : Type 0 where
+-- Lists that hold no names yet. The slots may hold anything.
+pub record Blank (starts ends slots : List ℕ) : Type 0 where
   pub starts_length : length starts ≡ 2048
   pub ends_length : length ends ≡ 2048
+  pub slots_length : length slots ≡ 4096
   pub starts_zero : (e : ℕ) → get_or starts e 0 ≡ 0
   pub ends_zero : (e : ℕ) → get_or ends e 0 ≡ 0
 
@@ -23,6 +24,7 @@ pub record Listed (text starts ends slots : List ℕ) (names : List (List ℕ)) 
   pub kept : Kept (same_name text starts ends) hash_name slots (length names)
   pub most : length names ≤ 2048
   pub starts_length : length starts ≡ 2048
+  pub slots_length : length slots ≡ 4096
 
 -- The answer, and the names of the tasks and of the methods. Nothing is said of the lists that a refusal leaves.
 abbrev pub NamesLeft : List ℕ → read.Result Names → Result (Unit {0}) Answer → List ℕ → List ℕ → List ℕ → List ℕ → List ℕ → List ℕ → Type 0

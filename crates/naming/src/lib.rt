@@ -63,7 +63,6 @@ fn next_name(
 ) -> Result<Spot, Answer>
     requires by_index { (p : ℕ) → feed_follows text.now p ≡ ltb p past }
     requires line_bound { (at.line ≤ 4096) × (number < 2048) }
-    requires slots_length { length slots.old ≡ 4096 }
     requires entered { Entered text.now starts.old ends.old slots.old number }
     ensures { Left (NextName text.now starts.old ends.old number starts.new ends.new slots.new) (one_name text.now number (earlier_names text.now starts.old ends.old number) at.line at.at) result }
 {
@@ -94,8 +93,7 @@ fn lines_of(
 ) -> Result<Spot, Answer>
     requires by_index { (p : ℕ) → feed_follows text.now p ≡ ltb p past }
     requires line_bound { (from.line ≤ 2049) × (count ≤ 2048) }
-    requires slots_length { length slots.old ≡ 4096 }
-    requires blank { Blank starts.old ends.old }
+    requires blank { Blank starts.old ends.old slots.old }
     ensures { Left (Listed text.now starts.new ends.new slots.new) (name_lines text.now count 0 [] from.line from.at) result }
 {
     probing::clear(slots);
@@ -131,9 +129,8 @@ pub fn read_names(
     method_slots: &mut [u32],
 ) -> Result<(), Answer>
     requires compounds_bound { (header.actions + header.compounds ≤ 2048) × (header.methods ≤ 2048) }
-    requires slots_length { (length task_slots.old ≡ 4096) × (length method_slots.old ≡ 4096) }
-    requires blank { Blank task_starts.old task_ends.old }
-    requires blank_2 { Blank method_starts.old method_ends.old }
+    requires blank { Blank task_starts.old task_ends.old task_slots.old }
+    requires blank_2 { Blank method_starts.old method_ends.old method_slots.old }
     ensures left { NamesLeft text.now (read_names header text.now) result task_starts.new task_ends.new task_slots.new method_starts.new method_ends.new method_slots.new }
     ensures slots_length { (length task_slots.new ≡ 4096) × (length method_slots.new ≡ 4096) }
 {

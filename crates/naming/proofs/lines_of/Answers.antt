@@ -8,7 +8,7 @@ pub loop-i-init : goal.loop-i-init
 loop-i-init c =
     let a = c.args in
     let z = c.clear in
-    begins a.text.now a.count a.from a.starts.now a.ends.now _ c.requires.blank z.ensures
+    begins a.text.now a.count a.from a.starts.now a.ends.now a.slots.now _ c.requires.blank z.auto.slots z.ensures
 
 pub loop-i-preserved : goal.loop-i-preserved
 loop-i-preserved c =

@@ -10,8 +10,7 @@ returns-in_default c =
 pub insert-requires : goal.insert-requires
 insert-requires c =
     let a = c.args in
-    let r = insert_ready a.text.now a.starts.now a.ends.now a.slots.now a.number a.at.line a.at.at _ _ c.requires.entered c.requires.line_bound.1 c.in-Some.ensures in
-    (c.requires.slots_length, r.0, r.1, r.2, r.3)
+    insert_ready a.text.now a.starts.now a.ends.now a.slots.now a.number a.at.line a.at.at _ _ c.requires.entered c.requires.line_bound.1 c.in-Some.ensures
 
 pub returns-in-Some-insert : goal.returns-in-Some-insert
 returns-in-Some-insert c =
@@ -23,4 +22,4 @@ pub returns-in-None : goal.returns-in-None
 returns-in-None c =
     let a = c.args in
     name_left a.text.now a.starts.now a.ends.now a.slots.now a.number a.at.line a.at.at _ _ c.requires.entered c.requires.line_bound.1 c.in-Some.ensures
-    c.in-None.ensures.0 _ c.in-None.ensures.1
+    c.in-None.ensures.0 _ c.insert.auto.slots c.in-None.ensures.1

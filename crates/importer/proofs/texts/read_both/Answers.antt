@@ -7,10 +7,10 @@ pub read_names-requires-clause-compounds_bound : goal.read_names-requires-clause
 read_names-requires-clause-compounds_bound c = let (k, m) = c.requires.model_here in header_few m
 
 pub read_names-requires-clause-blank : goal.read_names-requires-clause-blank
-read_names-requires-clause-blank c = zeros_blank 2048 refl
+read_names-requires-clause-blank c = zeros_blank 2048 4096 refl refl
 
 pub read_names-requires-clause-blank_2 : goal.read_names-requires-clause-blank_2
-read_names-requires-clause-blank_2 c = zeros_blank 2048 refl
+read_names-requires-clause-blank_2 c = zeros_blank 2048 4096 refl refl
 
 pub read_form-requires-clause-modelled : goal.read_form-requires-clause-modelled
 read_form-requires-clause-modelled c =
