@@ -24,7 +24,7 @@ pub struct Table<'a> {
     pub text: &'a [u8],
     pub starts: &'a [usize],
     pub ends: &'a [usize],
-    pub slots: &'a [u32; names::SLOTS],
+    pub slots: &'a [u32],
 }
 
 // What a form is read by: of the case beside it the header, and the fields with their directory; and the names of its tasks and its methods.

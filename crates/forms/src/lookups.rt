@@ -1,6 +1,5 @@
 // What a name on a line of the form stands for: an action; a compound task with one of its methods. The model is the case's: its names by their
-// tables, its methods by its fields and their directory. The reference to a table's slots is taken out of it before it is lent as a list,
-// since the borrow checker asks it.
+// tables, its methods by its fields and their directory.
 ghost use Rattle.std.specs.Prelude.{◌≡◌, List, ℕ, ◌≤◌, ◌<◌, length};
 ghost use Rattle.rules.specs.Case.{Case, method_at};
 ghost use Rattle.rules.specs.Naming.{Names};
@@ -28,9 +27,8 @@ pub fn action_named(model: &Model, form: &[u8], from: usize, to: usize) -> Optio
     ensures by_index { (a : ℕ) → result ≡ Some a → a < model.now.header.actions }
 {
     let ts = model.tasks;
-    let slots = ts.slots;
     let tasks = (model.header.actions + model.header.compounds) as usize;
-    let t = names::find(ts.text, ts.starts, ts.ends, slots, tasks, form, from, to)?;
+    let t = names::find(ts.text, ts.starts, ts.ends, ts.slots, tasks, form, from, to)?;
     if t < model.header.actions as usize {
         return Some(t);
     }
@@ -52,9 +50,10 @@ fn method_named(
     ensures by_index { (m : ℕ) → result ≡ Some m → m < model.now.header.methods }
 {
     let ms = model.methods;
-    let slots = ms.slots;
     let methods = model.header.methods as usize;
-    let m = names::find(ms.text, ms.starts, ms.ends, slots, methods, form, from, to)?;
+    let m = names::find(
+        ms.text, ms.starts, ms.ends, ms.slots, methods, form, from, to,
+    )?;
     if suits(model, m, task, count) {
         return Some(m);
     }
@@ -77,9 +76,8 @@ pub fn both_named(
     ensures by_index { (m : ℕ) → result ≡ Some m → m < model.now.header.methods }
 {
     let ts = model.tasks;
-    let slots = ts.slots;
     let tasks = (model.header.actions + model.header.compounds) as usize;
-    let t = names::find(ts.text, ts.starts, ts.ends, slots, tasks, form, from, to)?;
+    let t = names::find(ts.text, ts.starts, ts.ends, ts.slots, tasks, form, from, to)?;
     if t < model.header.actions as usize {
         return None;
     }
