@@ -62,12 +62,6 @@ module _ (text starts ends slots : List ℕ) (names : List (List ℕ)) (listed :
       subst (Kept (same_name text starts ends) hash_name slots) (sym all) listed.kept,
     )
 
-    -- The same, for a caller that knows the slots' length by itself.
-    pub find_ready_all : (other : List ℕ) (from to : ℕ) → length slots ≡ 4096 → from ≤ to → to ≤ length other
-        → (length slots ≡ 4096) × (count ≤ length starts) × Placed text starts ends × (from ≤ to) × (to ≤ length other)
-        × Kept (same_name text starts ends) hash_name slots count
-    find_ready_all other from to size order inside = find_ready other from to order inside
-
     -- What it answers.
     pub find_listed : (name : List ℕ) (r : Option ℕ) → r ≡ first (same_name text starts ends name) count → r ≡ as_found (listed_at names name)
     find_listed name r e = e ∙ (ap (first (same_name text starts ends name)) all ∙ listed_first name)
