@@ -245,8 +245,9 @@ pub struct Lists<'a> {
     pub built: &'a mut [u64],
 }
 
-// The first states of a run, so many as are held, and the columns that are built of them: what the tests go by. The lists are lent, and stay as
-// they are but for the columns that a test builds. A test is a method, so that a caller carries one value, and no fact of it, from test to test.
+// The first states of a run, so many as are held, and the columns that are built of them, for a caller that would carry one value, and no fact
+// of it, from test to test. The lists are lent, and stay as they are but for the columns that a test builds. No other crate uses it: a caller
+// learns nothing of its own lists behind such a value, and what the tests promise they promise of lists.
 #[derive(Drop)]
 pub struct StateColumns<'a> {
     states: &'a [u64],
